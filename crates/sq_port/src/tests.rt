@@ -1,0 +1,76 @@
+// The calls over files and a sink in memory, and the orders.
+use crate::{
+    FileEnd, Files, FirstOrder, LastOrder, ListOrder, MemFiles, MemSink, Order, Picks, ReadEnd,
+    SeedOrder, Sink, put_all, put_next, read_whole,
+};
+use std::test::Fail;
+
+fn one_file(rt: &HostRuntime) -> Result<MemFiles, Fail> {
+    let mut files = MemFiles::new(rt.alloc());
+    files.add("P", b"other")?;
+    files.add("P", b"array")?;
+    Ok(files)
+}
+
+#[test]
+fn a_file_is_read_whole_up_to_its_limit(rt: HostRuntime) -> Result<(), Fail> {
+    let mut files = one_file(&rt)?;
+    match read_whole(rt.alloc(), &mut files, "P", 5) {
+        Ok(bytes) => assert_eq!(rt; bytes.as_slice(), b"array".as_slice()),
+        Err(_) => assert!(rt; false),
+    }
+    let too_long = read_whole(rt.alloc(), &mut files, "P", 4);
+    assert!(rt; matches!(too_long, Err(ReadEnd::TooLong)));
+    let absent = read_whole(rt.alloc(), &mut files, "none", 5);
+    assert!(rt; matches!(absent, Err(ReadEnd::Absent)));
+    Ok(())
+}
+
+#[test]
+fn just_the_named_read_fails(rt: HostRuntime) -> Result<(), Fail> {
+    let mut files = one_file(&rt)?;
+    files.fail_at(2);
+    let mut room = [0u8; 3];
+    assert_eq!(rt; files.read_at("P", 3, &mut room), Ok(2));
+    assert_eq!(rt; files.read_at("P", 0, &mut room), Err(FileEnd::Failed));
+    assert_eq!(rt; files.read_at("P", 0, &mut room), Ok(3));
+    assert_eq!(rt; room.as_slice(), b"arr".as_slice());
+    Ok(())
+}
+
+#[test]
+fn a_full_sink_keeps_the_front_of_a_piece(rt: HostRuntime) -> Result<(), Fail> {
+    let mut sink = MemSink::new(rt.alloc(), 5)?;
+    assert!(rt; put_all(&mut sink, b"arr").is_ok());
+    assert!(rt; put_all(&mut sink, b"ay B").is_err());
+    assert_eq!(rt; sink.written(), b"array".as_slice());
+    Ok(())
+}
+
+#[test]
+fn just_the_named_put_fails(rt: HostRuntime) -> Result<(), Fail> {
+    let mut sink = MemSink::new(rt.alloc(), 9)?;
+    sink.fail_at(2);
+    assert_eq!(rt; sink.put(b""), Ok(0));
+    let first = put_next(&mut sink, Ok(()), b"a");
+    let second = put_next(&mut sink, first, b"b");
+    let third = put_next(&mut sink, second, b"c");
+    assert!(rt; third.is_err());
+    assert!(rt; put_all(&mut sink, b"d").is_ok());
+    assert_eq!(rt; sink.written(), b"ad".as_slice());
+    Ok(())
+}
+
+#[test]
+fn the_orders_answer_as_they_say(rt: HostRuntime) -> Result<(), Fail> {
+    assert_eq!(rt; FirstOrder.pick(9), 0);
+    assert_eq!(rt; LastOrder.pick(9), 8);
+    let mut list = ListOrder::new(Picks::new(vec![in rt.alloc(); 7, 2]?));
+    assert_eq!(rt; list.pick(1), 7);
+    assert_eq!(rt; list.pick(1), 2);
+    assert_eq!(rt; list.pick(1), 0);
+    let mut one = SeedOrder::new(7);
+    let mut other = SeedOrder::new(7);
+    assert_eq!(rt; one.pick(5), other.pick(3));
+    Ok(())
+}
