@@ -1,0 +1,13 @@
+mod Written
+mod Alone
+mod Numerals
+mod ReadBack
+mod Bare
+mod Fronts
+mod Spelled
+mod Operands
+mod Lines
+mod LeafLines
+mod Tasks
+mod Canons
+mod Same
