@@ -1,0 +1,18 @@
+use Rattle.std.proofs.Common.{rules, arith, true, false}
+use Rattle.std.proofs.lemmas.Grind.{common_steps}
+use Rattle.sq_ast.specs.Symbols.{symbols}
+use Rattle.sq_parser.specs.Reading.{many_from, is_comma, after_comma, expr}
+use Rattle.sq_parser.proofs.Turns.{one_more}
+use Rattle.sq_parser.proofs.program.more_sizes.Goals as goal
+
+pub returns-in_err-next : goal.returns-in_err-next
+unfolding many_from
+returns-in_err-next c =
+    let e = one_more (λ n. many_from is_comma (after_comma (expr true c.args.depth)) n c.loop-turn.found (symbols c.loop-turn.tokens)) _ c.loop-turn._turn c.loop-turn-test.true c.loop-turn.invariant in
+    first_of (search rules, grind (arith, common_steps))
+
+pub loop-turn-preserved : goal.loop-turn-preserved
+unfolding many_from
+loop-turn-preserved c =
+    let e = one_more (λ n. many_from is_comma (after_comma (expr true c.args.depth)) n c.loop-turn.found (symbols c.loop-turn.tokens)) _ c.loop-turn._turn c.loop-turn-test.true c.loop-turn.invariant in
+    first_of (search rules, grind (arith, common_steps))

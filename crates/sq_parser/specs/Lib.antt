@@ -1,0 +1,6 @@
+pub mod Reading
+pub mod Programs
+pub mod Form
+pub mod Names
+pub mod Small
+pub mod Texts
