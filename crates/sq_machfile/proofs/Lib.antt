@@ -1,0 +1,15 @@
+pub mod Caps
+pub mod Complete
+pub mod Derived
+pub mod Firsts
+pub mod Fitting
+pub mod Follows
+pub mod Least
+pub mod Kept
+pub mod Limits
+pub mod Nodes
+pub mod Owing
+pub mod Places
+pub mod Ready
+pub mod Turns
+pub mod Whole

@@ -1,0 +1,6 @@
+pub mod Counting
+pub mod Faults
+pub mod Grammar
+pub mod Machines
+pub mod Reading
+pub mod Shapes
