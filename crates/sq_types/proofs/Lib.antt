@@ -1,0 +1,9 @@
+pub mod Opened
+pub mod OpenedStmt
+pub mod OpenedLeaf
+pub mod Joins
+pub mod JoinsStmt
+pub mod JoinsLeaf
+pub mod Scopes
+pub mod Judged
+pub mod First

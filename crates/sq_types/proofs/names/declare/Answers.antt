@@ -1,0 +1,15 @@
+use Rattle.std.proofs.Common.{◌≡◌, Option, None, is_some, ◌++◌, ◌∷◌, [], ap, sym, ◌∙◌, if◌then◌else◌, nat_eq}
+use Rattle.std.specs.Cmp.Lexicographic.{pointwise}
+use Rattle.indexmap.proofs.CallerLemmas.{insert_entry-new}
+use Rattle.indexmap.specs.IndexMap.{insert_entry}
+use Rattle.sq_types.specs.Known.{kind_of}
+use Rattle.sq_types.proofs.names.declare.Goals as goal
+
+pub returns-in_ok-insert-in-None : goal.returns-in_ok-insert-in-None
+returns-in_ok-insert-in-None c =
+    let es = c.args.names.now.entries in
+    let none : kind_of es c.args.name.now ≡ None = sym c.in-None.ensures in
+    c.in_ok-insert-in-None.ensures.entries
+    ∙ (ap (λ n. insert_entry (pointwise nat_eq) es n c.args.kind) c.in_ok-copy-in-None.ensures
+    ∙ (insert_entry-new (pointwise nat_eq) c.args.names.now c.args.name.now c.args.kind none
+    ∙ sym (ap (λ (o : Option _). if is_some o then es else es ++ (c.args.name.now, c.args.kind) ∷ []) none)))
