@@ -1,0 +1,74 @@
+-- The text of the arrays that are wanted of a file, from its first byte to its last.
+use Rattle.std.specs.Prelude.{◌≡◌, ℕ, ◌+◌, ◌*◌, ◌++◌, Bool, true, false, List, [], ◌∷◌, Option, Some, None, Result, Ok, Err, ℤ}
+use Rattle.std.specs.List.{flat_map}
+use Rattle.sq_num.specs.declared.Elem.{Elem}
+use Rattle.sq_num.specs.Elements.{width, cell}
+use Rattle.sq_arrays.specs.declared.end.InputEnd.{InputEnd}
+use Rattle.sq_arrays.specs.declared.end.InputEnd.TheVariants.{Refused, Failed, Absent}
+use Rattle.sq_text.specs.declared.place.Place.{Place}
+use Rattle.sq_rect.specs.Extents.{product}
+use Rattle.sq_arrays.specs.declared.end.InputCode.{InputCode}
+use Rattle.sq_arrays.specs.declared.want.Want.{Want}
+use Rattle.sq_arrays.specs.Heads.{elem_word, shape_text}
+use Rattle.sq_arrays.specs.ArrayText.{Fault, Rest, start_of, next_head, next_values, finished, ◌>>=◌}
+
+-- an array that is wanted
+pub record Wanted : Type 0 where
+  pub name : List ℕ
+  pub elem : Elem
+  pub extents : List ℕ
+
+abbrev pub wanted : Want → Wanted
+wanted w = record { name = w.name.now; elem = w.elem; extents = w.extents }
+
+-- its head, and what is behind it
+abbrev pub head_of : Bool → Wanted → Rest → Result (Unit {0} × Rest) Fault
+head_of first w r = next_head first w.name (elem_word w.elem) (shape_text w.extents) r
+
+-- its head and all its values
+abbrev pub array_of_text : Bool → Wanted → Rest → Result (List ℤ × Rest) Fault
+array_of_text first w r = head_of first w r >>= λ h. next_values (product w.extents) w.elem h.1
+
+-- a fault, and the name of the array that is wanted at its place: behind the last array the last one's, and none where none is wanted
+pub record DataFault : Type 0 where
+  pub code : InputCode
+  pub place : Place
+  pub name : Option (List ℕ)
+
+abbrev pub of_array : {A B : Type 0} → Option (List ℕ) → Result A Fault → (A → Result B DataFault) → Result B DataFault
+of_array name (Ok x) f = f x
+of_array name (Err e) f = Err (record { code = e.code; place = e.place; name = name })
+
+abbrev pub add_values : List ℤ → Result (List (List ℤ)) DataFault → Result (List (List ℤ)) DataFault
+add_values vs (Ok more) = Ok (vs ∷ more)
+add_values vs (Err f) = Err f
+
+-- the values of the arrays from here on, or the first fault
+abbrev pub arrays_from : Bool → Option (List ℕ) → List Wanted → Rest → Result (List (List ℤ)) DataFault
+arrays_from first last [] r = of_array last (finished r) (λ _. Ok [])
+arrays_from first last (w ∷ ws) r = of_array (Some w.name) (array_of_text first w r) (λ a. add_values a.0 (arrays_from false (Some w.name) ws a.1))
+
+-- the values of the arrays of a file, or its first fault
+unfoldable pub arrays_of : List Wanted → List ℕ → Result (List (List ℤ)) DataFault
+arrays_of ws bytes = arrays_from true None ws (start_of bytes)
+
+-- how many bytes store an array's values, and those of several
+abbrev pub size_of : Wanted → ℕ
+size_of w = product w.extents * width w.elem
+
+abbrev pub sizes_of : List Wanted → ℕ
+sizes_of [] = 0
+sizes_of (w ∷ ws) = size_of w + sizes_of ws
+
+-- the bytes that store the values of arrays, one array after the other
+abbrev pub cells_of : List Wanted → List (List ℤ) → List ℕ
+cells_of [] vss = []
+cells_of (w ∷ ws) [] = []
+cells_of (w ∷ ws) (vs ∷ vss) = flat_map (cell w.elem) vs ++ cells_of ws vss
+
+-- Ok: the values that the file gives stand in these bytes; Refused: its first fault is this one
+abbrev pub GivesArrays : List Wanted → List ℕ → Result (Unit {0}) InputEnd → Result (List (List ℤ)) DataFault → Type 0
+GivesArrays ws now (Ok x) read = (vss : List (List ℤ)) × (read ≡ Ok vss) × (now ≡ cells_of ws vss)
+GivesArrays ws now (Err (Refused code place)) read = (name : Option (List ℕ)) × (read ≡ Err (record { code = code; place = place; name = name }))
+GivesArrays ws now (Err Failed) read = Unit {0}
+GivesArrays ws now (Err Absent) read = Unit {0}

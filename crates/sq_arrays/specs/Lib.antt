@@ -1,0 +1,12 @@
+pub mod Words
+pub mod ArrayText
+pub mod Heads
+pub mod Arrays
+pub mod Written
+pub mod Window
+pub mod Steps
+pub mod Causes
+pub mod Numbers
+pub mod Same
+pub mod Cells
+pub mod Reader
