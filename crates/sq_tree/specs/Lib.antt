@@ -1,0 +1,4 @@
+pub mod Bank
+pub mod Bytes
+pub mod Raw
+pub mod Source
