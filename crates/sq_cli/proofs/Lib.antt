@@ -1,0 +1,15 @@
+pub mod Answering
+pub mod CheckEnds
+pub mod Elements
+pub mod Finishing
+pub mod FmtEnds
+pub mod OneAnswer
+pub mod Performed
+pub mod Piecing
+pub mod Planning
+pub mod Reading
+pub mod Rows
+pub mod Running
+pub mod TreeStops
+pub mod Trees
+pub mod Writing

@@ -1,0 +1,7 @@
+use Rattle.sq_port.proofs.Gained.{wrote_nothing}
+use Rattle.sq_cli.specs.Texts.{usage_line}
+use Rattle.sq_cli.proofs.end.put_usage_line.Goals as goal
+
+pub returns : goal.returns
+unfolding usage_line
+returns g c = c.put_next.ensures _ _ _ (wrote_nothing _ _)

@@ -1,0 +1,46 @@
+-- How a command stops, and what counts of faults allow that.
+use Rattle.std.specs.Prelude.{◌≡◌, ◌≢◌, ◌⊎◌, ℕ, ◌≤◌, List, [], Result, Ok, Err, codes}
+use Rattle.sq_port.specs.Ports.{Rose}
+use Rattle.sq_cli.specs.declared.status.Status.{Status}
+use Rattle.sq_cli.specs.declared.status.Status.TheVariants.{Done as DoneStatus, Refused as RefusedStatus, Usage as UsageStatus, FileFault as FileFaultStatus, SinkFault as SinkFaultStatus, NoMemory as NoMemoryStatus, Absent as AbsentStatus}
+use Rattle.sq_cli.specs.declared.end.End.{End}
+use Rattle.sq_cli.specs.declared.end.End.TheVariants.{Usage, Absent, FileFault, NotYet, Refused, NoMemory, SinkFault}
+use Rattle.sq_cli.specs.Texts.{line, usage_line, fault_line, not_yet_line}
+
+abbrev pub status_of : End → Status
+status_of Usage = UsageStatus
+status_of (Absent name) = AbsentStatus
+status_of (FileFault name) = FileFaultStatus
+status_of (NotYet phase) = RefusedStatus
+status_of (Refused fault) = RefusedStatus
+status_of NoMemory = NoMemoryStatus
+status_of SinkFault = SinkFaultStatus
+
+-- the status of a phase that goes on is Done
+abbrev pub ending : {T : Type 0} → Result T End → Status
+ending (Ok value) = DoneStatus
+ending (Err end) = status_of end
+
+-- the line of an end
+abbrev pub end_text : End → List ℕ
+end_text Usage = usage_line
+end_text (Absent name) = line (codes "absent ") name.now
+end_text (FileFault name) = line (codes "fault ") name.now
+end_text (NotYet phase) = not_yet_line phase
+end_text (Refused fault) = fault_line fault
+end_text NoMemory = codes "no memory\n"
+end_text SinkFault = []
+
+-- the counts of files don't fall; Absent and FileFault have their own that rose, and Done and Refused come only where none rose
+pub record FileCauses (faults now_faults misses now_misses : ℕ) (status : Status) : Type 0 where
+  pub faults_later : faults ≤ now_faults
+  pub misses_later : misses ≤ now_misses
+  pub absent : status ≡ AbsentStatus → Rose misses now_misses
+  pub fault : status ≡ FileFaultStatus → Rose faults now_faults
+  pub done : status ≡ DoneStatus → (now_faults ≡ faults) × (now_misses ≡ misses)
+  pub refused : status ≡ RefusedStatus → (now_faults ≡ faults) × (now_misses ≡ misses)
+
+-- SinkFault comes just where a count of a sink rose
+pub record SinkCauses (out now_out err now_err : ℕ) (status : Status) : Type 0 where
+  pub fault : status ≡ SinkFaultStatus → Rose out now_out ⊎ Rose err now_err
+  pub others : status ≢ SinkFaultStatus → (now_out ≡ out) × (now_err ≡ err)

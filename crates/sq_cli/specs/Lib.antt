@@ -1,0 +1,11 @@
+pub mod Data
+pub mod Ends
+pub mod Meaning
+pub mod Outcome
+pub mod Pieces
+pub mod Placing
+pub mod Programs
+pub mod Steps
+pub mod Texts
+pub mod Top
+pub mod Words

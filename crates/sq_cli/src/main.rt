@@ -1,0 +1,73 @@
+//! `sq`: checks and formats programs, and runs a leaf task on the memory of a machine.
+#![tactic(auto)]
+
+mod adapters;
+mod check;
+mod data;
+mod end;
+mod fmt;
+mod lines;
+mod phases;
+mod plan;
+mod run;
+mod status;
+#[cfg(test)]
+mod tests;
+mod top;
+mod tree;
+mod words;
+
+use adapters::{DiskFiles, ErrSink, OutSink};
+use end::put_usage;
+use sq_tree::RawBank;
+use status::Status;
+use std::process::ExitCode;
+use std::{env, io};
+use top::sq_top;
+
+fn main(rt: HostRuntime) -> ExitCode {
+    ExitCode::from(tool(&rt) as u8)
+}
+
+fn tool(rt: &HostRuntime) -> Status {
+    let mut out = OutSink::new(rt.stdout());
+    let mut err = ErrSink::new(rt.stderr());
+    let words = match gather(rt) {
+        Ok(words) => words,
+        Err(NoWords::NoMemory) => return Status::NoMemory,
+        Err(NoWords::NotText) => return put_usage(&mut err),
+    };
+    let mut files = DiskFiles::new(rt);
+    let mut bank = RawBank::new();
+    sq_top(
+        rt.alloc(),
+        &words,
+        &mut files,
+        &mut out,
+        &mut err,
+        &mut bank,
+    )
+}
+
+enum NoWords {
+    NoMemory,
+    NotText,
+}
+
+// The words after the program's name.
+fn gather(rt: &HostRuntime) -> Result<Vec<String>, NoWords> {
+    let words = match env::args(rt) {
+        Ok(words) => words,
+        Err(error) => {
+            return Err(if error.kind() == io::ErrorKind::OutOfMemory {
+                NoWords::NoMemory
+            } else {
+                NoWords::NotText
+            });
+        }
+    };
+    match words.skip(1).collect(rt.alloc()) {
+        Ok(words) => Ok(words),
+        Err(_) => Err(NoWords::NoMemory),
+    }
+}

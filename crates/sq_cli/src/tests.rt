@@ -1,0 +1,276 @@
+//! The worked cases of the tool, over files and sinks in memory.
+use crate::status::Status;
+use crate::top::sq_top;
+use sq_port::{MemFiles, MemSink};
+use sq_tree::RawBank;
+use std::test::Fail;
+
+const PROGRAM: &[u8] =
+    b"void task twice::leaf(in int A[N], out int B[N]) {\n  for (int i = 0; i < N; i++) B[i] = A[i] + A[i];\n}\n";
+
+const CANONICAL: &[u8] =
+    b"void task twice::leaf(in int A[N], out int B[N]) {\n  for (int i = 0; i < N; i++) {\n    B[i] = A[i] + A[i];\n  }\n}\n";
+
+const USAGE: &[u8] =
+    b"usage: sq check PROG | fmt PROG | plan PROG MAP MACH | eval PROG MAP MACH DATA | run PROG MAP MACH DATA [order=first|last|seed:N|list:FILE] [trace=yes|no] | demo N\n";
+
+#[derive(Drop)]
+struct Case<'a> {
+    words: &'a [&'a str],
+    status: Status,
+    out: &'a [u8],
+    err: &'a [u8],
+}
+
+fn files(rt: &HostRuntime) -> Result<MemFiles, Fail> {
+    let mut files = MemFiles::new(rt.alloc());
+    files.add("P1.sq", PROGRAM)?;
+    files.add("canonical.sq", CANONICAL)?;
+    files.add(
+        "ends.sq",
+        b"void task a::inner(in int A[N]) {\n  mappar (int i =",
+    )?;
+    files.add(
+        "writes.sq",
+        b"void task t::leaf(in int A[N]) {\n  A[0] = 1;\n}\n",
+    )?;
+    files.add(
+        "two.sq",
+        b"void task twice::inner(in int A[N], out int B[N]) {\n  tunable int U;\n  blkset Ab = rchop(A, U);\n  blkset Bb = rchop(B, U);\n  mappar (int i = 0 to (N + U - 1) / U) {\n    twice(Ab[i], Bb[i]);\n  }\n}\nvoid task twice::leaf(in int A[N], out int B[N]) {\n  for (int i = 0; i < N; i++) B[i] = A[i] + A[i];\n}\n",
+    )?;
+    files.add(
+        "minus.sq",
+        b"void task t::leaf(in int A[N], out int B[N]) { for (int i = 0; i < N; i++) B[i] = A[i] - A[i] - A[i]; }",
+    )?;
+    files.add(
+        "3.map",
+        b"mapping 1; entry top(N = 3); instance top = twice::leaf @ host { }",
+    )?;
+    files.add(
+        "1.map",
+        b"mapping 1; entry top(N = 1); instance top = twice::leaf @ host { }",
+    )?;
+    files.add(
+        "minus.map",
+        b"mapping 1; entry top(N = 3); instance top = t::leaf @ host { }",
+    )?;
+    files.add("32.mach", b"machine 1; level host { capacity 32; }")?;
+    files.add("31.mach", b"machine 1; level host { capacity 31; }")?;
+    files.add("16.mach", b"machine 1; level host { capacity 16; }")?;
+    files.add("3.txt", b"array A int [3]\n1 2 3\n")?;
+    files.add("1.txt", b"array A int [1]\n2147483647\n")?;
+    files.add("short.txt", b"array A int [3]\n1 2\n")?;
+    files.add("range.txt", b"array A int [3]\n1 2147483648 3\n")?;
+    files.add("name.txt", b"array C int [3]\n1 2 3\n")?;
+    files.add("extra.txt", b"array A int [3]\n1 2 3 4\n")?;
+    Ok(files)
+}
+
+fn words_of(rt: &HostRuntime, words: &[&str]) -> Result<Vec<String>, Fail> {
+    let mut made = Vec::new(rt.alloc());
+    for word in words {
+        made.push(String::from_str(rt.alloc(), word)?)?;
+    }
+    Ok(made)
+}
+
+#[test]
+fn cases(rt: HostRuntime) -> Result<(), Fail> {
+    let cases = [
+        // With ample memory it is done.
+        Case {
+            words: &["run", "P1.sq", "3.map", "32.mach", "3.txt"],
+            status: Status::Done,
+            out: b"array B int [3]\n2 4 6\n",
+            err: b"",
+        },
+        Case {
+            words: &["run", "P1.sq", "1.map", "16.mach", "1.txt"],
+            status: Status::Done,
+            out: b"array B int [1]\n-2\n",
+            err: b"",
+        },
+        Case {
+            words: &["run", "minus.sq", "minus.map", "32.mach", "3.txt"],
+            status: Status::Done,
+            out: b"array B int [3]\n-1 -2 -3\n",
+            err: b"",
+        },
+        Case {
+            words: &["run", "P1.sq", "3.map", "31.mach", "3.txt"],
+            status: Status::Refused,
+            out: b"",
+            err: b"refused capacity Capacity host 32 31\n",
+        },
+        Case {
+            words: &["run", "P1.sq", "3.map", "32.mach", "short.txt"],
+            status: Status::Refused,
+            out: b"",
+            err: b"refused data Short 3:1 A\n",
+        },
+        Case {
+            words: &["run", "P1.sq", "3.map", "32.mach", "range.txt"],
+            status: Status::Refused,
+            out: b"",
+            err: b"refused data Range 2:3 A\n",
+        },
+        Case {
+            words: &["run", "P1.sq", "3.map", "32.mach", "name.txt"],
+            status: Status::Refused,
+            out: b"",
+            err: b"refused data Name 1:7 A\n",
+        },
+        Case {
+            words: &["run", "P1.sq", "3.map", "32.mach", "extra.txt"],
+            status: Status::Refused,
+            out: b"",
+            err: b"refused data Extra 2:7 A\n",
+        },
+        Case {
+            words: &["run", "3.map", "3.map", "32.mach", "3.txt"],
+            status: Status::Refused,
+            out: b"",
+            err: b"refused program NotYet\n",
+        },
+        Case {
+            words: &["run", "P1.sq", "P1.sq", "32.mach", "3.txt"],
+            status: Status::Refused,
+            out: b"",
+            err: b"refused mapping NotYet\n",
+        },
+        Case {
+            words: &["run", "P1.sq", "P1.sq", "P1.sq", "3.txt"],
+            status: Status::Refused,
+            out: b"",
+            err: b"refused machine NotYet\n",
+        },
+        Case {
+            words: &["run", "P1.sq", "3.map", "32.mach", "none.txt"],
+            status: Status::Absent,
+            out: b"",
+            err: b"absent none.txt\n",
+        },
+        Case {
+            words: &["fmt", "P1.sq"],
+            status: Status::Done,
+            out: CANONICAL,
+            err: b"",
+        },
+        Case {
+            words: &["fmt", "canonical.sq"],
+            status: Status::Done,
+            out: CANONICAL,
+            err: b"",
+        },
+        Case {
+            words: &["fmt", "ends.sq"],
+            status: Status::Refused,
+            out: b"",
+            err: b"refused program Syntax 2:18\n",
+        },
+        Case {
+            words: &["check", "ends.sq"],
+            status: Status::Refused,
+            out: b"",
+            err: b"refused program Syntax 2:18\n",
+        },
+        Case {
+            words: &["check", "writes.sq"],
+            status: Status::Refused,
+            out: b"",
+            err: b"refused types WriteIn 2:3 A\n",
+        },
+        Case {
+            words: &["check", "two.sq"],
+            status: Status::Done,
+            out: b"ok\n",
+            err: b"",
+        },
+        Case {
+            words: &["check", "none.sq"],
+            status: Status::Absent,
+            out: b"",
+            err: b"absent none.sq\n",
+        },
+        Case {
+            words: &[
+                "run",
+                "P1.sq",
+                "3.map",
+                "32.mach",
+                "3.txt",
+                "order=first",
+                "order=last",
+            ],
+            status: Status::Usage,
+            out: b"",
+            err: USAGE,
+        },
+    ];
+    for case in &cases {
+        let words = words_of(&rt, case.words)?;
+        let mut files = files(&rt)?;
+        let mut out = MemSink::new(rt.alloc(), 200)?;
+        let mut err = MemSink::new(rt.alloc(), 200)?;
+        let mut bank = RawBank::new();
+        let status = sq_top(
+            rt.alloc(),
+            &words,
+            &mut files,
+            &mut out,
+            &mut err,
+            &mut bank,
+        );
+        assert_eq!(rt; status, case.status);
+        assert_eq!(rt; out.written(), case.out);
+        assert_eq!(rt; err.written(), case.err);
+    }
+    Ok(())
+}
+
+// The first read fails, and then `out` has room for 5 bytes.
+#[test]
+fn failing_devices(rt: HostRuntime) -> Result<(), Fail> {
+    let cases = [
+        Case {
+            words: &["run", "P1.sq", "3.map", "32.mach", "3.txt"],
+            status: Status::SinkFault,
+            out: b"array",
+            err: b"",
+        },
+        Case {
+            words: &["fmt", "P1.sq"],
+            status: Status::SinkFault,
+            out: b"void ",
+            err: b"",
+        },
+    ];
+    for case in &cases {
+        let words = words_of(&rt, case.words)?;
+        for read in 0..2u64 {
+            let room = if read == 1 { 200 } else { 5 };
+            let mut files = files(&rt)?;
+            files.fail_at(read);
+            let mut out = MemSink::new(rt.alloc(), room)?;
+            let mut err = MemSink::new(rt.alloc(), 200)?;
+            let mut bank = RawBank::new();
+            let status = sq_top(
+                rt.alloc(),
+                &words,
+                &mut files,
+                &mut out,
+                &mut err,
+                &mut bank,
+            );
+            let wanted: (Status, &[u8], &[u8]) = if read == 1 {
+                (Status::FileFault, b"", b"fault P1.sq\n")
+            } else {
+                (case.status, case.out, case.err)
+            };
+            assert_eq!(rt; status, wanted.0);
+            assert_eq!(rt; out.written(), wanted.1);
+            assert_eq!(rt; err.written(), wanted.2);
+        }
+    }
+    Ok(())
+}
