@@ -3,7 +3,7 @@ use Rattle.std.proofs.Common.{◌≡◌, ℕ, zero, suc, ◌+◌, ◌-◌, ◌*�
 use Rattle.std.proofs.Math.Nat.{mul-suc}
 use Rattle.std.proofs.lemmas.Bool.Decides.{leb_tells}
 use Rattle.sq_text.specs.declared.fault.Code.TheVariants as code
-use Rattle.sq_machfile.specs.declared.tree.Numeral.{Numeral}
+use Rattle.sq_shapes.specs.declared.held.Numeral.{Numeral}
 use Rattle.sq_machfile.specs.declared.tree.LevelText.{LevelText}
 use Rattle.sq_machfile.specs.declared.tree.Below.{Below}
 use Rattle.sq_machfile.specs.declared.tree.MachineText.{MachineText}

@@ -2,14 +2,10 @@ pub mod Caps
 pub mod Complete
 pub mod Derived
 pub mod Firsts
-pub mod Fitting
-pub mod Follows
 pub mod Least
 pub mod Kept
 pub mod Limits
 pub mod Nodes
-pub mod Owing
-pub mod Places
-pub mod Ready
-pub mod Turns
+pub mod Points
+pub mod Texts
 pub mod Whole

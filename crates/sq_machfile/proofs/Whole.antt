@@ -1,8 +1,6 @@
 -- The first fault of a machine file, group by group.
-use Rattle.std.proofs.Common.{◌≡◌, ℕ, ◌≤◌, List, Option, Some, None, Ok, Err, sym, ◌∙◌, ap, subst, arith}
-use Rattle.std.specs.List.{slice_get}
+use Rattle.std.proofs.Common.{◌≡◌, ℕ, List, Option, Some, None, Err, sym, ◌∙◌, ap, subst}
 use Rattle.sq_text.specs.declared.fault.Phase.TheVariants.{Machine}
-use Rattle.sq_text.specs.declared.fault.Code.TheVariants as code
 use Rattle.sq_text.specs.declared.fault.Fault.{Fault}
 use Rattle.sq_text.specs.First.{IsFirst}
 use Rattle.sq_text.specs.Answers.{fault_place, Answers, Gives, IfRefused}
@@ -11,15 +9,15 @@ use Rattle.sq_text.specs.declared.fault.Stop.TheVariants.{Refused, NoMemory}
 use Rattle.sq_text.proofs.Firsts.{first_same, first_in_turn}
 use Rattle.sq_lexer.specs.declared.token.Token.{Token}
 use Rattle.sq_lexer.specs.Tokens.{AreTokens}
-use Rattle.sq_lexer.specs.Faults.{FitsFile, HasFault, fault}
+use Rattle.sq_lexer.specs.Faults.{FitsFile, HasFault}
 use Rattle.sq_machfile.specs.declared.level.Level.{Level}
 use Rattle.sq_machfile.specs.declared.tree.MachineText.{MachineText}
-use Rattle.sq_machfile.specs.Grammar.{IsText, SyntaxAt}
+use Rattle.sq_shapes.specs.Texts.{SyntaxAt}
+use Rattle.sq_shapes.proofs.Places.{none_in_text, same_fault, one_text}
+use Rattle.sq_machfile.specs.Grammar.{IsText}
 use Rattle.sq_machfile.specs.Faults.{number, LimitFault}
-use Rattle.sq_machfile.specs.Reading.{Outcome}
 use Rattle.sq_machfile.specs.Machines.{Writes, IsSyntaxFault, SyntaxFault, BrokenLimit, MachineFault, StandsFor, levels_of, WithinLimits}
-use Rattle.sq_machfile.proofs.Complete.{machine_read}
-use Rattle.sq_machfile.proofs.Places.{one_place, none_in_text}
+use Rattle.sq_machfile.proofs.Texts.{machine_format}
 use Rattle.sq_machfile.proofs.Firsts.{at_itself}
 use Rattle.sq_machfile.proofs.Kept.{no_fault}
 
@@ -35,16 +33,6 @@ pub lexed_by : (text : List ℕ) (tokens : List Token) → AreTokens text tokens
     → ((other : List Token) → AreTokens text other → FitsFile Machine text → tokens ≡ other) → Lexed text tokens
 lexed_by text tokens are fits none only = record { tokens_of = are; fits = fits; none = none; one = λ other also. only other also fits }
 
-abbrev token_or : Token → Option Token → Token
-token_or d None = d
-token_or d (Some t) = t
-
-same_fault : (ts : List Token) (f g : Fault) → IsSyntaxFault ts f → IsSyntaxFault ts g → g ≡ f
-same_fault ts f g a b =
-    let index : a.index ≡ b.index = (let low : a.index ≤ b.index = one_place ts a.index b.index a.at b.at in let high : b.index ≤ a.index = one_place ts b.index a.index b.at a.at in omega arith) in
-    let token : b.token ≡ a.token = ap (token_or a.token) (sym b.is_there ∙ ap (slice_get ts) (sym index) ∙ a.is_there) in
-    b.is ∙ ap (λ t. fault Machine code.Syntax (Some t.place)) token ∙ sym a.is
-
 first_syntax : (text : List ℕ) (ts : List Token) (f : Fault) → Lexed text ts → IsSyntaxFault ts f → IsFirst fault_place number (SyntaxFault text) (Some f)
 first_syntax text ts f lexed a = (
   record { tokens = ts; tokens_of = lexed.tokens_of; faulty = a },
@@ -57,16 +45,8 @@ refused_syntax text ts f lexed a =
     first_in_turn fault_place number (HasFault Machine text) _ None (Some f) lexed.none
     (λ u. first_in_turn fault_place number (SyntaxFault text) (BrokenLimit text) (Some f) None (first_syntax text ts f lexed a) (λ e. absurd (cc)))
 
-abbrev machine_or : MachineText → Outcome MachineText → MachineText
-machine_or d (Ok p) = p.0
-machine_or d _ = d
-
--- one list of tokens is a text of one machine
-pub one_machine : (ts : List Token) (a b : MachineText) → IsText ts a → IsText ts b → a ≡ b
-one_machine ts a b p q = ap (machine_or a) (sym (machine_read ts a p) ∙ machine_read ts b q)
-
 pub same_machine : (text : List ℕ) (ts : List Token) (a : MachineText) → Lexed text ts → IsText ts a → (b : MachineText) → Writes text b → b ≡ a
-same_machine text ts a lexed p b w = one_machine ts b a (subst (λ ts. IsText ts b) (sym (lexed.one w.tokens w.tokens_of)) w.grammar) p
+same_machine text ts a lexed p b w = one_text machine_format ts b a (subst (λ ts. IsText ts b) (sym (lexed.one w.tokens w.tokens_of)) w.grammar) p
 
 pub writes : (text : List ℕ) (ts : List Token) (a : MachineText) → Lexed text ts → IsText ts a → Writes text a
 writes text ts a lexed p = record { tokens = ts; tokens_of = lexed.tokens_of; fits = lexed.fits; grammar = p }
@@ -77,7 +57,7 @@ pub limits_are_all : (text : List ℕ) (ts : List Token) (a : MachineText) (o : 
 limits_are_all text ts a o lexed p h =
     first_in_turn fault_place number (HasFault Machine text) _ None o lexed.none
     (λ u. first_in_turn fault_place number (SyntaxFault text) (BrokenLimit text) None o
-    (λ f b. none_in_text ts a p b.faulty.index (subst (λ ts. SyntaxAt ts b.faulty.index) (sym (lexed.one b.tokens b.tokens_of)) b.faulty.at))
+    (λ f b. none_in_text ts a p b.faulty.index (subst (λ ts. SyntaxAt IsText ts b.faulty.index) (sym (lexed.one b.tokens b.tokens_of)) b.faulty.at))
     (λ v. first_same fault_place number {P = LimitFault a} {Q = BrokenLimit text} o
     (λ f broken. record { machine = a; writes = writes text ts a lexed p; broken = broken })
     (λ f b. subst (λ m. LimitFault m f) (same_machine text ts a lexed p b.machine b.writes) b.broken) h))

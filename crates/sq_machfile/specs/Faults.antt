@@ -10,8 +10,8 @@ use Rattle.sq_text.specs.declared.fault.Arg.{Arg}
 use Rattle.sq_text.specs.declared.fault.Arg.TheVariants as arg
 use Rattle.sq_text.specs.declared.fault.Fault.{Fault}
 use Rattle.sq_text.specs.First.{HoldsIn}
-use Rattle.sq_machfile.specs.declared.tree.Word.{Word}
-use Rattle.sq_machfile.specs.declared.tree.Numeral.{Numeral}
+use Rattle.sq_shapes.specs.declared.held.Word.{Word}
+use Rattle.sq_shapes.specs.declared.held.Numeral.{Numeral}
 use Rattle.sq_machfile.specs.declared.tree.LevelText.{LevelText}
 use Rattle.sq_machfile.specs.declared.tree.Below.{Below}
 use Rattle.sq_machfile.specs.declared.tree.MachineText.{MachineText}

@@ -1,12 +1,12 @@
 -- The grammar of machine files: which tokens stand for which machine.
-use Rattle.std.specs.Prelude.{ℕ, suc, pos, List, [], ◌∷◌, ◌++◌, take, codes}
+use Rattle.std.specs.Prelude.{ℕ, pos, List, [], ◌∷◌, codes}
 use Rattle.sq_text.specs.declared.place.Place.{Place}
 use Rattle.sq_lexer.specs.declared.token.Token.{Token}
 use Rattle.sq_lexer.specs.declared.token.Kind.TheVariants.{Word, Number, Sign, End}
 use Rattle.sq_lexer.specs.declared.token.Sign.TheVariants as sign
 use Rattle.sq_lexer.specs.Tokens.{token}
-use Rattle.sq_machfile.specs.declared.tree.Word as tree
-use Rattle.sq_machfile.specs.declared.tree.Numeral.{Numeral}
+use Rattle.sq_shapes.specs.declared.held.Word as tree
+use Rattle.sq_shapes.specs.declared.held.Numeral.{Numeral}
 use Rattle.sq_machfile.specs.declared.tree.LevelText.{LevelText}
 use Rattle.sq_machfile.specs.declared.tree.Below.{Below}
 use Rattle.sq_machfile.specs.declared.tree.MachineText.{MachineText}
@@ -54,14 +54,3 @@ pub data Derives : Phrase → List Token → List Token → Type 0 where
 pub record IsText (tokens : List Token) (machine : MachineText) : Type 0 where
   pub end : Place
   pub text : Derives (AMachine machine) tokens (token End end ∷ [])
-
--- some text of the grammar begins with these tokens
-pub record BeginsText (tokens : List Token) : Type 0 where
-  pub more : List Token
-  pub machine : MachineText
-  pub text : IsText (tokens ++ more) machine
-
--- the tokens before this index begin a text, and with the one at it none does
-pub record SyntaxAt (tokens : List Token) (index : ℕ) : Type 0 where
-  pub before : BeginsText (take index tokens)
-  pub none : BeginsText (take (suc index) tokens) → ⊥

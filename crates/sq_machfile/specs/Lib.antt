@@ -3,4 +3,3 @@ pub mod Faults
 pub mod Grammar
 pub mod Machines
 pub mod Reading
-pub mod Shapes

@@ -2,17 +2,17 @@
 use Rattle.std.specs.Prelude.{◌≡◌, ℕ, zero, suc, ◌+◌, ◌*◌, ◌^◌, ◌<◌, ◌≤◌, List, [], ◌∷◌, length, Some}
 use Rattle.std.specs.List.{slice_get}
 use Rattle.sq_text.specs.declared.fault.Phase.TheVariants as phase
-use Rattle.sq_text.specs.declared.fault.Code.TheVariants as code
 use Rattle.sq_text.specs.declared.fault.Fault.{Fault}
 use Rattle.sq_text.specs.First.{InTurn}
 use Rattle.sq_lexer.specs.declared.token.Token.{Token}
 use Rattle.sq_lexer.specs.Tokens.{AreTokens}
-use Rattle.sq_lexer.specs.Faults.{FitsFile, HasFault, fault}
+use Rattle.sq_lexer.specs.Faults.{FitsFile, HasFault}
+use Rattle.sq_shapes.specs.Texts as texts
 use Rattle.sq_machfile.specs.declared.tree.LevelText.{LevelText}
 use Rattle.sq_machfile.specs.declared.tree.Below.{Below}
 use Rattle.sq_machfile.specs.declared.tree.MachineText.{MachineText}
 use Rattle.sq_machfile.specs.declared.level.Level.{Level}
-use Rattle.sq_machfile.specs.Grammar.{IsText, SyntaxAt}
+use Rattle.sq_machfile.specs.Grammar.{IsText}
 use Rattle.sq_machfile.specs.Faults.{LimitFault}
 
 abbrev pub level_with : LevelText → ℕ → Level
@@ -65,12 +65,8 @@ pub record Writes (text : List ℕ) (machine : MachineText) : Type 0 where
   pub grammar : IsText tokens machine
 
 -- the first token with which no text of the grammar begins
-pub record IsSyntaxFault (tokens : List Token) (f : Fault) : Type 0 where
-  pub index : ℕ
-  pub token : Token
-  pub is_there : slice_get tokens index ≡ Some token
-  pub at : SyntaxAt tokens index
-  pub is : f ≡ fault phase.Machine code.Syntax (Some token.place)
+abbrev pub IsSyntaxFault : List Token → Fault → Type 0
+IsSyntaxFault = texts.IsSyntaxFault IsText phase.Machine
 
 pub record SyntaxFault (text : List ℕ) (f : Fault) : Type 0 where
   pub tokens : List Token

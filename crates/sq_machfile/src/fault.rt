@@ -6,8 +6,9 @@ ghost use Rattle.sq_machfile.specs.Faults as spec;
 ghost use Rattle.sq_machfile.specs.Faults.{condition, of_word, of_number, is_known, with_name, bytes_with, level_conditions, after_level, children_conditions, after_children, one_below, after_below, conditions_by};
 ghost use Rattle.sq_machfile.specs.Counting.{capped, count_of, judge, least, firsts, Finds, comes_first};
 
-use crate::tree::{Below, LevelText, MachineText, Numeral, Word};
+use crate::tree::{Below, LevelText, MachineText};
 use indexmap::IndexSet;
+use sq_shapes::{Numeral, Word};
 use sq_text::{Arg, Args, Code, Fault, Name, Phase, Place};
 use sqlite_items::Items;
 use std::alloc::{AllocError, Global};

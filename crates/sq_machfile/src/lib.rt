@@ -1,12 +1,10 @@
 //! Machine files: the levels of a memory hierarchy.
 #![tactic(auto)]
 
-mod cursor;
 mod fault;
 mod level;
 mod machine;
 mod reading;
-mod shape;
 mod tree;
 
 pub use level::Level;

@@ -1,83 +1,33 @@
 //! Reading the tokens of a machine file.
 
-ghost use Rattle.std.specs.Prelude.{◌≡◌, ◌-◌, Some, length, IfOk, slice_get};
+ghost use Rattle.std.specs.Prelude.{IfOk};
 ghost use Rattle.sq_text.specs.Answers.{IfRefused};
 ghost use Rattle.sq_lexer.specs.Tokens.{HasEnd};
-ghost use Rattle.sq_lexer.specs.Faults.{fault};
 ghost use Rattle.sq_machfile.specs.Grammar.{IsText};
 ghost use Rattle.sq_machfile.specs.Machines.{IsSyntaxFault};
 ghost use Rattle.sq_machfile.specs.Reading as spec;
-ghost use Rattle.sq_machfile.specs.Reading.{Reads};
+ghost use Rattle.sq_shapes.specs.Reading.{Reads};
 
-use crate::cursor::{ReadError, Tokens};
-use crate::shape::Shape;
-use crate::tree::{Below, LevelText, MachineText, Numeral, Word};
-use sq_lexer::{Kind, Token};
-use sq_text::{Code, Fault, Name, Phase, Place, Stop};
+use crate::tree::{Below, LevelText, MachineText};
+use sq_lexer::{Sign, Token};
+use sq_shapes::{ReadError, Shape, Tokens, numeral_at, syntax_fault, word_at};
+use sq_text::{Phase, Stop};
 use sqlite_items::Items;
-use std::alloc::{AllocError, Global};
+use std::alloc::Global;
 
-const HEAD: [Shape; 3] = [Shape::Machine, Shape::One, Shape::Semi];
+const HEAD: [Shape; 3] = [Shape::Machine, Shape::One, Shape::Sign(Sign::Semi)];
 
 const LEVEL: [Shape; 7] = [
     Shape::Level,
     Shape::AnyWord,
-    Shape::BraceOpen,
+    Shape::Sign(Sign::BraceOpen),
     Shape::Capacity,
     Shape::AnyNumber,
-    Shape::Semi,
-    Shape::BraceClose,
+    Shape::Sign(Sign::Semi),
+    Shape::Sign(Sign::BraceClose),
 ];
 
-const CHILDREN: [Shape; 3] = [Shape::Children, Shape::AnyNumber, Shape::Semi];
-
-const NOWHERE: Place = Place { line: 0, col: 0 };
-
-// The word at this index.
-fn word_at(alloc: Global, tokens: &[Token], at: usize) -> Result<Word, AllocError>
-    ensures { IfOk result (λ word. word ≡ spec.word_in (slice_get tokens.now at)) }
-{
-    match tokens.get(at) {
-        Some(token) => match &token.kind {
-            Kind::Word(name) => Ok(Word {
-                place: token.place,
-                name: name.copy(alloc)?,
-            }),
-            _ => no_word(alloc),
-        },
-        None => no_word(alloc),
-    }
-}
-
-fn no_word(alloc: Global) -> Result<Word, AllocError>
-    ensures { IfOk result (λ word. word ≡ spec.no_word) }
-{
-    let name = Name::new(alloc, &[])?;
-    Ok(Word {
-        place: NOWHERE,
-        name,
-    })
-}
-
-// The number at this index.
-fn numeral_at(tokens: &[Token], at: usize) -> Numeral
-    ensures { result ≡ spec.numeral_in (slice_get tokens.now at) }
-{
-    let none = Numeral {
-        place: NOWHERE,
-        value: 0,
-    };
-    match tokens.get(at) {
-        Some(token) => match &token.kind {
-            Kind::Number(number) if *number >= 0 => Numeral {
-                place: token.place,
-                value: *number as u64,
-            },
-            _ => none,
-        },
-        None => none,
-    }
-}
+const CHILDREN: [Shape; 3] = [Shape::Children, Shape::AnyNumber, Shape::Sign(Sign::Semi)];
 
 fn level(alloc: Global, tokens: &mut Tokens<'_>) -> Result<LevelText, ReadError>
     ensures { Reads (spec.level tokens.old) result tokens.new }
@@ -97,13 +47,13 @@ fn below(alloc: Global, tokens: &mut Tokens<'_>) -> Result<Below, ReadError>
     Ok(Below { children, level })
 }
 
-#[tactic(auto, unfolding(crate::specs::Reading::levels_below, crate::specs::Reading::levels_from))]
+#[tactic(auto, unfolding(crate::specs::Reading::levels_below, sq_shapes::specs::Reading::until))]
 fn levels_below(alloc: Global, tokens: &mut Tokens<'_>) -> Result<Items<Below>, ReadError>
     ensures { Reads (spec.levels_below tokens.old) result tokens.new }
 {
     let mut found = Items::new(alloc);
     for _turn in 0..tokens.len() {
-        if !tokens.sees(Shape::Children) {
+        if tokens.sees(Shape::End) {
             return Ok(found);
         }
         let next = below(alloc, tokens)?;
@@ -126,28 +76,6 @@ fn machine(alloc: Global, tokens: &mut Tokens<'_>) -> Result<MachineText, ReadEr
     Ok(MachineText { root, below })
 }
 
-// The place of the token at this index.
-fn place_at(tokens: &[Token], at: usize) -> Place
-    ensures { result ≡ spec.place_in (slice_get tokens.now at) }
-{
-    match tokens.get(at) {
-        Some(token) => token.place,
-        None => NOWHERE,
-    }
-}
-
-fn syntax_fault(alloc: Global, tokens: &[Token], left: usize) -> Fault
-    ensures { result ≡ fault Phase.Machine Code.Syntax (Some (spec.place_in (slice_get tokens.now (length tokens.now - left)))) }
-{
-    let index = tokens.len().saturating_sub(left);
-    Fault {
-        phase: Phase::Machine,
-        code: Code::Syntax,
-        place: Some(place_at(tokens, index)),
-        args: Items::new(alloc),
-    }
-}
-
 /// What the tokens write, or the first token with which no text of the grammar begins.
 pub fn parse(alloc: Global, tokens: &[Token]) -> Result<MachineText, Stop>
     requires { HasEnd tokens.now }
@@ -158,6 +86,9 @@ pub fn parse(alloc: Global, tokens: &[Token]) -> Result<MachineText, Stop>
     match machine(alloc, &mut rest) {
         Ok(found) => Ok(found),
         Err(ReadError::NoMemory) => Err(Stop::NoMemory),
-        Err(ReadError::Syntax(left)) => Err(Stop::Refused(syntax_fault(alloc, tokens, left))),
+        Err(ReadError::Syntax(left)) => {
+            let fault = syntax_fault(alloc, Phase::Machine, tokens, left);
+            Err(Stop::Refused(fault))
+        }
     }
 }

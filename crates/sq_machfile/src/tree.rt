@@ -1,21 +1,7 @@
 //! What a machine file says, with the places that faults name.
 
-use sq_text::{Name, Place};
+use sq_shapes::{Numeral, Word};
 use sqlite_items::Items;
-
-/// A name where it stands.
-#[derive(Debug, Drop)]
-pub struct Word {
-    pub place: Place,
-    pub name: Name,
-}
-
-/// A number where it stands.
-#[derive(Clone, Copy, Debug)]
-pub struct Numeral {
-    pub place: Place,
-    pub value: u64,
-}
 
 /// `level NAME { capacity NUMBER; }`
 #[derive(Debug, Drop)]

@@ -1,8 +1,8 @@
 //! A cursor over tokens, which contracts see as the list of those that are left.
 
 ghost use Rattle.std.specs.Prelude.{◌≡◌, ◌≤◌, drop, length};
-ghost use Rattle.sq_machfile.specs.Reading as spec;
-ghost use Rattle.sq_machfile.specs.Reading.{ReadsFront};
+ghost use Rattle.sq_shapes.specs.Reading as spec;
+ghost use Rattle.sq_shapes.specs.Reading.{ReadsFront};
 
 use crate::shape::{Shape, fits};
 use sq_lexer::Token;
@@ -18,7 +18,7 @@ pub enum ReadError {
 
 impl From<AllocError> for ReadError {
     ghost use Rattle.std.specs.Prelude.{◌≡◌};
-    ghost use Rattle.sq_machfile.specs.declared.cursor.ReadError.TheVariants.{NoMemory};
+    ghost use Rattle.sq_shapes.specs.declared.cursor.ReadError.TheVariants.{NoMemory};
 
     ghost from_gives = { λ _ e. e ≡ NoMemory };
 

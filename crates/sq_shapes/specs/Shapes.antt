@@ -1,11 +1,13 @@
--- What the grammar wants of a token.
+-- What a grammar wants of a token.
 use Rattle.std.specs.Prelude.{ℕ, ℤ, pos, ◌==◌, Bool, true, false, List, codes}
 use Rattle.std.specs.Str.{bytes_eq}
+use denote.Enum.Bare.{sameb}
+use Rattle.sq_lexer.specs.contracts.token.Sign as sign
+use Rattle.sq_lexer.specs.declared.token.Sign.{Sign}
 use Rattle.sq_lexer.specs.declared.token.Kind.{Kind}
 use Rattle.sq_lexer.specs.declared.token.Kind.TheVariants as k
-use Rattle.sq_lexer.specs.declared.token.Sign.TheVariants as g
-use Rattle.sq_machfile.specs.declared.shape.Shape.{Shape}
-use Rattle.sq_machfile.specs.declared.shape.Shape.TheVariants as s
+use Rattle.sq_shapes.specs.declared.shape.Shape.{Shape}
+use Rattle.sq_shapes.specs.declared.shape.Shape.TheVariants as s
 
 abbrev pub is_word : Kind → List ℕ → Bool
 is_word (k.Word name) word = bytes_eq name word
@@ -31,17 +33,12 @@ abbrev pub is_one : Kind → Bool
 is_one (k.Number number) = is_one_of number
 is_one _ = false
 
-abbrev pub is_semi : Kind → Bool
-is_semi (k.Sign g.Semi) = true
-is_semi _ = false
+abbrev pub same_sign : Sign → Sign → Bool
+same_sign = sameb sign.the_type
 
-abbrev pub is_brace_open : Kind → Bool
-is_brace_open (k.Sign g.BraceOpen) = true
-is_brace_open _ = false
-
-abbrev pub is_brace_close : Kind → Bool
-is_brace_close (k.Sign g.BraceClose) = true
-is_brace_close _ = false
+abbrev pub is_sign : Kind → Sign → Bool
+is_sign (k.Sign other) sign = same_sign other sign
+is_sign _ sign = false
 
 abbrev pub is_end : Kind → Bool
 is_end k.End = true
@@ -52,10 +49,15 @@ fits s.Machine kind = is_word kind (codes "machine")
 fits s.Level kind = is_word kind (codes "level")
 fits s.Capacity kind = is_word kind (codes "capacity")
 fits s.Children kind = is_word kind (codes "children")
+fits s.Mapping kind = is_word kind (codes "mapping")
+fits s.Entry kind = is_word kind (codes "entry")
+fits s.Instance kind = is_word kind (codes "instance")
+fits s.Tunable kind = is_word kind (codes "tunable")
+fits s.Call kind = is_word kind (codes "call")
+fits s.Inner kind = is_word kind (codes "inner")
+fits s.Leaf kind = is_word kind (codes "leaf")
 fits s.AnyWord kind = is_any_word kind
 fits s.AnyNumber kind = is_any_number kind
 fits s.One kind = is_one kind
-fits s.Semi kind = is_semi kind
-fits s.BraceOpen kind = is_brace_open kind
-fits s.BraceClose kind = is_brace_close kind
+fits (s.Sign sign) kind = is_sign kind sign
 fits s.End kind = is_end kind

@@ -1,9 +1,9 @@
 -- Counting the tokens that are of given shapes.
-use Rattle.std.proofs.Common.{◌≡◌, ℕ, zero, suc, ◌+◌, ◌<◌, ◌≤◌, Bool, true, false, if◌then◌else◌, List, [], ◌∷◌, length, drop, get_or, refl, ap, subst, arith}
+use Rattle.std.proofs.Common.{◌≡◌, ℕ, zero, suc, ◌+◌, ◌<◌, ◌≤◌, Bool, true, false, if◌then◌else◌, List, [], ◌∷◌, length, drop, get_or, ap, subst, arith}
 use Rattle.sq_lexer.specs.declared.token.Token.{Token}
-use Rattle.sq_machfile.specs.declared.shape.Shape.{Shape}
-use Rattle.sq_machfile.specs.Shapes.{fits}
-use Rattle.sq_machfile.specs.Reading.{sees, fitting}
+use Rattle.sq_shapes.specs.declared.shape.Shape.{Shape}
+use Rattle.sq_shapes.specs.Shapes.{fits}
+use Rattle.sq_shapes.specs.Reading.{sees, fitting}
 
 pub fit_step : (shapes : List Shape) (ts : List Token) (i : ℕ) (d : Shape) → i < length shapes → sees (get_or shapes i d) (drop i ts) ≡ true
     → fitting (drop i shapes) (drop i ts) ≡ suc (fitting (drop (suc i) shapes) (drop (suc i) ts))
@@ -13,18 +13,6 @@ fit_step (s ∷ ss) (t ∷ ts) zero d lt e = ap (λ b. if b then suc (fitting ss
 fit_step (s ∷ ss) [] (suc i) d lt e = absurd (cc)
 fit_step (s ∷ ss) (t ∷ ts) (suc i) d lt e = fit_step ss ts i d (omega arith) e
 
-pub fit_stop : (shapes : List Shape) (ts : List Token) (i : ℕ) (d : Shape) → i < length shapes → sees (get_or shapes i d) (drop i ts) ≡ false
-    → fitting (drop i shapes) (drop i ts) ≡ 0
-fit_stop [] ts i d lt e = absurd (omega arith)
-fit_stop (s ∷ ss) [] zero d lt e = refl
-fit_stop (s ∷ ss) (t ∷ ts) zero d lt e = ap (λ b. if b then suc (fitting ss ts) else 0) e
-fit_stop (s ∷ ss) [] (suc i) d lt e = none (drop i ss)
-  where
-    none : (ss : List Shape) → fitting ss [] ≡ 0
-    none [] = refl
-    none (s ∷ ss) = refl
-fit_stop (s ∷ ss) (t ∷ ts) (suc i) d lt e = fit_stop ss ts i d (omega arith) e
-
 there_or : (b : Bool) (n m : ℕ) → n ≤ m → (if b then suc n else 0) ≤ suc m
 there_or true n m le = omega arith
 there_or false n m le = omega arith
@@ -33,11 +21,6 @@ pub fitting_there : (shapes : List Shape) (ts : List Token) → fitting shapes t
 fitting_there [] ts = omega arith
 fitting_there (s ∷ ss) [] = omega arith
 fitting_there (s ∷ ss) (t ∷ ts) = there_or (fits s t.kind) (fitting ss ts) (length ts) (fitting_there ss ts)
-
-pub fitting_some : (shapes : List Shape) (ts : List Token) → fitting shapes ts ≤ length shapes
-fitting_some [] ts = omega arith
-fitting_some (s ∷ ss) [] = omega arith
-fitting_some (s ∷ ss) (t ∷ ts) = there_or (fits s t.kind) (fitting ss ts) (length ss) (fitting_some ss ts)
 
 pub counted : (shapes : List Shape) (ts : List Token) (total i : ℕ) (d : Shape) → i < length shapes → total ≡ i + fitting (drop i shapes) (drop i ts)
     → sees (get_or shapes i d) (drop i ts) ≡ true → total ≡ (i + 1) + fitting (drop (i + 1) shapes) (drop (i + 1) ts)

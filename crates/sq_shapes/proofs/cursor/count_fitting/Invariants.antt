@@ -1,6 +1,6 @@
 use Rattle.std.proofs.Common.{◌≡◌, ◌+◌, drop}
-use Rattle.sq_machfile.specs.Reading.{fitting}
-use Rattle.sq_machfile.proofs.cursor.count_fitting.Given as goal
+use Rattle.sq_shapes.specs.Reading.{fitting}
+use Rattle.sq_shapes.proofs.cursor.count_fitting.Given as goal
 
 abbrev pub invariant-loop-i : goal.invariant-loop-i
 invariant-loop-i l = fitting l.shapes l.tokens ≡ l.i + fitting (drop l.i l.shapes) (drop l.i l.tokens)

@@ -1,0 +1,7 @@
+pub mod Fitting
+pub mod Owing
+pub mod Places
+pub mod Readings
+pub mod Ready
+pub mod Shaped
+pub mod Turns
