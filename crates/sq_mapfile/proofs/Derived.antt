@@ -1,0 +1,210 @@
+-- The reader gives exactly what the grammar derives, and the machine goes on after it as it does.
+use Rattle.std.proofs.Common.{ℕ, ℤ, suc, ◌≤◌, List, [], ◌∷◌, ◌++◌, length, refl, sym, subst, arith}
+use Rattle.std.proofs.Math.IntN.{neg_ℤ}
+use Rattle.std.specs.List.{slice_get}
+use Rattle.sq_shapes.specs.declared.held.Word.{Word}
+use Rattle.sq_ast.specs.declared.program.VariantKind.{VariantKind}
+use Rattle.sq_ast.specs.declared.program.VariantKind.TheVariants as variant
+use Rattle.sq_lexer.specs.declared.token.Token.{Token}
+use Rattle.sq_lexer.specs.declared.token.Sign.TheVariants as g
+use Rattle.sq_shapes.specs.declared.shape.Shape.TheVariants as s
+use Rattle.sq_shapes.specs.Reading.{pure, all, until, number_in, word_in}
+use Rattle.sq_shapes.proofs.Owing.{Owed, Want, At, wants}
+use Rattle.sq_shapes.proofs.Shaped.{Front, none, next, mapping, entry, instance, tunable, call, inner, leaf, a_word, a_number, one, a_sign}
+use Rattle.sq_shapes.proofs.Readings.{Reading, given, gives_more, phrase, weaken, all_reads, shapes_read, choice_reads, Adds, until_reads, IsLast, last_front, finish_reads}
+use Rattle.sq_mapfile.specs.declared.mapping.Setting.{Setting}
+use Rattle.sq_mapfile.specs.declared.mapping.Setting.TheVariants.{One, Many}
+use Rattle.sq_mapfile.specs.declared.tree.SizeText.{SizeText}
+use Rattle.sq_mapfile.specs.declared.tree.ItemText.{ItemText}
+use Rattle.sq_mapfile.specs.declared.tree.ItemText.TheVariants.{Tunable, Call}
+use Rattle.sq_mapfile.specs.declared.tree.InstanceText.{InstanceText}
+use Rattle.sq_mapfile.specs.declared.tree.MappingText.{MappingText}
+use Rattle.sq_mapfile.specs.Grammar.{Derives, IsText}
+use Rattle.sq_mapfile.specs.Grammar as grammar
+use Rattle.sq_mapfile.specs.Reading.{size_shapes, next_size_shapes, size_at, minus_shapes, tunable_shapes, call_shapes, instance_shapes, level_shapes, head_shapes, sizes_end, instance_of}
+use Rattle.sq_mapfile.specs.Reading as reading
+use Rattle.sq_mapfile.proofs.Points.{Point, Sizes, MoreSizes, AValue, Values, MoreValues, ASetting, AnItem, Items, AKind, Instances, tunable_owes, call_owes, instance_owes, ways, start}
+
+-- ---- sizes
+
+first_size_front : {i ts j l : List Token} {rest : List SizeText} → Front size_shapes i ts j → Derives (grammar.MoreSizes rest) j l → Derives (grammar.Sizes (size_at 0 ts ∷ rest)) i l
+first_size_front (next a_word (next (a_sign _) (next a_number none))) d = grammar.first_size d
+
+next_size_front : {i ts j l : List Token} {rest : List SizeText} → Front next_size_shapes i ts j → Derives (grammar.MoreSizes rest) j l
+    → Derives (grammar.MoreSizes (size_at 1 ts ∷ rest)) i l
+next_size_front (next (a_sign _) (next a_word (next (a_sign _) (next a_number none)))) d = grammar.next_size d
+
+abbrev IsFirstSize : List Token → SizeText → List Token → Type 0
+IsFirstSize i x j = (rest : List SizeText) (l : List Token) → Derives (grammar.MoreSizes rest) j l → Derives (grammar.Sizes (x ∷ rest)) i l
+
+abbrev AreMoreSizes : List SizeText → List Token → List Token → Type 0
+AreMoreSizes xs i j = Derives (grammar.MoreSizes xs) i j
+
+first_size_reads : (n : ℕ) (i : List Token) (K : List (Owed Point)) → length i ≤ suc n → Reading ways n (wants size_shapes K) K (IsFirstSize i) i (reading.first_size i)
+first_size_reads n i K le = phrase (all size_shapes i) _ (shapes_read size_shapes n i K refl (omega arith))
+    (λ ts j few front. given (size_at 0 ts) j few (λ rest l d. first_size_front front d))
+
+next_size_reads : (n : ℕ) (i : List Token) (K : List (Owed Point)) → length i ≤ suc n
+    → Reading ways n (wants next_size_shapes K) K (λ x j. (rest : List SizeText) (l : List Token) → AreMoreSizes rest j l → AreMoreSizes (x ∷ rest) i l) i (reading.next_size i)
+next_size_reads n i K le = phrase (all next_size_shapes i) _ (shapes_read next_size_shapes n i K refl (omega arith))
+    (λ ts j few front. given (size_at 1 ts) j few (λ rest l d. next_size_front front d))
+
+more_sizes_read : (n : ℕ) (x : SizeText) (i : List Token) (K : List (Owed Point)) → length i ≤ n
+    → Reading ways n (At MoreSizes ∷ K) (Want (s.Sign g.ParenClose) ∷ K) (Adds AreMoreSizes (x ∷ []) i) i (reading.more_sizes x i)
+unfolding reading.more_sizes
+more_sizes_read n x i K le = weaken (length i) (until (s.Sign g.ParenClose) reading.next_size (length i) (x ∷ []) i) le
+    (until_reads AreMoreSizes (λ i. grammar.no_more_sizes) (s.Sign g.ParenClose) reading.next_size (At MoreSizes ∷ K) (Want (s.Sign g.ParenClose) ∷ K) (wants next_size_shapes (At MoreSizes ∷ K))
+    (λ t. refl) refl refl (λ n i le. next_size_reads n i (At MoreSizes ∷ K) le) (length i) (x ∷ []) i (omega arith))
+
+sizes_added : (x : SizeText) (i j l : List Token) (every : List SizeText) → IsFirstSize i x j → Adds AreMoreSizes (x ∷ []) j every l → Derives (grammar.Sizes every) i l
+sizes_added x i j l every first (xs, is, more) = subst (λ every. Derives (grammar.Sizes every) i l) (sym is) (first xs l more)
+
+sizes_read : (n : ℕ) (i : List Token) (K : List (Owed Point)) → length i ≤ n → Reading ways n (At Sizes ∷ K) (Want (s.Sign g.ParenClose) ∷ K) (λ xs j. Derives (grammar.Sizes xs) i j) i (reading.sizes i)
+sizes_read n i K le = choice_reads (At Sizes ∷ K) (Want (s.Sign g.ParenClose) ∷ K) (wants size_shapes (At MoreSizes ∷ K)) (s.Sign g.ParenClose) (pure []) reading.some_sizes i (λ t. refl) refl
+    (given [] i le grammar.no_size)
+    (phrase (reading.first_size i) _ (first_size_reads n i (At MoreSizes ∷ K) (omega arith))
+    (λ x j few first. gives_more (reading.more_sizes x j) (λ every l more. sizes_added x i j l every first more) (more_sizes_read n x j K few)))
+
+-- ---- settings
+
+negative_front : {i ts j : List Token} → Front minus_shapes i ts j → Derives (grammar.AValue (neg_ℤ (number_in (slice_get ts 1)))) i j
+negative_front (next (a_sign _) (next a_number none)) = grammar.negative
+
+plain_front : {i ts j : List Token} → Front (s.AnyNumber ∷ []) i ts j → Derives (grammar.AValue (number_in (slice_get ts 0))) i j
+plain_front (next a_number none) = grammar.plain
+
+next_value_front : {i ts j l m : List Token} {x : ℤ} {rest : List ℤ} → Front (s.Sign g.Comma ∷ []) i ts j → Derives (grammar.AValue x) j l → Derives (grammar.MoreValues rest) l m
+    → Derives (grammar.MoreValues (x ∷ rest)) i m
+next_value_front (next (a_sign _) none) d more = grammar.next_value d more
+
+many_front : {i ts j l us m : List Token} {xs : List ℤ} → Front (s.Sign g.BracketOpen ∷ []) i ts j → Derives (grammar.Values xs) j l → Front (s.Sign g.BracketClose ∷ []) l us m
+    → Derives (grammar.ASetting (Many xs)) i m
+many_front (next (a_sign _) none) d (next (a_sign _) none) = grammar.many d
+
+value_reads : (n : ℕ) (i : List Token) (K : List (Owed Point)) → length i ≤ suc n → Reading ways n (At AValue ∷ K) K (λ x j. Derives (grammar.AValue x) i j) i (reading.value i)
+value_reads n i K le = choice_reads (At AValue ∷ K) (wants minus_shapes K) (Want s.AnyNumber ∷ K) (s.Sign g.Minus) reading.negative reading.plain i (λ t. refl) refl
+    (phrase (all minus_shapes i) _ (shapes_read minus_shapes n i K refl (omega arith)) (λ ts j few front. given (neg_ℤ (number_in (slice_get ts 1))) j few (negative_front front)))
+    (phrase (all (s.AnyNumber ∷ []) i) _ (shapes_read (s.AnyNumber ∷ []) n i K refl (omega arith)) (λ ts j few front. given (number_in (slice_get ts 0)) j few (plain_front front)))
+
+abbrev AreMoreValues : List ℤ → List Token → List Token → Type 0
+AreMoreValues xs i j = Derives (grammar.MoreValues xs) i j
+
+next_value_reads : (n : ℕ) (i : List Token) (K : List (Owed Point)) → length i ≤ suc n
+    → Reading ways n (Want (s.Sign g.Comma) ∷ At AValue ∷ K) K (λ x j. (rest : List ℤ) (l : List Token) → AreMoreValues rest j l → AreMoreValues (x ∷ rest) i l) i (reading.next_value i)
+next_value_reads n i K le = phrase (all (s.Sign g.Comma ∷ []) i) _ (shapes_read (s.Sign g.Comma ∷ []) n i (At AValue ∷ K) refl (omega arith))
+    (λ ts j few front. gives_more (reading.value j) (λ x l d rest m more. next_value_front front d more) (value_reads n j K (omega arith)))
+
+more_values_read : (n : ℕ) (x : ℤ) (i : List Token) (K : List (Owed Point)) → length i ≤ n
+    → Reading ways n (At MoreValues ∷ K) (Want (s.Sign g.BracketClose) ∷ K) (Adds AreMoreValues (x ∷ []) i) i (reading.more_values x i)
+unfolding reading.more_values
+more_values_read n x i K le = weaken (length i) (until (s.Sign g.BracketClose) reading.next_value (length i) (x ∷ []) i) le
+    (until_reads AreMoreValues (λ i. grammar.no_more_values) (s.Sign g.BracketClose) reading.next_value (At MoreValues ∷ K) (Want (s.Sign g.BracketClose) ∷ K)
+    (Want (s.Sign g.Comma) ∷ At AValue ∷ At MoreValues ∷ K) (λ t. refl) refl refl (λ n i le. next_value_reads n i (At MoreValues ∷ K) le) (length i) (x ∷ []) i (omega arith))
+
+values_added : (x : ℤ) (i j l : List Token) (every : List ℤ) → Derives (grammar.AValue x) i j → Adds AreMoreValues (x ∷ []) j every l → Derives (grammar.Values every) i l
+values_added x i j l every first (xs, is, more) = subst (λ every. Derives (grammar.Values every) i l) (sym is) (grammar.first_value first more)
+
+values_read : (n : ℕ) (i : List Token) (K : List (Owed Point)) → length i ≤ n → Reading ways n (At Values ∷ K) (Want (s.Sign g.BracketClose) ∷ K) (λ xs j. Derives (grammar.Values xs) i j) i (reading.values i)
+values_read n i K le = choice_reads (At Values ∷ K) (Want (s.Sign g.BracketClose) ∷ K) (At AValue ∷ At MoreValues ∷ K) (s.Sign g.BracketClose) (pure []) reading.some_values i (λ t. refl) refl
+    (given [] i le grammar.no_value)
+    (phrase (reading.value i) _ (value_reads n i (At MoreValues ∷ K) (omega arith))
+    (λ x j few first. gives_more (reading.more_values x j) (λ every l more. values_added x i j l every first more) (more_values_read n x j K few)))
+
+setting_reads : (n : ℕ) (i : List Token) (K : List (Owed Point)) → length i ≤ suc n → Reading ways n (At ASetting ∷ K) K (λ x j. Derives (grammar.ASetting x) i j) i (reading.setting i)
+setting_reads n i K le = choice_reads (At ASetting ∷ K) (Want (s.Sign g.BracketOpen) ∷ At Values ∷ K) (At AValue ∷ K) (s.Sign g.BracketOpen) reading.many reading.one i (λ t. refl) refl
+    (phrase (all (s.Sign g.BracketOpen ∷ []) i) _ (shapes_read (s.Sign g.BracketOpen ∷ []) n i (At Values ∷ K) refl (omega arith))
+    (λ ts j few opening. phrase (reading.values j) _ (values_read n j K few)
+    (λ xs l few2 d. phrase (all (s.Sign g.BracketClose ∷ []) l) _ (shapes_read (s.Sign g.BracketClose ∷ []) n l K refl (omega arith))
+    (λ us m few3 closing. given (Many xs) m few3 (many_front opening d closing)))))
+    (phrase (reading.value i) _ (value_reads n i K le) (λ x j few d. given (One x) j few (grammar.one d)))
+
+-- ---- items
+
+tunable_front : {i ts j l us m : List Token} {x : Setting} → Front tunable_shapes i ts j → Derives (grammar.ASetting x) j l → Front (s.Sign g.Semi ∷ []) l us m
+    → Derives (grammar.AnItem (Tunable (word_in (slice_get ts 1)) x)) i m
+tunable_front (next tunable (next a_word (next (a_sign _) none))) d (next (a_sign _) none) = grammar.a_tunable d
+
+call_front : {i ts j : List Token} → Front call_shapes i ts j → Derives (grammar.AnItem (Call (word_in (slice_get ts 1)) (word_in (slice_get ts 3)))) i j
+call_front (next call (next a_word (next (a_sign _) (next a_word (next (a_sign _) none))))) = grammar.a_call
+
+item_reads : (n : ℕ) (i : List Token) (K : List (Owed Point)) → length i ≤ suc n → Reading ways n (At AnItem ∷ K) K (λ x j. Derives (grammar.AnItem x) i j) i (reading.item i)
+item_reads n i K le = choice_reads (At AnItem ∷ K) (Want s.Tunable ∷ (tunable_owes ++ K)) (Want s.Call ∷ (call_owes ++ K)) s.Tunable reading.tunable reading.call i (λ t. refl) refl
+    (phrase (all tunable_shapes i) _ (shapes_read tunable_shapes n i (At ASetting ∷ Want (s.Sign g.Semi) ∷ K) refl (omega arith))
+    (λ ts j few front. phrase (reading.setting j) _ (setting_reads n j (Want (s.Sign g.Semi) ∷ K) (omega arith))
+    (λ x l few2 d. phrase (all (s.Sign g.Semi ∷ []) l) _ (shapes_read (s.Sign g.Semi ∷ []) n l K refl (omega arith))
+    (λ us m few3 semi. given (Tunable (word_in (slice_get ts 1)) x) m few3 (tunable_front front d semi)))))
+    (phrase (all call_shapes i) _ (shapes_read call_shapes n i K refl (omega arith))
+    (λ ts j few front. given (Call (word_in (slice_get ts 1)) (word_in (slice_get ts 3))) j few (call_front front)))
+
+abbrev AreItems : List ItemText → List Token → List Token → Type 0
+AreItems xs i j = Derives (grammar.Items xs) i j
+
+items_read : (n : ℕ) (i : List Token) (K : List (Owed Point)) → length i ≤ n → Reading ways n (At Items ∷ K) (Want (s.Sign g.BraceClose) ∷ K) (λ xs j. Derives (grammar.Items xs) i j) i (reading.items i)
+unfolding reading.items
+items_read n i K le = weaken (length i) (until (s.Sign g.BraceClose) reading.item (length i) [] i) le
+    (gives_more (until (s.Sign g.BraceClose) reading.item (length i) [] i) (λ every j added. subst (λ every. Derives (grammar.Items every) i j) (sym added.1) added.2)
+    (until_reads AreItems (λ i. grammar.no_item) (s.Sign g.BraceClose) reading.item (At Items ∷ K) (Want (s.Sign g.BraceClose) ∷ K) (At AnItem ∷ At Items ∷ K) (λ t. refl) refl refl
+    (λ n i le. gives_more (reading.item i) (λ x j d rest l more. grammar.an_item d more) (item_reads n i (At Items ∷ K) le)) (length i) [] i (omega arith)))
+
+-- ---- instances
+
+inner_front : {i ts j : List Token} → Front (s.Inner ∷ []) i ts j → Derives (grammar.AKind variant.Inner) i j
+inner_front (next inner none) = grammar.inner
+
+leaf_front : {i ts j : List Token} → Front (s.Leaf ∷ []) i ts j → Derives (grammar.AKind variant.Leaf) i j
+leaf_front (next leaf none) = grammar.leaf
+
+kind_reads : (n : ℕ) (i : List Token) (K : List (Owed Point)) → length i ≤ suc n → Reading ways n (At AKind ∷ K) K (λ x j. Derives (grammar.AKind x) i j) i (reading.kind i)
+kind_reads n i K le = choice_reads (At AKind ∷ K) (Want s.Inner ∷ K) (Want s.Leaf ∷ K) s.Inner reading.inner reading.leaf i (λ t. refl) refl
+    (phrase (all (s.Inner ∷ []) i) _ (shapes_read (s.Inner ∷ []) n i K refl (omega arith)) (λ ts j few front. given variant.Inner j few (inner_front front)))
+    (phrase (all (s.Leaf ∷ []) i) _ (shapes_read (s.Leaf ∷ []) n i K refl (omega arith)) (λ ts j few front. given variant.Leaf j few (leaf_front front)))
+
+instance_front : {i ts j l us m o vs q : List Token} {x : VariantKind} {xs : List ItemText} → Front instance_shapes i ts j → Derives (grammar.AKind x) j l → Front level_shapes l us m
+    → Derives (grammar.Items xs) m o → Front (s.Sign g.BraceClose ∷ []) o vs q → Derives (grammar.AnInstance (instance_of ts x us xs)) i q
+instance_front (next instance (next a_word (next (a_sign _) (next a_word (next (a_sign _) none))))) kind (next (a_sign _) (next a_word (next (a_sign _) none))) items (next (a_sign _) none) =
+    grammar.an_instance kind items
+
+instance_reads : (n : ℕ) (i : List Token) (K : List (Owed Point)) → length i ≤ suc n → Reading ways n (Want s.Instance ∷ (instance_owes ++ K)) K (λ x j. Derives (grammar.AnInstance x) i j) i (reading.instance i)
+instance_reads n i K le = phrase (all instance_shapes i) _ (shapes_read instance_shapes n i (At AKind ∷ wants level_shapes (At Items ∷ K)) refl (omega arith))
+    (λ ts j few head. phrase (reading.kind j) _ (kind_reads n j (wants level_shapes (At Items ∷ K)) (omega arith))
+    (λ x l few2 kind. phrase (all level_shapes l) _ (shapes_read level_shapes n l (At Items ∷ K) refl (omega arith))
+    (λ us m few3 level. phrase (reading.items m) _ (items_read n m K few3)
+    (λ xs o few4 items. phrase (all (s.Sign g.BraceClose ∷ []) o) _ (shapes_read (s.Sign g.BraceClose ∷ []) n o K refl (omega arith))
+    (λ vs q few5 closing. given (instance_of ts x us xs) q few5 (instance_front head kind level items closing))))))
+
+abbrev AreInstances : List InstanceText → List Token → List Token → Type 0
+AreInstances xs i j = Derives (grammar.Instances xs) i j
+
+instances_read : (n : ℕ) (i : List Token) → length i ≤ n → Reading ways n (At Instances ∷ []) (Want s.End ∷ []) (λ xs j. Derives (grammar.Instances xs) i j) i (reading.instances i)
+unfolding reading.instances
+instances_read n i le = weaken (length i) (until s.End reading.instance (length i) [] i) le
+    (gives_more (until s.End reading.instance (length i) [] i) (λ every j added. subst (λ every. Derives (grammar.Instances every) i j) (sym added.1) added.2)
+    (until_reads AreInstances (λ i. grammar.no_instance) s.End reading.instance (At Instances ∷ []) (Want s.End ∷ []) (Want s.Instance ∷ (instance_owes ++ At Instances ∷ [])) (λ t. refl) refl refl
+    (λ n i le. gives_more (reading.instance i) (λ x j d rest l more. grammar.one_more_instance d more) (instance_reads n i (At Instances ∷ []) le)) (length i) [] i (omega arith)))
+
+-- ---- the whole
+
+-- the name of the entry and its sizes, and whatever stands after them
+abbrev IsEntry : List Token → Word × List SizeText → List Token → Type 0
+IsEntry i x j = (instances : List InstanceText) (l : List Token) → Derives (grammar.Instances instances) j l → Derives (grammar.AMapping (grammar.mapping x.0 x.1 instances)) i l
+
+entry_front : {i ts j l us m o : List Token} {xs : List SizeText} {ys : List InstanceText} → Front head_shapes i ts j → Derives (grammar.Sizes xs) j l → Front sizes_end l us m
+    → Derives (grammar.Instances ys) m o → Derives (grammar.AMapping (grammar.mapping (word_in (slice_get ts 4)) xs ys)) i o
+entry_front (next mapping (next one (next (a_sign _) (next entry (next a_word (next (a_sign _) none)))))) sizes (next (a_sign _) (next (a_sign _) none)) instances =
+    grammar.a_mapping sizes instances
+
+entry_reads : (n : ℕ) (i : List Token) (K : List (Owed Point)) → length i ≤ n → Reading ways n (wants head_shapes (At Sizes ∷ Want (s.Sign g.Semi) ∷ K)) K (IsEntry i) i (reading.entry i)
+entry_reads n i K le = phrase (all head_shapes i) _ (shapes_read head_shapes n i (At Sizes ∷ Want (s.Sign g.Semi) ∷ K) refl (omega arith))
+    (λ ts j few head. phrase (reading.sizes j) _ (sizes_read n j (Want (s.Sign g.Semi) ∷ K) few)
+    (λ xs l few2 sizes. phrase (all sizes_end l) _ (shapes_read sizes_end n l K refl (omega arith))
+    (λ us m few3 closing. given (word_in (slice_get ts 4), xs) m few3 (λ ys o instances. entry_front head sizes closing instances))))
+
+is_text : {i j : List Token} {x : MappingText} → Derives (grammar.AMapping x) i j → IsLast j → IsText i x
+is_text {i} {x = x} d (p, is) = record { end = p; text = subst (λ j. Derives (grammar.AMapping x) i j) is d }
+
+pub mapping_reads : (i : List Token) → Reading ways (length i) start [] (λ x j. IsText i x) i (reading.mapping i)
+unfolding reading.mapping
+mapping_reads i = phrase (reading.entry i) _ (entry_reads (length i) i (At Instances ∷ []) (omega arith))
+    (λ x j few head. phrase (reading.instances j) _ (instances_read (length i) j few)
+    (λ xs l few2 instances. phrase (all (s.End ∷ []) l) _ (all_reads (s.End ∷ []) (length i) l [] (refl, tt) (omega arith))
+    (λ us m few3 last. finish_reads (length i) (grammar.mapping x.0 x.1 xs) m few3 (λ e. is_text (head xs l instances) (last_front last e)))))

@@ -1,0 +1,9 @@
+use Rattle.std.proofs.Common.{◌≡◌, ◌-◌}
+use Rattle.sq_lexer.specs.declared.token.Sign.TheVariants as g
+use Rattle.sq_shapes.specs.declared.shape.Shape.TheVariants as s
+use Rattle.sq_shapes.specs.Reading.{until}
+use Rattle.sq_mapfile.specs.Reading as spec
+use Rattle.sq_mapfile.proofs.reading.more_values.Given as goal
+
+abbrev pub invariant-loop-turn : goal.invariant-loop-turn
+invariant-loop-turn l = spec.more_values l.fn.first l.fn.tokens ≡ until (s.Sign g.BracketClose) spec.next_value (l._turn-end - l._turn) l.found l.tokens

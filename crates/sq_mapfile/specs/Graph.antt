@@ -1,0 +1,92 @@
+-- The calls of a mapping as they are gathered, the graph that they make, and the search for the first on a cycle.
+use Rattle.std.specs.Prelude.{◌≡◌, ℕ, suc, ◌<◌, ◌≤◌, Bool, false, ◌||◌, List, [], ◌∷◌, ◌++◌, length, nat_eq, nat_lt, if◌then◌else◌, Option, Some, None, slice_index_or}
+use Rattle.std.specs.List.{list_any}
+use Rattle.std.specs.Option.{option_map}
+use Rattle.sq_text.specs.declared.fault.Code.TheVariants as code
+use Rattle.sq_text.specs.declared.fault.Fault.{Fault}
+use Rattle.sq_text.specs.Answers.{fault_place}
+use Rattle.sq_text.specs.First.{IsFirst, HoldsIn}
+use Rattle.sq_text.specs.Places.{is_before, is_same}
+use Rattle.sq_mapfile.specs.declared.tree.ItemText.{ItemText}
+use Rattle.sq_mapfile.specs.declared.tree.InstanceText.{InstanceText}
+use Rattle.sq_mapfile.specs.Names.{Name}
+use Rattle.sq_mapfile.specs.Faults.{fault_at, number}
+use Rattle.sq_mapfile.specs.Cycles.{CallText, IsOnCycle, items_calls, calls_from}
+
+-- ---- gathered
+
+-- the calls of a part come behind those that there were
+abbrev pub Adds : List CallText → List CallText → (List CallText → List CallText) → Type 0
+Adds old new part = (later : List CallText) → new ++ later ≡ old ++ part later
+
+-- the calls of an item, and the tasks with one behind it
+abbrev pub AddsItem : List InstanceText → ℕ → List CallText → List Name → ItemText → List CallText → List Name → Type 0
+AddsItem instances caller old before item new after =
+    (rest : List ItemText) (later : List CallText) → new ++ items_calls instances caller after rest later ≡ old ++ items_calls instances caller before (item ∷ rest) later
+
+-- the calls of an instance, and the names with one behind it
+abbrev pub AddsInstance : List InstanceText → ℕ → List CallText → List Name → InstanceText → List CallText → List Name → Type 0
+AddsInstance instances i old before x new after =
+    (rest : List InstanceText) → new ++ calls_from instances (suc i) after rest ≡ old ++ calls_from instances i before (x ∷ rest)
+
+-- all calls of these instances
+abbrev pub calls_among : List InstanceText → List CallText
+calls_among instances = calls_from instances 0 [] instances
+
+-- ---- the graph
+
+-- caller and callee are among so many instances
+abbrev pub IsWithin : ℕ → CallText → Type 0
+IsWithin count call = (call.caller < count) × (call.callee < count)
+
+-- the instances that an instance calls
+abbrev pub callees_of : List CallText → ℕ → List ℕ
+callees_of [] a = []
+callees_of (call ∷ rest) a = if nat_eq call.caller a then call.callee ∷ callees_of rest a else callees_of rest a
+
+-- one call more in the lists of what the instances call
+abbrev pub AddsCallee : List (List ℕ) → CallText → List (List ℕ) → Type 0
+AddsCallee old call new =
+    (a : ℕ) (rest : List CallText) → a < length old → slice_index_or new a [] ++ callees_of rest a ≡ slice_index_or old a [] ++ callees_of (call ∷ rest) a
+
+-- ---- walks
+
+abbrev pub has : List ℕ → ℕ → Bool
+has xs x = list_any (nat_eq x) xs
+
+-- the keys of a set after others are inserted
+abbrev pub with_one : List ℕ → ℕ → List ℕ
+with_one seen x = if has seen x then seen else seen ++ x ∷ []
+
+abbrev pub with_all : List ℕ → List ℕ → List ℕ
+with_all seen [] = seen
+with_all seen (x ∷ xs) = with_all (with_one seen x) xs
+
+-- ---- ranks
+
+-- an instance without a rank has 0
+abbrev pub rank_of : List ℕ → ℕ → ℕ
+rank_of ranks i = slice_index_or ranks i 0
+
+-- the call doesn't lead to a higher rank
+abbrev pub NeverRises : List ℕ → CallText → Type 0
+NeverRises ranks call = rank_of ranks call.callee ≤ rank_of ranks call.caller
+
+-- the call leads to a lower rank
+abbrev pub falls : List ℕ → CallText → Bool
+falls ranks call = nat_lt (rank_of ranks call.callee) (rank_of ranks call.caller)
+
+-- ---- the first call on a cycle
+
+-- the fault of a call on a cycle
+abbrev pub cycle_at : CallText → Fault
+cycle_at call = fault_at code.Cycle call.name.place call.name.name
+
+-- what is found is no later in the text than the call
+abbrev pub is_behind : Option CallText → CallText → Bool
+is_behind None call = false
+is_behind (Some first) call = is_before first.name.place call.name.place || is_same first.name.place call.name.place
+
+-- of the calls that are looked at, this is the first on a cycle of all calls
+abbrev pub IsFirstOnCycle : List CallText → List CallText → Option CallText → Type 0
+IsFirstOnCycle calls part found = IsFirst fault_place number (HoldsIn (IsOnCycle calls) part) (option_map cycle_at found)

@@ -1,0 +1,16 @@
+pub mod Cycles
+pub mod Faults
+pub mod Finding
+pub mod Given
+pub mod Grammar
+pub mod Graph
+pub mod Mappings
+pub mod Names
+pub mod Parts
+pub mod Reading
+pub mod Resolving
+pub mod Scopes
+pub mod Sound
+pub mod Tables
+pub mod Wanted
+pub mod Wants

@@ -1,0 +1,103 @@
+-- Which mapping a text stands for, and every fault of a mapping file.
+use Rattle.std.specs.Prelude.{◌≡◌, ◌⊎◌, ℕ, List, [], ◌∷◌, map, Some}
+use Rattle.sq_text.specs.declared.fault.Phase.TheVariants as phase
+use Rattle.sq_text.specs.declared.fault.Fault.{Fault}
+use Rattle.sq_text.specs.First.{InTurn}
+use Rattle.sq_lexer.specs.declared.token.Token.{Token}
+use Rattle.sq_lexer.specs.Tokens.{AreTokens}
+use Rattle.sq_lexer.specs.Faults.{FitsFile, HasFault}
+use Rattle.sq_shapes.specs.declared.held.Word.{Word}
+use Rattle.sq_shapes.specs.Texts as texts
+use Rattle.sq_ast.specs.declared.program.Program.{Program}
+use Rattle.sq_machfile.specs.declared.level.Level.{Level}
+use Rattle.sq_mapfile.specs.declared.mapping.Setting.{Setting}
+use Rattle.sq_mapfile.specs.declared.mapping.Tuning.{Tuning}
+use Rattle.sq_mapfile.specs.declared.mapping.Route.{Route}
+use Rattle.sq_mapfile.specs.declared.mapping.Instance.{Instance}
+use Rattle.sq_mapfile.specs.declared.mapping.SizeSet.{SizeSet}
+use Rattle.sq_mapfile.specs.declared.mapping.Mapping.{Mapping}
+use Rattle.sq_mapfile.specs.declared.tree.SizeText.{SizeText}
+use Rattle.sq_mapfile.specs.declared.tree.ItemText.{ItemText}
+use Rattle.sq_mapfile.specs.declared.tree.ItemText.TheVariants.{Tunable, Call}
+use Rattle.sq_mapfile.specs.declared.tree.InstanceText.{InstanceText}
+use Rattle.sq_mapfile.specs.declared.tree.MappingText.{MappingText}
+use Rattle.sq_mapfile.specs.Names.{index_of, level_of}
+use Rattle.sq_mapfile.specs.Grammar.{IsText}
+use Rattle.sq_mapfile.specs.Faults.{NameFault}
+use Rattle.sq_mapfile.specs.Cycles.{CycleFault}
+
+-- ---- names resolved
+
+abbrev pub tunings_of : List ItemText → List Tuning
+tunings_of [] = []
+tunings_of (Tunable name setting ∷ rest) = record { name = name.name; setting = setting } ∷ tunings_of rest
+tunings_of (Call task name ∷ rest) = tunings_of rest
+
+-- the routes of the calls, in the order of the text, each to the instance of the name
+pub data AreRoutes (instances : List InstanceText) : List ItemText → List Route → Type 0 where
+  no_route : AreRoutes instances [] []
+  no_call : {name : Word} {setting : Setting} {items : List ItemText} {routes : List Route}
+      → AreRoutes instances items routes → AreRoutes instances (Tunable name setting ∷ items) routes
+  a_route : {task name : Word} {i : ℕ} {items : List ItemText} {routes : List Route}
+      → index_of instances name.name ≡ Some i → AreRoutes instances items routes
+      → AreRoutes instances (Call task name ∷ items) (record { task = task.name; instance = i } ∷ routes)
+
+pub record IsInstance (levels : List Level) (instances : List InstanceText) (x : InstanceText) (instance : Instance) : Type 0 where
+  pub name : instance.name ≡ x.name.name
+  pub task : instance.task ≡ x.task.name
+  pub kind : instance.kind ≡ x.kind
+  pub level : level_of levels x.level.name ≡ Some instance.level
+  pub tunings : instance.tunings ≡ tunings_of x.items
+  pub routes : AreRoutes instances x.items instance.routes
+
+pub data AreInstances (levels : List Level) (instances : List InstanceText) : List InstanceText → List Instance → Type 0 where
+  none_left : AreInstances levels instances [] []
+  one_more : {x : InstanceText} {instance : Instance} {xs : List InstanceText} {rest : List Instance}
+      → IsInstance levels instances x instance → AreInstances levels instances xs rest → AreInstances levels instances (x ∷ xs) (instance ∷ rest)
+
+abbrev pub size_set : SizeText → SizeSet
+size_set size = record { name = size.name.name; value = size.value }
+
+-- what the file says, with each name as the index of what it names
+pub record Resolves (levels : List Level) (m : MappingText) (mapping : Mapping) : Type 0 where
+  pub entry : index_of m.instances m.entry.name ≡ Some mapping.entry
+  pub sizes : mapping.sizes ≡ map size_set m.sizes
+  pub instances : AreInstances levels m.instances m.instances mapping.instances
+
+-- ---- texts
+
+-- the text, which is no longer than a mapping file may be, is written by the grammar as this mapping
+pub record Writes (text : List ℕ) (m : MappingText) : Type 0 where
+  pub tokens : List Token
+  pub tokens_of : AreTokens text tokens
+  pub fits : FitsFile phase.Mapping text
+  pub grammar : IsText tokens m
+
+-- the first token with which no text of the grammar begins
+abbrev pub IsSyntaxFault : List Token → Fault → Type 0
+IsSyntaxFault = texts.IsSyntaxFault IsText phase.Mapping
+
+pub record SyntaxFault (text : List ℕ) (f : Fault) : Type 0 where
+  pub tokens : List Token
+  pub tokens_of : AreTokens text tokens
+  pub faulty : IsSyntaxFault tokens f
+
+-- a rule of the mapping is broken: one of names, or that no call lies on a cycle
+abbrev pub BreaksRule : Program → List Level → MappingText → Fault → Type 0
+BreaksRule program levels m f = NameFault program levels m f ⊎ CycleFault m f
+
+pub record RuleFault (program : Program) (levels : List Level) (text : List ℕ) (f : Fault) : Type 0 where
+  pub mapping : MappingText
+  pub writes : Writes text mapping
+  pub broken : BreaksRule program levels mapping f
+
+-- Every fault of a mapping file, for a program and a machine of these levels: of the file and its tokens; where there is none, of the grammar;
+-- and where there is none, of the rules.
+abbrev pub MappingFault : Program → List Level → List ℕ → Fault → Type 0
+MappingFault program levels text = InTurn (HasFault phase.Mapping text) (InTurn (SyntaxFault text) (RuleFault program levels text))
+
+-- the text stands for this mapping onto a machine of these levels
+pub record StandsFor (levels : List Level) (text : List ℕ) (mapping : Mapping) : Type 0 where
+  pub written : MappingText
+  pub writes : Writes text written
+  pub resolves : Resolves levels written mapping
