@@ -41,6 +41,7 @@ impl MemFiles {
         ensures ok { OnOk result ((q : List ℕ) → mem_content self.new q ≡ (if bytes_eq q name.now then Some bytes.now else mem_content self.old q)) }
         ensures err { OnErr result ((q : List ℕ) → mem_content self.new q ≡ mem_content self.old q) }
         ensures reads { (mem_read self.new ≡ mem_read self.old) × (mem_failing_read self.new ≡ mem_failing_read self.old) }
+        ensures counts { (self.new.faults ≡ self.old.faults) × (self.new.misses ≡ self.old.misses) }
     {
         let name = String::from_str(self.alloc, name)?;
         let bytes = bytes.to_vec(self.alloc)?;
@@ -52,6 +53,7 @@ impl MemFiles {
     pub fn fail_at(&mut self, read: u64)
         ensures content { (q : List ℕ) → mem_content self.new q ≡ mem_content self.old q }
         ensures reads { (mem_read self.new ≡ mem_read self.old) × (mem_failing_read self.new ≡ read) }
+        ensures counts { (self.new.faults ≡ self.old.faults) × (self.new.misses ≡ self.old.misses) }
     {
         self.fail = read;
     }
