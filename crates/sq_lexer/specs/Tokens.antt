@@ -7,7 +7,8 @@ use Rattle.sq_lexer.specs.declared.token.Kind.{Kind}
 use Rattle.sq_lexer.specs.declared.token.Kind.TheVariants as kind
 use Rattle.sq_lexer.specs.declared.token.Sign.{Sign}
 use Rattle.sq_lexer.specs.declared.token.Token.{Token}
-use Rattle.sq_lexer.specs.Bytes.{is_blank, is_letter, is_digit, is_in_word, is_in_line, first_is, begins_with, has_within, number_of, place_past, start}
+use Rattle.sq_lexer.specs.Bytes.{is_blank, is_letter, is_digit, is_in_word, is_in_line, first_is, begins_with, has_within, number_of}
+use Rattle.sq_text.specs.Places.{place_past, start}
 use Rattle.sq_lexer.specs.Signs.{spelling, IsLongest}
 
 abbrev pub begins_comment : List ℕ → Bool

@@ -2,6 +2,7 @@
 
 ghost use Rattle.std.specs.Prelude.{◌≡◌, ◌≢◌, ◌<◌, ◌≤◌, ◌+◌, ◌^◌, ℕ, List, ◌++◌, length, OnOk, IfOk, None, Some};
 ghost use Rattle.sq_text.specs.Answers.{Gives, Refuses, IfRefused};
+ghost use Rattle.sq_text.specs.Places.{place_past};
 ghost use Rattle.sq_text.specs.declared.fault.Fault.{Fault};
 ghost use Rattle.sq_lexer.specs.declared.token.Token.{Token};
 ghost use Rattle.sq_lexer.specs.Bytes as bytes;
@@ -40,30 +41,13 @@ fn refusal(alloc: Global, phase: Phase, code: Code, place: Option<Place>) -> Sto
     })
 }
 
-fn place_after(place: Place, b: u8) -> Place
-    requires { (place.line < 2 ^ 31) × (place.col < 2 ^ 31) }
-    ensures { result ≡ bytes.place_after place b }
-{
-    if b == b'\n' {
-        Place {
-            line: place.line + 1,
-            col: 1,
-        }
-    } else {
-        Place {
-            line: place.line,
-            col: place.col + 1,
-        }
-    }
-}
-
 /// The place after these bytes, the first of which is at the place.
 fn place_past(mut place: Place, text: &[u8]) -> Place
     requires { (place.line + length text.now < 2 ^ 31) × (place.col + length text.now < 2 ^ 31) }
-    ensures { result ≡ bytes.place_past place text.now }
+    ensures { result ≡ place_past place text.now }
 {
     for b in text {
-        place = place_after(place, *b);
+        place = place.after(*b);
     }
     place
 }
