@@ -10,8 +10,8 @@ use Rattle.sq_num.specs.Elements.{width, cell}
 use Rattle.std.proofs.Math.Nat.{add-mul, mul-div_cancel}
 use Rattle.std.proofs.lemmas.Nat.{mul-le}
 use Rattle.std.proofs.lemmas.List.{length-take}
-use Rattle.sq_arrays.specs.declared.end.InputEnd.{InputEnd}
-use Rattle.sq_arrays.specs.declared.end.InputEnd.TheVariants.{Refused, Failed, Absent}
+use Rattle.sq_arrays.specs.declared.refusal.InputEnd.{InputEnd}
+use Rattle.sq_arrays.specs.declared.refusal.InputEnd.TheVariants.{Refused, Failed, Absent}
 use Rattle.sq_arrays.specs.Steps.{Fails}
 use Rattle.sq_arrays.specs.ArrayText.{Fault, Rest, next_value, next_values, ◌>>=◌}
 use Rattle.sq_arrays.proofs.Fronts.{with_front, front_none}

@@ -2,7 +2,7 @@
 use Rattle.std.proofs.Common.{◌≡◌, ℕ, ◌<◌, Bool, true, cond, List, [], ◌∷◌, length, refl, ◌∙◌, ap, arith, Ok, Err}
 use Rattle.sq_text.specs.declared.place.Place.{Place}
 use Rattle.sq_arrays.specs.declared.window.Ahead.{Ahead}
-use Rattle.sq_arrays.specs.declared.end.InputCode.TheVariants.{LimitFile, Extra}
+use Rattle.sq_arrays.specs.declared.refusal.InputCode.TheVariants.{LimitFile, Extra}
 use Rattle.sq_arrays.specs.Window.{PassedRun}
 use Rattle.sq_arrays.specs.ArrayText.{Rest, past, finish_at, finished}
 use Rattle.sq_arrays.proofs.WordsRead.{past_done}

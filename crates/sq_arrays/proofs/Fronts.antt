@@ -5,8 +5,8 @@ use Rattle.std.proofs.lemmas.Slice.{take-put_mid}
 use Rattle.std.proofs.lemmas.Grind.{flat_map-append}
 use Rattle.std.specs.List.{flat_map}
 use borrow.Rule.Slice.PartMut.{put_mid}
-use Rattle.sq_arrays.specs.declared.end.InputEnd.{InputEnd}
-use Rattle.sq_arrays.specs.declared.end.InputEnd.TheVariants.{Refused, Failed, Absent}
+use Rattle.sq_arrays.specs.declared.refusal.InputEnd.{InputEnd}
+use Rattle.sq_arrays.specs.declared.refusal.InputEnd.TheVariants.{Refused, Failed, Absent}
 use Rattle.sq_arrays.specs.Steps.{Fails}
 use Rattle.sq_num.specs.Elements.{cell}
 use Rattle.sq_num.specs.declared.Elem.{Elem}

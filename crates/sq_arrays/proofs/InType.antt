@@ -1,25 +1,35 @@
 -- What is read is of the type.
-use Rattle.std.proofs.Common.{◌≡◌, ℕ, zero, suc, ◌<◌, Bool, true, false, cond, List, [], ◌∷◌, length, refl, ap, subst, arith, Result, Ok, Err, ℤ}
+use Rattle.std.proofs.Common.{◌≡◌, ℕ, zero, suc, ◌+◌, ◌<◌, ◌≤◌, Bool, true, false, cond, List, [], ◌∷◌, length, refl, ap, subst, arith, Result, Ok, Err, ℤ}
 use Rattle.std.specs.Prelude.{pos, All}
 use Rattle.std.proofs.lemmas.Int.{ints}
-use Rattle.std.proofs.lemmas.Bool.{ltb-true}
+use Rattle.std.proofs.lemmas.Bool.{leb-true}
 use Rattle.std.proofs.lemmas.List.Elements.{All-nil, All-cons}
 use Rattle.sq_num.specs.declared.Elem.{Elem}
 use Rattle.sq_num.specs.declared.Elem.TheVariants.{Byte, Int, Long}
 use Rattle.sq_num.specs.Elements.{least, greatest, IsValue}
-use Rattle.sq_arrays.specs.declared.end.InputCode.{InputCode}
-use Rattle.sq_arrays.specs.declared.end.InputCode.TheVariants.{Syntax, Range, Short}
+use Rattle.sq_arrays.specs.declared.refusal.InputCode.{InputCode}
+use Rattle.sq_arrays.specs.declared.refusal.InputCode.TheVariants.{Syntax, Range, Short}
 use Rattle.sq_arrays.specs.ArrayText.{Fault, Rest, Word, next_word, value_of, with_place, next_value, next_values, fits, signed, same_text, array_word, is_number, is_minus, number_of, digits_of, ◌>>=◌}
 use Rattle.sq_arrays.proofs.Adding.{consed}
 
 in_range : (e : Elem) (minus : Bool) (n : ℕ) → fits e minus n ≡ true → IsValue e (signed minus n)
 unfolding least greatest
-in_range Byte true n h = let k : n < 1 = ltb-true n 1 h in record { low = omega (arith, ints, k); high = omega (arith, ints, k) }
-in_range Byte false n h = let k : n < 256 = ltb-true n 256 h in record { low = omega (arith, ints, k); high = omega (arith, ints, k) }
-in_range Int true n h = let k : n < 2147483649 = ltb-true n 2147483649 h in record { low = omega (arith, ints, k); high = omega (arith, ints, k) }
-in_range Int false n h = let k : n < 2147483648 = ltb-true n 2147483648 h in record { low = omega (arith, ints, k); high = omega (arith, ints, k) }
-in_range Long true n h = let k : n < 9223372036854775809 = ltb-true n 9223372036854775809 h in record { low = omega (arith, ints, k); high = omega (arith, ints, k) }
-in_range Long false n h = let k : n < 9223372036854775808 = ltb-true n 9223372036854775808 h in record { low = omega (arith, ints, k); high = omega (arith, ints, k) }
+in_range Byte true n h = let k : n ≤ 0 = leb-true n 0 h in record { low = omega (arith, ints, k); high = omega (arith, ints, k) }
+in_range Byte false n h = let k : n ≤ 255 = leb-true n 255 h in record { low = omega (arith, ints, k); high = omega (arith, ints, k) }
+in_range Int true n h = let k : n ≤ 2147483648 = leb-true n 2147483648 h in record { low = omega (arith, ints, k); high = omega (arith, ints, k) }
+in_range Int false n h = let k : n ≤ 2147483647 = leb-true n 2147483647 h in record { low = omega (arith, ints, k); high = omega (arith, ints, k) }
+in_range Long true n h = let k : n ≤ 9223372036854775808 = leb-true n 9223372036854775808 h in record { low = omega (arith, ints, k); high = omega (arith, ints, k) }
+in_range Long false n h = let k : n ≤ 9223372036854775807 = leb-true n 9223372036854775807 h in record { low = omega (arith, ints, k); high = omega (arith, ints, k) }
+
+-- a number that fits has 64 bits
+pub fits_within : (e : Elem) (minus : Bool) (n : ℕ) → fits e minus n ≡ true → n < cond minus 9223372036854775808 9223372036854775807 + 1
+unfolding least greatest
+fits_within Byte true n h = let k : n ≤ 0 = leb-true n 0 h in omega (arith, k)
+fits_within Byte false n h = let k : n ≤ 255 = leb-true n 255 h in omega (arith, k)
+fits_within Int true n h = let k : n ≤ 2147483648 = leb-true n 2147483648 h in omega (arith, k)
+fits_within Int false n h = let k : n ≤ 2147483647 = leb-true n 2147483647 h in omega (arith, k)
+fits_within Long true n h = let k : n ≤ 9223372036854775808 = leb-true n 9223372036854775808 h in omega (arith, k)
+fits_within Long false n h = let k : n ≤ 9223372036854775807 = leb-true n 9223372036854775807 h in omega (arith, k)
 
 picked : (a b c : Bool) (v w : ℤ) → cond {A = Result ℤ InputCode} a (Err Short) (cond b (cond c (Ok v) (Err Range)) (Err Syntax)) ≡ Ok w → (c ≡ true) × (v ≡ w)
 picked true b c v w h = cc

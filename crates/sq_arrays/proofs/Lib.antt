@@ -3,13 +3,13 @@ pub mod Looking
 pub mod Windows
 pub mod WordsRead
 pub mod Tied
-pub mod Judged
+pub mod Observed
 pub mod Fronts
 pub mod Finishing
 pub mod Whole
 pub mod Writing
-pub mod Extents
 pub mod Rows
 pub mod Adding
+pub mod Putting
 pub mod Arrays
 pub mod InType

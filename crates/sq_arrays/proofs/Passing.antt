@@ -6,7 +6,8 @@ use Rattle.std.proofs.Math.Seq.{take-add}
 use Rattle.std.proofs.lemmas.Bool.Decides.{nat_tests}
 use Rattle.std.specs.List.{fold}
 use Rattle.sq_text.specs.declared.place.Place.{Place}
-use Rattle.sq_arrays.specs.Words.{is_in, step, along}
+use Rattle.sq_text.specs.Places.{place_after}
+use Rattle.sq_arrays.specs.Words.{is_in, along}
 use Rattle.sq_arrays.specs.Window.{AreIn, Stops, Passed}
 
 pub are_in_both : (blank : Bool) (xs ys : List ℕ) → AreIn blank xs → AreIn blank ys → AreIn blank (xs ++ ys)
@@ -39,17 +40,17 @@ one_more bytes start n low high =
     ∙ take_more (drop start bytes) (n - start) 0 (omega (arith, length-drop start bytes))
     ∙ ap (λ (b : ℕ). take (n - start) (drop start bytes) ++ b ∷ []) (get_or-drop start bytes (n - start) 0 ∙ ap (λ (k : ℕ). get_or bytes k 0) s)
 
-step_line : (p : Place) (b : ℕ) → ((step p b).line ≤ p.line + 1) × ((step p b).col ≤ p.col + 1)
+step_line : (p : Place) (b : ℕ) → ((place_after p b).line ≤ p.line + 1) × ((place_after p b).col ≤ p.col + 1)
 step_line p b = grind (arith, nat_tests)
 
-pub going_more : (blank : Bool) (from to : Place) (bytes : List ℕ) (start n : ℕ) → start ≤ n → n < length bytes → Going blank from bytes start n to → is_in blank (get_or bytes n 0) ≡ true → Going blank from bytes start (n + 1) (step to (get_or bytes n 0))
+pub going_more : (blank : Bool) (from to : Place) (bytes : List ℕ) (start n : ℕ) → start ≤ n → n < length bytes → Going blank from bytes start n to → is_in blank (get_or bytes n 0) ≡ true → Going blank from bytes start (n + 1) (place_after to (get_or bytes n 0))
 going_more blank from to bytes start n low high going is =
     let more = one_more bytes start n low high in
     let front : List ℕ = take (n - start) (drop start bytes) in
     let grows = step_line to (get_or bytes n 0) in
     record {
       each = rw more (are_in_both blank front (get_or bytes n 0 ∷ []) going.each (is, tt));
-      place = rw (more, fold-append step from front (get_or bytes n 0 ∷ [])) (ap (λ (p : Place). step p (get_or bytes n 0)) going.place);
+      place = rw (more, fold-append place_after from front (get_or bytes n 0 ∷ [])) (ap (λ (p : Place). place_after p (get_or bytes n 0)) going.place);
       line = omega (arith, grows.0, going.line);
       col = omega (arith, grows.1, going.col);
     }
@@ -69,7 +70,7 @@ going_done next blank from to bytes start n end before after low high going judg
   whole = two_parts bytes start n end low high;
   each = going.each;
   place = going.place;
-  judge = judged;
+  observer = judged;
 }
 
 pub stops_end : (blank : Bool) (bytes : List ℕ) (n end : ℕ) → end ≤ n → Stops blank (take (end - n) (drop n bytes))

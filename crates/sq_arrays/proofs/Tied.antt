@@ -3,14 +3,15 @@ use Rattle.std.proofs.Common.{◌≡◌, ℕ, ◌+◌, ◌-◌, ◌*◌, ◌<◌
 use Rattle.std.proofs.lemmas.List.{drop_more, drop_all}
 use Rattle.std.proofs.lemmas.Bool.Decides.{nat_tests}
 use Rattle.std.specs.List.{fold}
-use Rattle.sq_arrays.specs.declared.end.InputCode.{InputCode}
-use Rattle.sq_arrays.specs.declared.end.InputCode.TheVariants.{Range, Short}
+use Rattle.sq_arrays.specs.declared.refusal.InputCode.{InputCode}
+use Rattle.sq_arrays.specs.declared.refusal.InputCode.TheVariants.{Range, Short}
 use Rattle.sq_num.specs.declared.Elem.{Elem}
 use Rattle.sq_num.specs.declared.Elem.TheVariants.{Byte, Int, Long}
+use Rattle.sq_num.specs.Elements.{least, greatest}
 use Rattle.sq_arrays.specs.declared.number.Number.{Number}
 use Rattle.sq_arrays.specs.ArrayText.{same_text, array_word, is_digit, is_minus, digits_of, all_digits, some_digits, is_number, number_of, fits, signed, value_of, same_of, array_of}
-use Rattle.sq_arrays.specs.declared.same.Same.{Same}
-use Rattle.sq_arrays.specs.Same.{same_step, same_by, array_by}
+use Rattle.sq_arrays.specs.declared.exact.ExactText.{ExactText}
+use Rattle.sq_arrays.specs.Exact.{same_step, same_by, array_by}
 use Rattle.sq_arrays.specs.Numbers.{match_step, more, number_step, no_number, value_by}
 
 cmp_cases : (a b : ℕ) → (a < b) ⊎ (b ≤ a)
@@ -163,6 +164,7 @@ size_is b bs false is number =
     ∙ sym (ap (λ (v : Bool). sat (number_of 0 (cond v bs (b ∷ bs)))) is)
 
 fits_sat : (e : Elem) (minus : Bool) (n : ℕ) → fits e minus (sat n) ≡ fits e minus n
+unfolding least greatest
 fits_sat Byte true n = grind (arith, nat_tests)
 fits_sat Byte false n = grind (arith, nat_tests)
 fits_sat Int true n = grind (arith, nat_tests)
@@ -171,6 +173,7 @@ fits_sat Long true n = grind (arith, nat_tests)
 fits_sat Long false n = grind (arith, nat_tests)
 
 exact : (e : Elem) (minus : Bool) (n : ℕ) → fits e minus n ≡ true → sat n ≡ n
+unfolding least greatest
 exact Byte true n h = grind (arith, nat_tests)
 exact Byte false n h = grind (arith, nat_tests)
 exact Int true n h = grind (arith, nat_tests)
@@ -205,16 +208,16 @@ number_tied (b ∷ bs) = number_is b bs (b == 45) refl
 pub array_tied : (first : Bool) (w : List ℕ) → array_by first (fold number_step no_number w) ≡ array_of first w
 array_tied first w = rw (ap (λ (k : ℕ). k == 5) (matched_of no_number w) ∙ matched_is array_word w 0 (omega arith), number_tied w) refl
 
-same_matched : (s : Same) (w : List ℕ) → (fold same_step s w).matched ≡ fold (match_step s.text.now) s.matched w
+same_matched : (s : ExactText) (w : List ℕ) → (fold same_step s w).matched ≡ fold (match_step s.text.now) s.matched w
 same_matched s [] = refl
 same_matched s (b ∷ bs) = same_matched (same_step s b) bs
 
-same_kept : (s : Same) (w : List ℕ) → (fold same_step s w).text ≡ s.text
+same_kept : (s : ExactText) (w : List ℕ) → (fold same_step s w).text ≡ s.text
 same_kept s [] = refl
 same_kept s (b ∷ bs) = same_kept (same_step s b) bs
 
 -- and of a word that has to be one text
-pub same_tied : (code : InputCode) (s : Same) (w : List ℕ) → s.matched ≡ 0 → same_by code (fold same_step s w) ≡ same_of s.text.now code w
+pub same_tied : (code : InputCode) (s : ExactText) (w : List ℕ) → s.matched ≡ 0 → same_by code (fold same_step s w) ≡ same_of s.text.now code w
 same_tied code s w is =
     let m : ((fold same_step s w).matched == length s.text.now) ≡ same_text w s.text.now = ap (λ (k : ℕ). k == length s.text.now) (same_matched s w ∙ ap (λ (k : ℕ). fold (match_step s.text.now) k w) is) ∙ matched_is s.text.now w 0 (omega arith) in
     rw (same_kept s w, m) refl

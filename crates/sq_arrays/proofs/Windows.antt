@@ -7,12 +7,13 @@ use Rattle.sq_text.specs.declared.place.Place.{Place}
 use Rattle.sq_arrays.specs.declared.window.Window.{Window}
 use Rattle.sq_arrays.specs.declared.window.Ahead.TheVariants.{Bytes}
 use Rattle.sq_port.specs.Ports.{Content}
-use Rattle.sq_arrays.specs.Words.{step, along, within}
+use Rattle.sq_text.specs.Places.{place_after}
+use Rattle.sq_arrays.specs.Words.{along, within}
 use Rattle.sq_arrays.specs.Window.{Stops, Passed, PassedRun, IsTold, Stands, held, left}
 use Rattle.sq_arrays.proofs.Passing.{are_in_both}
 
-pub passed_none : {J : Type 0} (next : J → ℕ → J) (blank : Bool) (from : Place) (text : List ℕ) (judge : J) → Passed next blank from from text text judge judge
-passed_none next blank from text judge = record { done = []; whole = refl; each = tt; place = refl; judge = refl }
+pub passed_none : {J : Type 0} (next : J → ℕ → J) (blank : Bool) (from : Place) (text : List ℕ) (observer : J) → Passed next blank from from text text observer observer
+passed_none next blank from text observer = record { done = []; whole = refl; each = tt; place = refl; observer = refl }
 
 pub passed_both : {J : Type 0} {next : J → ℕ → J} {blank : Bool} {from mid to : Place} {text mid_text now_text : List ℕ} {before between after : J}
     → Passed next blank from mid text mid_text before between → Passed next blank mid to mid_text now_text between after → Passed next blank from to text now_text before after
@@ -20,8 +21,8 @@ passed_both {next = next} {blank = blank} {from = from} {now_text = now_text} {b
   done = first.done ++ second.done;
   whole = first.whole ∙ ap (λ (l : List ℕ). first.done ++ l) second.whole ∙ sym (append_assoc first.done second.done now_text);
   each = are_in_both blank first.done second.done first.each second.each;
-  place = second.place ∙ ap (λ (p : Place). along p second.done) first.place ∙ sym (fold-append step from first.done second.done);
-  judge = second.judge ∙ ap (λ s. fold next s second.done) first.judge ∙ sym (fold-append next before first.done second.done);
+  place = second.place ∙ ap (λ (p : Place). along p second.done) first.place ∙ sym (fold-append place_after from first.done second.done);
+  observer = second.observer ∙ ap (λ s. fold next s second.done) first.observer ∙ sym (fold-append next before first.done second.done);
 }
 
 -- what stands at the later position
@@ -40,7 +41,7 @@ passed_left text held now more at now_at is count passed = record {
   whole = is ∙ ap (λ (l : List ℕ). l ++ more) passed.whole ∙ append_assoc passed.done now more ∙ ap (λ (l : List ℕ). passed.done ++ l) (sym (later text held now more passed.done at now_at is passed.whole count));
   each = passed.each;
   place = passed.place;
-  judge = passed.judge;
+  observer = passed.observer;
 }
 
 -- the window still holds what stands at its position

@@ -3,7 +3,7 @@ use Rattle.std.proofs.Common.{◌≡◌, ℕ, ◌<◌, Bool, true, false, cond, 
 use Rattle.sq_text.specs.declared.place.Place.{Place}
 use Rattle.sq_arrays.specs.declared.window.Ahead.{Ahead}
 use Rattle.sq_arrays.specs.declared.window.Ahead.TheVariants.{Bytes}
-use Rattle.sq_arrays.specs.declared.end.InputCode.TheVariants.{LimitFile, Short}
+use Rattle.sq_arrays.specs.declared.refusal.InputCode.TheVariants.{LimitFile, Short}
 use Rattle.sq_arrays.specs.Words.{is_in, along, run, behind}
 use Rattle.sq_arrays.specs.Window.{AreIn, Stops, PassedRun}
 use Rattle.sq_arrays.specs.ArrayText.{Rest, past, ended, word_of, word_at, next_word}

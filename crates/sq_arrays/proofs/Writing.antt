@@ -1,28 +1,22 @@
 -- What was put so far.
-use Rattle.std.proofs.Common.{◌≡◌, ℕ, suc, ◌+◌, ◌-◌, ◌*◌, ◌<◌, ◌≤◌, Bool, true, false, cond, eqb, List, [], ◌∷◌, ◌++◌, Option, refl, sym, ◌∙◌, ap, subst, append_assoc, Result, Ok, take, drop, ℤ, arith}
+use Rattle.std.proofs.Common.{◌≡◌, ℕ, suc, ◌+◌, ◌-◌, ◌*◌, ◌<◌, ◌≤◌, Bool, true, false, cond, eqb, List, [], ◌∷◌, ◌++◌, Option, refl, sym, ◌∙◌, ap, subst, append_assoc, Result, Ok, codes, take, drop, ℤ, arith}
 use Rattle.std.proofs.Math.Nat.{add-mul, one-mul, zero-mul}
 use Rattle.std.proofs.lemmas.List.{drop-drop}
 use Rattle.std.specs.Fmt.{signed_decimal}
 use Rattle.sq_port.specs.declared.sink.Failed.{Failed}
 use Rattle.sq_port.specs.Ports.{Wrote}
-use Rattle.sq_port.proofs.Gained.{gains_nothing}
+use Rattle.sq_port.specs.Lines.{Gathered, Gathers}
 use Rattle.sq_num.specs.declared.Elem.{Elem}
 use Rattle.sq_num.specs.Elements.{width, value, values_in}
 use Rattle.sq_arrays.specs.ArrayText.{array_word}
-use Rattle.sq_arrays.specs.Written.{Gathers, row_from, row_text}
+use Rattle.sq_arrays.specs.Written.{row_from, row_text}
 
 pub wrote_same : {start now : Option (List ℕ)} {faults now_faults : ℕ} {text other : List ℕ} {so_far : Result (Unit {0}) Failed} → text ≡ other → Wrote start now faults now_faults text so_far → Wrote start now faults now_faults other so_far
 wrote_same {start = start} {now = now} {faults = faults} {now_faults = now_faults} {so_far = so_far} same wrote = subst (λ (l : List ℕ). Wrote start now faults now_faults l so_far) same wrote
 
-pub wrote_nothing : (start : Option (List ℕ)) (faults : ℕ) → Wrote start start faults faults [] (Ok tt)
-wrote_nothing start faults = record { ok = (gains_nothing start, refl); failed = tt }
-
-pub head_pieces : (name elem shape : List ℕ) → ((((((97 ∷ 114 ∷ 114 ∷ 97 ∷ 121 ∷ 32 ∷ []) ++ name) ++ 32 ∷ []) ++ elem) ++ 32 ∷ []) ++ shape) ++ 10 ∷ [] ≡ array_word ++ (32 ∷ name) ++ (32 ∷ elem) ++ (32 ∷ shape) ++ 10 ∷ []
-head_pieces name elem shape = simp append_assoc
-
-pub head_given : (a b s name elem shape : List ℕ) → a ≡ name → b ≡ elem → s ≡ shape
-    → ((((((97 ∷ 114 ∷ 114 ∷ 97 ∷ 121 ∷ 32 ∷ []) ++ a) ++ 32 ∷ []) ++ b) ++ 32 ∷ []) ++ s) ++ 10 ∷ [] ≡ array_word ++ (32 ∷ name) ++ (32 ∷ elem) ++ (32 ∷ shape) ++ 10 ∷ []
-head_given a b s name elem shape p q r = cc (head_pieces name elem shape)
+pub head_given : (text a b s name elem shape : List ℕ) → a ≡ name → b ≡ elem → s ≡ shape
+    → (((((((text ++ codes "array ") ++ a) ++ codes " ") ++ b) ++ codes " ") ++ s) ++ codes "\n") ≡ text ++ (array_word ++ codes " " ++ name ++ codes " " ++ elem ++ codes " " ++ shape ++ codes "\n")
+head_given text a b s name elem shape p q r = rw (p, q, r) (simp append_assoc)
 
 one_more : (i w : ℕ) → (i + 1) * w ≡ i * w + w
 one_more i w = add-mul i 1 w ∙ ap (λ (k : ℕ). i * w + k) (one-mul w)
@@ -70,6 +64,6 @@ cell_value e s i row is =
     let n : i * s + s - i * s ≡ s = omega arith in
     ap (λ (k : ℕ). value e (take k (drop (i * s) row))) n ∙ ap (λ (k : ℕ). value e (take k (drop (i * k) row))) is
 
-pub gathers_same : {start now : Option (List ℕ)} {faults now_faults : ℕ} {text other held : List ℕ} {put : Result (Unit {0}) Failed} → text ≡ other
-    → Gathers start now faults now_faults text held put → Gathers start now faults now_faults other held put
+pub gathers_same : {start now : Option (List ℕ)} {faults now_faults : ℕ} {text other : List ℕ} {line : Gathered} → text ≡ other
+    → Gathers start now faults now_faults text line → Gathers start now faults now_faults other line
 gathers_same same told = record { front = told.front; split = sym same ∙ told.split; wrote = told.wrote }

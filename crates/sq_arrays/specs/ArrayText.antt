@@ -1,12 +1,12 @@
 -- The text of arrays, as a definition on what is left of a file.
-use Rattle.std.specs.Prelude.{ℕ, zero, suc, ◌+◌, ◌-◌, ◌*◌, Bool, true, false, cond, ◌&&◌, ◌==◌, nat_lt, List, [], ◌∷◌, Result, Ok, Err, ℤ, pos}
+use Rattle.std.specs.Prelude.{ℕ, zero, suc, ◌+◌, ◌-◌, ◌*◌, Bool, true, false, cond, ◌&&◌, ◌==◌, nat_lt, nat_le, unsigned_abs, List, [], ◌∷◌, Result, Ok, Err, ℤ, pos, codes}
 use Rattle.std.specs.List.{fold}
 use Rattle.std.proofs.Math.IntN.{neg_ℤ}
 use Rattle.sq_text.specs.declared.place.Place.{Place}
-use Rattle.sq_arrays.specs.declared.end.InputCode.{InputCode}
-use Rattle.sq_arrays.specs.declared.end.InputCode.TheVariants.{LimitFile, Syntax, Name, Shape, Range, Short, Extra}
+use Rattle.sq_arrays.specs.declared.refusal.InputCode.{InputCode}
+use Rattle.sq_arrays.specs.declared.refusal.InputCode.TheVariants.{LimitFile, Syntax, Name, Shape, Range, Short, Extra}
 use Rattle.sq_num.specs.declared.Elem.{Elem}
-use Rattle.sq_num.specs.declared.Elem.TheVariants.{Byte, Int, Long}
+use Rattle.sq_num.specs.Elements.{least, greatest}
 use Rattle.sq_arrays.specs.Words.{along, run, behind, within, is_over}
 
 -- a fault with its place
@@ -38,7 +38,7 @@ pub record Word : Type 0 where
   pub bytes : List ℕ
   pub rest : Rest
 
--- a word that isn't ended within the limit isn't judged
+-- a word that isn't ended within the limit isn't judged: also one whose last byte is the last that may be
 abbrev pub ended : List ℕ → Bool → Bool
 ended [] over = cond over false true
 ended (b ∷ bs) over = true
@@ -63,7 +63,7 @@ same_text (x ∷ xs) [] = false
 same_text (x ∷ xs) (y ∷ ys) = x == y && same_text xs ys
 
 abbrev pub array_word : List ℕ
-array_word = 97 ∷ 114 ∷ 114 ∷ 97 ∷ 121 ∷ []
+array_word = codes "array"
 
 abbrev pub is_digit : ℕ → Bool
 is_digit b = nat_lt 47 b && nat_lt b 58
@@ -92,19 +92,13 @@ is_number w = some_digits (digits_of w)
 abbrev pub number_of : ℕ → List ℕ → ℕ
 number_of n ds = fold (λ n d. 10 * n + (d - 48)) n ds
 
--- the most that a type has above 0 and below it
-abbrev pub most : Elem → ℕ
-most Byte = 255
-most Int = 2147483647
-most Long = 9223372036854775807
-
-abbrev pub least : Elem → ℕ
-least Byte = 0
-least Int = 2147483648
-least Long = 9223372036854775808
+-- how far a type reaches from 0: up, or down where a `-` stands
+abbrev pub reach : Elem → Bool → ℕ
+reach e true = unsigned_abs (least e)
+reach e false = unsigned_abs (greatest e)
 
 abbrev pub fits : Elem → Bool → ℕ → Bool
-fits e minus n = nat_lt n (cond minus (least e) (most e) + 1)
+fits e minus n = nat_le n (reach e minus)
 
 abbrev pub signed : Bool → ℕ → ℤ
 signed minus n = cond minus (neg_ℤ (pos n)) (pos n)

@@ -1,13 +1,11 @@
 -- The text of the arrays that are wanted of a file, from its first byte to its last.
-use Rattle.std.specs.Prelude.{◌≡◌, ℕ, ◌+◌, ◌*◌, ◌++◌, Bool, true, false, List, [], ◌∷◌, Option, Some, None, Result, Ok, Err, ℤ}
-use Rattle.std.specs.List.{flat_map}
+use Rattle.std.specs.Prelude.{◌≡◌, ℕ, ◌+◌, ◌*◌, Bool, true, false, List, length, [], ◌∷◌, Option, Some, None, Result, Ok, Err, ℤ}
 use Rattle.sq_num.specs.declared.Elem.{Elem}
-use Rattle.sq_num.specs.Elements.{width, cell}
-use Rattle.sq_arrays.specs.declared.end.InputEnd.{InputEnd}
-use Rattle.sq_arrays.specs.declared.end.InputEnd.TheVariants.{Refused, Failed, Absent}
+use Rattle.std.specs.List.{All}
+use Rattle.sq_num.specs.Elements.{width, IsValue}
 use Rattle.sq_text.specs.declared.place.Place.{Place}
 use Rattle.sq_rect.specs.Extents.{product}
-use Rattle.sq_arrays.specs.declared.end.InputCode.{InputCode}
+use Rattle.sq_arrays.specs.declared.refusal.InputCode.{InputCode}
 use Rattle.sq_arrays.specs.declared.want.Want.{Want}
 use Rattle.sq_arrays.specs.Heads.{elem_word, shape_text}
 use Rattle.sq_arrays.specs.ArrayText.{Fault, Rest, start_of, next_head, next_values, finished, ◌>>=◌}
@@ -52,23 +50,11 @@ arrays_from first last (w ∷ ws) r = of_array (Some w.name) (array_of_text firs
 unfoldable pub arrays_of : List Wanted → List ℕ → Result (List (List ℤ)) DataFault
 arrays_of ws bytes = arrays_from true None ws (start_of bytes)
 
--- how many bytes store an array's values, and those of several
+-- how many bytes store an array's values
 abbrev pub size_of : Wanted → ℕ
 size_of w = product w.extents * width w.elem
 
-abbrev pub sizes_of : List Wanted → ℕ
-sizes_of [] = 0
-sizes_of (w ∷ ws) = size_of w + sizes_of ws
-
--- the bytes that store the values of arrays, one array after the other
-abbrev pub cells_of : List Wanted → List (List ℤ) → List ℕ
-cells_of [] vss = []
-cells_of (w ∷ ws) [] = []
-cells_of (w ∷ ws) (vs ∷ vss) = flat_map (cell w.elem) vs ++ cells_of ws vss
-
--- Ok: the values that the file gives stand in these bytes; Refused: its first fault is this one
-abbrev pub GivesArrays : List Wanted → List ℕ → Result (Unit {0}) InputEnd → Result (List (List ℤ)) DataFault → Type 0
-GivesArrays ws now (Ok x) read = (vss : List (List ℤ)) × (read ≡ Ok vss) × (now ≡ cells_of ws vss)
-GivesArrays ws now (Err (Refused code place)) read = (name : Option (List ℕ)) × (read ≡ Err (record { code = code; place = place; name = name }))
-GivesArrays ws now (Err Failed) read = Unit {0}
-GivesArrays ws now (Err Absent) read = Unit {0}
+-- as many values as the array has elements, all of its type
+pub record AreValuesOf (w : Wanted) (vs : List ℤ) : Type 0 where
+  pub count : length vs ≡ product w.extents
+  pub each : All (IsValue w.elem) vs

@@ -1,7 +1,7 @@
 -- Why a reading call ends.
 use Rattle.std.specs.Prelude.{◌≡◌, ℕ, ◌≤◌, List, Option, Result, Ok, Err}
-use Rattle.sq_arrays.specs.declared.end.InputEnd.{InputEnd}
-use Rattle.sq_arrays.specs.declared.end.InputEnd.TheVariants.{Refused, Failed, Absent}
+use Rattle.sq_arrays.specs.declared.refusal.InputEnd.{InputEnd}
+use Rattle.sq_arrays.specs.declared.refusal.InputEnd.TheVariants.{Refused, Failed, Absent}
 use Rattle.sq_port.specs.Ports.{Content, Rose}
 use Rattle.sq_arrays.specs.Window.{IsThere, IsMissing}
 

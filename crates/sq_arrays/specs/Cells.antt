@@ -3,7 +3,7 @@ use Rattle.std.specs.Prelude.{◌≡◌, ℕ, List, Result, Ok, Err, ℤ}
 use Rattle.std.specs.List.{flat_map}
 use Rattle.sq_num.specs.declared.Elem.{Elem}
 use Rattle.sq_num.specs.Elements.{cell}
-use Rattle.sq_arrays.specs.declared.end.InputEnd.{InputEnd}
+use Rattle.sq_arrays.specs.declared.refusal.InputEnd.{InputEnd}
 use Rattle.sq_arrays.specs.ArrayText.{Fault, Rest}
 use Rattle.sq_arrays.specs.Steps.{Fails}
 

@@ -7,6 +7,7 @@ pub mod Window
 pub mod Steps
 pub mod Causes
 pub mod Numbers
-pub mod Same
+pub mod Exact
 pub mod Cells
 pub mod Reader
+pub mod Targets

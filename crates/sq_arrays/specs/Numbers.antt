@@ -1,7 +1,7 @@
 -- What is kept of a word in place of a value.
 use Rattle.std.specs.Prelude.{ℕ, ◌+◌, ◌-◌, ◌*◌, true, false, cond, ◌||◌, ◌&&◌, ◌==◌, nat_lt, List, length, get_or, Result, Ok, Err, ℤ}
-use Rattle.sq_arrays.specs.declared.end.InputCode.{InputCode}
-use Rattle.sq_arrays.specs.declared.end.InputCode.TheVariants.{Syntax, Range, Short}
+use Rattle.sq_arrays.specs.declared.refusal.InputCode.{InputCode}
+use Rattle.sq_arrays.specs.declared.refusal.InputCode.TheVariants.{Syntax, Range, Short}
 use Rattle.sq_num.specs.declared.Elem.{Elem}
 use Rattle.sq_arrays.specs.declared.number.Number.{Number}
 use Rattle.sq_arrays.specs.ArrayText.{array_word, is_digit, fits, signed}

@@ -2,7 +2,7 @@
 use Rattle.std.specs.Prelude.{ℕ, Bool, List, Option}
 use Rattle.sq_num.specs.declared.Elem.{Elem}
 use Rattle.sq_port.specs.Ports.{Content}
-use Rattle.sq_arrays.specs.declared.end.InputEnd.{InputEnd}
+use Rattle.sq_arrays.specs.declared.refusal.InputEnd.{InputEnd}
 use Rattle.sq_arrays.specs.declared.reader.ArrayReader.{ArrayReader}
 use Rattle.sq_arrays.specs.ArrayText.{Rest}
 use Rattle.sq_arrays.specs.Window.{Stands}

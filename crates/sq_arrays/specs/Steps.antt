@@ -2,8 +2,8 @@
 use Rattle.std.specs.Prelude.{◌≡◌, ℕ, List, Result, Ok, Err}
 use Rattle.std.specs.List.{fold}
 use Rattle.sq_text.specs.declared.place.Place.{Place}
-use Rattle.sq_arrays.specs.declared.end.InputEnd.{InputEnd}
-use Rattle.sq_arrays.specs.declared.end.InputEnd.TheVariants.{Refused, Failed, Absent}
+use Rattle.sq_arrays.specs.declared.refusal.InputEnd.{InputEnd}
+use Rattle.sq_arrays.specs.declared.refusal.InputEnd.TheVariants.{Refused, Failed, Absent}
 use Rattle.sq_arrays.specs.declared.window.Window.{Window}
 use Rattle.sq_arrays.specs.Words.{is_over}
 use Rattle.sq_arrays.specs.Window.{left}

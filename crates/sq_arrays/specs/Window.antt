@@ -50,7 +50,7 @@ pub record Passed {J : Type 0} (next : J → ℕ → J) (blank : Bool) (from to 
   pub whole : text ≡ done ++ now_text
   pub each : AreIn blank done
   pub place : to ≡ along from done
-  pub judge : after ≡ fold next before done
+  pub observer : after ≡ fold next before done
 
 -- where it is told what the file has: what is ahead
 abbrev pub IsAhead : Ahead → List ℕ → Bool → Type 0

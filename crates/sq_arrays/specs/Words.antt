@@ -2,6 +2,7 @@
 use Rattle.std.specs.Prelude.{ℕ, ◌+◌, Bool, true, false, cond, ◌||◌, ◌==◌, nat_lt, List, [], ◌∷◌, length, take}
 use Rattle.std.specs.List.{fold}
 use Rattle.sq_text.specs.declared.place.Place.{Place}
+use Rattle.sq_text.specs.Places.{place_after}
 
 -- space, tab, CR, LF
 abbrev pub is_blank : ℕ → Bool
@@ -12,13 +13,9 @@ abbrev pub is_in : Bool → ℕ → Bool
 is_in true b = is_blank b
 is_in false b = cond (is_blank b) false true
 
--- the place behind a byte
-abbrev pub step : Place → ℕ → Place
-step p b = cond (b == 10) (record { line = p.line + 1; col = 1 }) (record { line = p.line; col = p.col + 1 })
-
 -- the place behind these bytes
 abbrev pub along : Place → List ℕ → Place
-along p bs = fold step p bs
+along p bs = fold place_after p bs
 
 -- the bytes that count of a file, and whether it has more
 unfoldable pub within : List ℕ → List ℕ

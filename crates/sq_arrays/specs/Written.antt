@@ -1,8 +1,6 @@
 -- The text that is written of an array.
-use Rattle.std.specs.Prelude.{◌≡◌, ℕ, zero, suc, Bool, true, false, cond, List, [], ◌∷◌, ◌++◌, take, drop, Option, Result, ℤ}
+use Rattle.std.specs.Prelude.{ℕ, codes, zero, suc, Bool, true, false, cond, List, [], ◌∷◌, ◌++◌, take, drop, ℤ}
 use Rattle.std.specs.Fmt.{signed_decimal}
-use Rattle.sq_port.specs.declared.sink.Failed.{Failed}
-use Rattle.sq_port.specs.Ports.{Wrote}
 use Rattle.sq_rect.specs.Extents.{last_of, rows_of}
 use Rattle.sq_arrays.specs.ArrayText.{array_word}
 use Rattle.sq_arrays.specs.Arrays.{Wanted}
@@ -10,8 +8,8 @@ use Rattle.sq_arrays.specs.Heads.{elem_word, shape_text}
 
 -- the rest of a row: one space between two numbers, and LF at its end
 abbrev pub row_from : Bool → List ℤ → List ℕ
-row_from first [] = 10 ∷ []
-row_from first (v ∷ vs) = cond first [] (32 ∷ []) ++ signed_decimal v ++ row_from false vs
+row_from first [] = codes "\n"
+row_from first (v ∷ vs) = cond first [] (codes " ") ++ signed_decimal v ++ row_from false vs
 
 abbrev pub row_text : List ℤ → List ℕ
 row_text vs = row_from true vs
@@ -23,14 +21,8 @@ rows_text (suc n) last vs = row_text (take last vs) ++ rows_text n last (drop la
 
 -- the four words of the head, one space between two, and LF at its end
 abbrev pub head_text : Wanted → List ℕ
-head_text w = array_word ++ (32 ∷ w.name) ++ (32 ∷ elem_word w.elem) ++ (32 ∷ shape_text w.extents) ++ 10 ∷ []
+head_text w = array_word ++ codes " " ++ w.name ++ codes " " ++ elem_word w.elem ++ codes " " ++ shape_text w.extents ++ codes "\n"
 
 -- an array with these values, in order of coordinates, the last dimension fastest
 unfoldable pub array_text : Wanted → List ℤ → List ℕ
 array_text w vs = head_text w ++ rows_text (rows_of w.extents) (last_of w.extents) vs
-
--- of a text the front was put, and the rest is held back
-pub record Gathers (start now : Option (List ℕ)) (faults now_faults : ℕ) (text held : List ℕ) (put : Result (Unit {0}) Failed) : Type 0 where
-  pub front : List ℕ
-  pub split : text ≡ front ++ held
-  pub wrote : Wrote start now faults now_faults front put

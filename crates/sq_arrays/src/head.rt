@@ -6,9 +6,9 @@ ghost use Rattle.sq_arrays.specs.Causes.{EndCause, IsThereUnlessFailed};
 ghost use Rattle.sq_arrays.specs.ArrayText.{next_head, finished};
 ghost use Rattle.sq_arrays.specs.Heads.{elem_word, shape_text};
 
-use crate::judge::Nothing;
-use crate::parts::{array, same};
-use crate::steps::pass;
+use crate::expect::{expect_array, expect_text};
+use crate::observer::Nothing;
+use crate::runs::pass;
 use crate::window::{Ahead, Window};
 use crate::{InputCode, InputEnd};
 use itoa::Buffer;
@@ -82,19 +82,19 @@ pub(crate) fn head<F: Files>(
 {
     let mut line = [0u8; SHAPE];
     let end = put_shape(&mut line, extents);
-    match array(window, files, name, first) {
+    match expect_array(window, files, name, first) {
         Ok(()) => {}
         Err(end) => return Err(end),
     }
-    match same(window, files, name, wanted, InputCode::Name) {
+    match expect_text(window, files, name, wanted, InputCode::Name) {
         Ok(()) => {}
         Err(end) => return Err(end),
     }
-    match same(window, files, name, word_of(elem), InputCode::Shape) {
+    match expect_text(window, files, name, word_of(elem), InputCode::Shape) {
         Ok(()) => {}
         Err(end) => return Err(end),
     }
-    match same(window, files, name, &line[..end], InputCode::Shape) {
+    match expect_text(window, files, name, &line[..end], InputCode::Shape) {
         Ok(()) => Ok(()),
         Err(end) => Err(end),
     }

@@ -1,17 +1,17 @@
 //! Array text: reads arrays through a window of fixed size, and writes them. Nothing here takes memory.
 #![tactic(auto)]
 
-mod all;
-mod end;
-mod extent;
+mod exact;
+mod expect;
 mod head;
-mod judge;
+pub mod laws;
 mod number;
-mod parts;
-mod pieces;
+mod observer;
 mod reader;
-mod same;
-mod steps;
+mod reading;
+mod refusal;
+mod runs;
+mod target;
 #[cfg(test)]
 mod tests;
 mod value;
@@ -21,9 +21,9 @@ mod window;
 mod word;
 mod write;
 
-pub use all::read_arrays;
-pub use end::{InputCode, InputEnd};
-pub use pieces::read_array;
 pub use reader::ArrayReader;
+pub use reading::read_arrays;
+pub use refusal::{ArraysEnd, InputCode, InputEnd};
+pub use target::ArrayTarget;
 pub use want::Want;
 pub use write::write_array;

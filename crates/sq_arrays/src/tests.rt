@@ -1,7 +1,12 @@
 // Array text, read from files and written to a sink in memory.
-use crate::{ArrayReader, InputCode, InputEnd, Want, read_array, read_arrays, write_array};
-use sq_num::{Elem, cut};
-use sq_port::{MemFiles, MemSink};
+ghost use Rattle.std.specs.Prelude.{◌≡◌, ◌∷◌, [], None, length};
+
+use crate::window::LIMIT;
+use crate::{
+    ArrayReader, ArrayTarget, ArraysEnd, InputCode, InputEnd, Want, read_arrays, write_array,
+};
+use sq_num::Elem;
+use sq_port::{FileEnd, Files, MemFiles, MemSink};
 use sq_rect::Dims;
 use sq_text::{Name, Place};
 use std::test::Fail;
@@ -32,7 +37,10 @@ fn outcome(
     if into.len() != 2 * sq_num::width(elem) {
         return Err(Fail::from("room"));
     }
-    if let Err(end) = read_array(&mut reader, &mut files, "D", &want, 1, into) {
+    if let Err(end) = reader.next_head(&mut files, "D", &want) {
+        return Ok(Err(end));
+    }
+    if let Err(end) = reader.next_values(&mut files, "D", into) {
         return Ok(Err(end));
     }
     Ok(reader.finish(&mut files, "D"))
@@ -134,7 +142,10 @@ fn further(rt: &HostRuntime, text: &[u8]) -> Result<Result<(), InputEnd>, Fail> 
         extents: Dims::new(1),
     };
     let mut reader = ArrayReader::new();
-    if let Err(end) = read_array(&mut reader, &mut files, "D", &want, 1, &mut [0u8; 1]) {
+    if let Err(end) = reader.next_head(&mut files, "D", &want) {
+        return Ok(Err(end));
+    }
+    if let Err(end) = reader.next_values(&mut files, "D", &mut [0u8; 1]) {
         return Ok(Err(end));
     }
     Ok(reader.next_head(&mut files, "D", &want))
@@ -225,10 +236,38 @@ fn a_written_array_has_a_line_for_each_row(rt: HostRuntime) -> Result<(), Fail> 
     Ok(())
 }
 
-#[test]
-fn arrays_are_read_one_after_the_other(rt: HostRuntime) -> Result<(), Fail> {
+// Two arrays of bytes.
+#[derive(Drop)]
+struct Held {
+    first: Vec<u8>,
+    second: Vec<u8>,
+}
+
+impl ArrayTarget for Held {
+    ghost arrays = { λ h. h.first.items ∷ h.second.items ∷ [] };
+
+    ghost keeps = { λ h k. Unit {0} };
+
+    fn put(&mut self, array: usize, at: usize, bytes: &[u8]) {
+        if array == 0 {
+            self.first[at..at + bytes.len()].copy_from_slice(bytes);
+        } else {
+            self.second[at..at + bytes.len()].copy_from_slice(bytes);
+        }
+    }
+
+    ghost keeps_itself = { λ h. tt };
+
+    ghost keeps_on = { λ h k l first second. tt };
+}
+
+// Reads the arrays A of two bytes and B of one `int`.
+fn two_arrays(rt: &HostRuntime, text: &[u8], held: &mut Held) -> Result<Result<(), ArraysEnd>, Fail>
+    requires first { length held.old.first.items ≡ 2 }
+    requires second { length held.old.second.items ≡ 4 }
+{
     let mut files = MemFiles::new(rt.alloc());
-    files.add("D", b"array A byte [2] 1 2 array B int [1] -3")?;
+    files.add("D", text)?;
     let first = Name::new(rt.alloc(), b"A")?;
     let second = Name::new(rt.alloc(), b"B")?;
     let wants = [
@@ -243,10 +282,108 @@ fn arrays_are_read_one_after_the_other(rt: HostRuntime) -> Result<(), Fail> {
             extents: Dims::new(1),
         },
     ];
-    let mut into = [0u8; 6];
-    let read = read_arrays(&mut files, "D", &wants, 7, &mut into);
+    Ok(read_arrays(&mut files, "D", &wants, held))
+}
+
+#[test]
+fn arrays_are_read_one_after_the_other(rt: HostRuntime) -> Result<(), Fail> {
+    let mut held = Held {
+        first: vec![in rt.alloc(); 0, 0]?,
+        second: vec![in rt.alloc(); 0, 0, 0, 0]?,
+    };
+    let read = two_arrays(&rt, b"array A byte [2] 1 2 array B int [1] -3", &mut held)?;
     assert_eq!(rt; read, Ok(()));
-    assert_eq!(rt; into, [1, 2, 253, 255, 255, 255]);
-    assert_eq!(rt; cut(Elem::Int, 4_294_967_299), 3);
+    assert_eq!(rt; held.first.as_slice(), [1, 2].as_slice());
+    assert_eq!(rt; held.second.as_slice(), [253, 255, 255, 255].as_slice());
+    Ok(())
+}
+
+#[test]
+fn a_refusal_names_the_array_that_is_wanted(rt: HostRuntime) -> Result<(), Fail> {
+    let cases: [(&[u8], InputCode, u32); 3] = [
+        (b"array A byte [2] 1 256", InputCode::Range, 0),
+        (b"array A byte [2] 1 2 3", InputCode::Extra, 1),
+        (
+            b"array A byte [2] 1 2 array B int [1] 1 2",
+            InputCode::Extra,
+            1,
+        ),
+    ];
+    for (text, wanted, number) in cases {
+        let mut held = Held {
+            first: vec![in rt.alloc(); 0, 0]?,
+            second: vec![in rt.alloc(); 0, 0, 0, 0]?,
+        };
+        match two_arrays(&rt, text, &mut held)? {
+            Err(
+                ArraysEnd {
+                    end: InputEnd::Refused { code, place: _ },
+                    array,
+                },
+            ) => {
+                assert_eq!(rt; code, wanted);
+                assert_eq!(rt; array, Some(number as usize));
+            }
+            _ => return Err(Fail::from("no refusal")),
+        }
+    }
+    Ok(())
+}
+
+// A file of which these bytes stand from 40 bytes before the limit on.
+#[derive(Drop)]
+struct Tail<'a> {
+    text: &'a [u8],
+}
+
+impl Files for Tail<'_> {
+    ghost content = { λ t. None };
+
+    ghost faults = { λ t. 0 };
+
+    ghost misses = { λ t. 0 };
+
+    fn read_at(&mut self, _name: &str, at: u64, into: &mut [u8]) -> Result<usize, FileEnd> {
+        let from = at.saturating_sub(LIMIT - 40).min(self.text.len() as u64);
+        let rest = &self.text[from as usize..];
+        let count = rest.len().min(into.len());
+        into[..count].copy_from_slice(&rest[..count]);
+        Ok(count)
+    }
+}
+
+// Reads the array A of one byte, whose text begins 40 bytes before the limit.
+fn at_the_limit(rt: &HostRuntime, text: &[u8]) -> Result<Result<(), InputEnd>, Fail> {
+    let mut files = Tail { text };
+    let name = Name::new(rt.alloc(), b"A")?;
+    let want = Want {
+        name: &name,
+        elem: Elem::Byte,
+        extents: Dims::new(1),
+    };
+    let mut reader = ArrayReader::starting_at(LIMIT - 40);
+    if let Err(end) = reader.next_head(&mut files, "D", &want) {
+        return Ok(Err(end));
+    }
+    if let Err(end) = reader.next_values(&mut files, "D", &mut [0u8; 1]) {
+        return Ok(Err(end));
+    }
+    Ok(reader.finish(&mut files, "D"))
+}
+
+#[test]
+fn a_file_may_end_at_its_limit_and_not_behind_it(rt: HostRuntime) -> Result<(), Fail> {
+    let limit = refused(InputCode::LimitFile, 1, 41);
+    let cases: [(&[u8], Result<(), InputEnd>); 5] = [
+        (b"array A byte [1]                       7", Ok(())),
+        (b"array A byte [1]                      7 ", Ok(())),
+        (b"array A byte [1]                      7  ", limit),
+        (b"array A byte [1]                       7 ", limit),
+        (b"array A byte [1]                       256", limit),
+    ];
+    for (text, wanted) in cases {
+        let got = at_the_limit(&rt, text)?;
+        assert_eq!(rt; got, wanted);
+    }
     Ok(())
 }

@@ -1,13 +1,13 @@
 // What a word is in place of a value.
 ghost use Rattle.std.specs.Prelude.{◌≡◌, ◌+◌, ◌<◌, ◌≤◌, ◌^◌, ◌-◌, ◌*◌, ℕ, length, Bool, true, cond, IsTrue, ◌&&◌, ◌==◌};
-ghost use Rattle.sq_arrays.specs.ArrayText.{is_digit, fits, signed, most, least};
-ghost use Rattle.sq_arrays.specs.Same.{array_by};
+ghost use Rattle.sq_arrays.specs.ArrayText.{is_digit, fits, signed, reach};
+ghost use Rattle.sq_arrays.specs.Exact.{array_by};
 ghost use Rattle.sq_arrays.specs.Numbers.{match_step, more, number_step, no_number, value_by};
 
 use crate::InputCode;
-use crate::judge::Judge;
 use crate::number::Number;
-use sq_num::Elem;
+use crate::observer::Observer;
+use sq_num::{Elem, greatest, least};
 
 const ARRAY: [u8; 5] = *b"array";
 
@@ -39,34 +39,20 @@ fn with_digit(magnitude: u64, digit: u8) -> u64
     }
 }
 
-fn most_of(elem: Elem) -> u64
-    ensures { result ≡ most elem }
+fn reach_of(elem: Elem, negative: bool) -> u64
+    ensures { result ≡ reach elem negative }
 {
-    match elem {
-        Elem::Byte => 255,
-        Elem::Int => 2_147_483_647,
-        Elem::Long => 9_223_372_036_854_775_807,
-    }
-}
-
-fn least_of(elem: Elem) -> u64
-    ensures { result ≡ least elem }
-{
-    match elem {
-        Elem::Byte => 0,
-        Elem::Int => 2_147_483_648,
-        Elem::Long => 9_223_372_036_854_775_808,
+    if negative {
+        least(elem).unsigned_abs()
+    } else {
+        greatest(elem).unsigned_abs()
     }
 }
 
 fn fits_in(elem: Elem, negative: bool, magnitude: u64) -> bool
     ensures { result ≡ fits elem negative magnitude }
 {
-    if negative {
-        magnitude < least_of(elem) + 1
-    } else {
-        magnitude < most_of(elem) + 1
-    }
+    magnitude <= reach_of(elem, negative)
 }
 
 fn signed_of(negative: bool, magnitude: u64) -> i64
@@ -147,10 +133,10 @@ impl Number {
     }
 }
 
-impl Judge for Number {
+impl Observer for Number {
     ghost step = { number_step };
 
-    fn take(&mut self, piece: &[u8]) {
+    fn observe(&mut self, piece: &[u8]) {
         let mut kept = *self;
         for b in piece {
             kept = kept.after(*b);

@@ -8,7 +8,7 @@ ghost use Rattle.sq_num.specs.Elements.{width};
 ghost use Rattle.sq_arrays.specs.Cells.{GivesValues};
 
 use crate::InputEnd;
-use crate::parts::value;
+use crate::expect::expect_value;
 use crate::window::Window;
 use sq_num::{Elem, store_elem, width};
 use sq_port::Files;
@@ -33,7 +33,7 @@ pub(crate) fn values<F: Files>(
     let size = width(elem);
     let count = into.len() / size;
     for i in 0..count {
-        match value(window, files, name, elem) {
+        match expect_value(window, files, name, elem) {
             Ok(v) => store_elem(elem, v, &mut into[i * size..i * size + size]),
             Err(end) => return Err(end),
         }

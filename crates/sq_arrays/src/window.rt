@@ -3,9 +3,11 @@ ghost use Rattle.std.specs.Prelude.{◌≡◌, ◌≤◌, ◌+◌, ◌-◌};
 
 use sq_text::Place;
 
+/// How many bytes of a file count.
 pub(crate) const LIMIT: u64 = 268_435_456;
 
-pub(crate) const ROOM: usize = 65536;
+/// How many bytes of a file are held at a time. The reader lies on the stack, which may be 64 KiB small, and is moved there.
+pub(crate) const ROOM: usize = 8192;
 
 /// What stands next in a file.
 #[derive(Clone, Copy, PartialEq, Eq)]
@@ -23,7 +25,7 @@ pub(crate) struct Spot {
     pub(crate) at: u64,
     pub(crate) place: Place,
     ghost inside: { start ≤ end },
-    ghost room: { end ≤ 65536 },
+    ghost room: { end ≤ 8192 },
     ghost limit: { at + (end - start) ≤ 268435456 },
     ghost line: { place.line ≤ at + 1 },
     ghost col: { place.col ≤ at + 1 },
@@ -31,7 +33,7 @@ pub(crate) struct Spot {
 
 #[derive(Drop)]
 pub(crate) struct Window {
-    pub(crate) bytes: [u8; 65536],
+    pub(crate) bytes: [u8; ROOM],
     pub(crate) spot: Spot,
 }
 
@@ -48,7 +50,7 @@ impl Window {
             place: Place { line: 1, col: 1 },
         };
         Window {
-            bytes: [0; 65536],
+            bytes: [0; ROOM],
             spot,
         }
     }

@@ -1,7 +1,7 @@
 // The calls over files and a sink in memory, and the orders.
 use crate::{
-    FileEnd, Files, FirstOrder, LastOrder, ListOrder, MemFiles, MemSink, Order, Picks, ReadEnd,
-    SeedOrder, Sink, put_all, put_next, read_whole,
+    FileEnd, Files, FirstOrder, LastOrder, Line, ListOrder, MemFiles, MemSink, Order, Picks,
+    ReadEnd, SeedOrder, Sink, put_all, put_next, read_whole,
 };
 use std::test::Fail;
 
@@ -58,6 +58,41 @@ fn just_the_named_put_fails(rt: HostRuntime) -> Result<(), Fail> {
     assert!(rt; third.is_err());
     assert!(rt; put_all(&mut sink, b"d").is_ok());
     assert_eq!(rt; sink.written(), b"ad".as_slice());
+    Ok(())
+}
+
+#[test]
+fn a_line_is_gathered_and_put_at_once(rt: HostRuntime) -> Result<(), Fail> {
+    let mut sink = MemSink::new(rt.alloc(), 40)?;
+    sink.fail_at(2);
+    let mut line = Line::new();
+    line.add(&mut sink, b"of ");
+    line.add_number(&mut sink, 18_446_744_073_709_551_615);
+    line.add(&mut sink, b" ");
+    line.add_signed(&mut sink, -7);
+    assert_eq!(rt; sink.written(), b"".as_slice());
+    assert!(rt; line.put(&mut sink).is_ok());
+    assert_eq!(rt; sink.written(), b"of 18446744073709551615 -7".as_slice());
+    line.add(&mut sink, b"more");
+    assert!(rt; line.put(&mut sink).is_err());
+    line.add(&mut sink, b"and more");
+    assert!(rt; line.put(&mut sink).is_err());
+    assert_eq!(rt; sink.written().len(), 26);
+    Ok(())
+}
+
+#[test]
+fn a_long_text_is_put_in_pieces(rt: HostRuntime) -> Result<(), Fail> {
+    let long = vec![in rt.alloc(); b'x'; 9000]?;
+    let mut sink = MemSink::new(rt.alloc(), 20_000)?;
+    let mut line = Line::new();
+    line.add(&mut sink, b"ab");
+    line.add(&mut sink, &long[..8191]);
+    line.add(&mut sink, &long);
+    line.add(&mut sink, b"c");
+    assert!(rt; line.put(&mut sink).is_ok());
+    assert_eq!(rt; sink.written().len(), 2 + 8191 + 9000 + 1);
+    assert!(rt; sink.written().starts_with(b"abx"));
     Ok(())
 }
 

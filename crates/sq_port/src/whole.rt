@@ -1,5 +1,5 @@
 //! Reads a whole file, and puts a whole piece.
-ghost use Rattle.std.specs.Prelude.{◌≡◌, ◌++◌, ℕ, List, OnOk, OnErr};
+ghost use Rattle.std.specs.Prelude.{◌≡◌, ◌≤◌, ◌++◌, ℕ, List, OnOk, OnErr};
 ghost use Rattle.sq_port.specs.Ports.{WholeTold, WholeCause, PutCause, Gains, GainsPrefix, Wrote};
 
 use crate::{Bytes, Failed, FileEnd, Files, Sink};
@@ -20,6 +20,9 @@ pub enum ReadEnd {
 }
 
 const WINDOW: usize = 4096;
+
+/// The most bytes of a piece that one put is given.
+const STEP: usize = 65_536;
 
 /// The bytes of the file of that name. `TooLong` comes just where there are more than `limit` of them and no read failed.
 pub fn read_whole<F: Files>(
@@ -51,7 +54,7 @@ pub fn read_whole<F: Files>(
     Err(ReadEnd::TooLong)
 }
 
-/// Puts the whole piece, as far as the sink takes it.
+/// Puts the whole piece, as far as the sink takes it, by at most 65,536 bytes at a time.
 pub fn put_all<S: Sink>(sink: &mut S, piece: &[u8]) -> Result<(), Failed>
     ensures ok { OnOk result (Gains (S.written sink.old) (S.written sink.new) piece.now) }
     ensures failed { OnErr result (GainsPrefix (S.written sink.old) (S.written sink.new) piece.now) }
@@ -59,7 +62,8 @@ pub fn put_all<S: Sink>(sink: &mut S, piece: &[u8]) -> Result<(), Failed>
 {
     let mut done = 0;
     while done < piece.len() {
-        match sink.put(&piece[done..]) {
+        let end = done + STEP.min(piece.len() - done);
+        match sink.put(&piece[done..end]) {
             Ok(count) => done += count,
             Err(failed) => return Err(failed),
         }
@@ -73,7 +77,8 @@ pub fn put_next<S: Sink>(
     so_far: Result<(), Failed>,
     piece: &[u8],
 ) -> Result<(), Failed>
-    ensures { (start : _) (faults : ℕ) (text : List ℕ) → Wrote start (S.written sink.old) faults (S.faults sink.old) text so_far → Wrote start (S.written sink.new) faults (S.faults sink.new) (text ++ piece.now) result }
+    ensures later { S.faults sink.old ≤ S.faults sink.new }
+    ensures wrote { (start : _) (faults : ℕ) (text : List ℕ) → Wrote start (S.written sink.old) faults (S.faults sink.old) text so_far → Wrote start (S.written sink.new) faults (S.faults sink.new) (text ++ piece.now) result }
 {
     match so_far {
         Ok(()) => put_all(sink, piece),

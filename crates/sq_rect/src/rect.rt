@@ -1,24 +1,26 @@
 // Blocks of arrays.
-ghost use Rattle.std.specs.Prelude.{◌≡◌, ◌<◌, ◌≤◌, List, [], ◌∷◌, ◌++◌, length, take};
+ghost use Rattle.std.specs.Prelude.{◌≡◌, ◌<◌, ◌≤◌, List, [], ◌∷◌, ◌++◌, length};
 ghost use Rattle.sq_text.specs.declared.place.Span.{Span};
 ghost use Rattle.sq_rect.specs.Spans.{AreProper};
 
+use arrayvec::ArrayVec;
 use sq_text::Span;
 use std::marker::Model;
 
 /// The coordinates that lie in a span of each of 1 to 3 dimensions. No span is empty. Contracts see the list of spans.
-#[derive(Drop)]
+#[derive(Debug, PartialEq, Eq, Drop)]
 pub struct Rect {
-    spans: [Span; 3],
-    count: usize,
+    spans: ArrayVec<Span, 3>,
 }
 
 impl Model for Rect {
     ghost Value = { List Span };
 
-    ghost view = { λ r. take r.count r.spans };
+    ghost view = { λ r. r.spans.items };
 
-    ghost invariant = { λ r. (0 < r.count) × (r.count ≤ 3) × AreProper (take r.count r.spans) };
+    ghost invariant = { λ r. (0 < length r.spans.items) × (length r.spans.items ≤ 3) × AreProper r.spans.items };
+
+    ghost inverse = { λ spans. record { spans = record { items = spans } } };
 }
 
 impl Rect {
@@ -27,10 +29,9 @@ impl Rect {
         requires { span.lo < span.hi }
         ensures { result ≡ span ∷ [] }
     {
-        Rect {
-            spans: [span, span, span],
-            count: 1,
-        }
+        let mut spans = ArrayVec::new();
+        spans.push(span);
+        Rect { spans }
     }
 
     /// Adds a last dimension.
@@ -39,8 +40,7 @@ impl Rect {
         requires proper { span.lo < span.hi }
         ensures { self.new ≡ self.old ++ span ∷ [] }
     {
-        self.spans[self.count] = span;
-        self.count += 1;
+        self.spans.push(span);
     }
 
     pub fn as_slice(&self) -> &[Span]
@@ -49,6 +49,26 @@ impl Rect {
         ensures few { length self.now ≤ 3 }
         ensures proper { AreProper self.now }
     {
-        &self.spans[..self.count]
+        self.spans.as_slice()
+    }
+
+    /// The same spans.
+    pub fn copy(&self) -> Rect
+        ensures { result ≡ self.now }
+    {
+        let mut spans = ArrayVec::new();
+        for span in self.as_slice() {
+            spans.push(*span);
+        }
+        Rect { spans }
+    }
+}
+
+impl Default for Rect {
+    ghost is_default = { λ r. r ≡ record { lo = 0; hi = 1 } ∷ [] };
+
+    /// The one element of an array of one.
+    fn default() -> Rect {
+        Rect::new(Span { lo: 0, hi: 1 })
     }
 }

@@ -30,7 +30,7 @@ loop-i-preserved g c = record {
         so_far.0 ++ c.in-Ok.v ∷ [],
         one_cell c.args.elem so_far.0 c.in-Ok.v c.loop-i.i c.width-size.result _ c.loop-i.into c.store_elem.new.bytes
             (more_fits c.loop-i.i (length c.args.into.now / c.width-size.result) c.width-size.result (length c.loop-i.into) c.loop-i-test.true (omega (arith, whole))) (omega arith) (c.store_elem.ensures.bytes ∙ ap (cell c.args.elem) (to_z-of_z w64 c.in-Ok.v (search rules))) so_far.1,
-        sym (front_step c.args.elem so_far.0 c.in-Ok.v (length c.args.into.now / c.width-size.result - (c.loop-i.i + 1)) (length c.args.into.now / c.width-size.result - c.loop-i.i) (rest_of c.loop-i.window bytes) (rest_of c.value.new.window bytes) (omega arith)
+        sym (front_step c.args.elem so_far.0 c.in-Ok.v (length c.args.into.now / c.width-size.result - (c.loop-i.i + 1)) (length c.args.into.now / c.width-size.result - c.loop-i.i) (rest_of c.loop-i.window bytes) (rest_of c.expect_value.new.window bytes) (omega arith)
             (c.in-Ok.ensures.gives bytes (rw c.loop-i.invariant.content t))) ∙ so_far.2,
       );
   faults = search rules;

@@ -1,10 +1,10 @@
-use Rattle.std.proofs.Common.{◌∙◌, ap, []}
+use Rattle.std.proofs.Common.{◌∙◌, ap}
 use Rattle.sq_arrays.specs.Heads.{shape_text}
-use Rattle.sq_arrays.proofs.Writing.{wrote_same, wrote_nothing, head_given}
+use Rattle.sq_arrays.proofs.Writing.{gathers_same, head_given}
 use Rattle.sq_arrays.proofs.write.put_head.Goals as goal
 
-pub returns : goal.returns
-returns g c =
-    wrote_same (head_given _ _ _ _ _ _ c.bytes.ensures c.word_of.ensures (c.put_shape-end.ensures.text ∙ ap shape_text c.as_slice.ensures.numbers))
-    (c.put_next.ensures _ _ _ (c.put_next-shaped.ensures _ _ _ (c.put_next-parted.ensures _ _ _ (c.put_next-typed.ensures _ _ _
-    (c.put_next-spaced.ensures _ _ _ (c.put_next-named.ensures _ _ _ (c.put_next-word.ensures _ _ [] (wrote_nothing _ _))))))))
+pub returns-clause-gathers : goal.returns-clause-gathers
+returns-clause-gathers g c = λ start faults text told.
+    gathers_same (head_given text _ _ _ _ _ _ c.bytes.ensures c.word_of.ensures (c.put_shape-end.ensures.text ∙ ap shape_text c.as_slice.ensures.numbers))
+    (c.add-7.ensures.gathers _ _ _ (c.add-6.ensures.gathers _ _ _ (c.add-5.ensures.gathers _ _ _ (c.add-4.ensures.gathers _ _ _
+    (c.add-3.ensures.gathers _ _ _ (c.add-2.ensures.gathers _ _ _ (c.add.ensures.gathers start faults text told)))))))

@@ -1,9 +1,8 @@
-use Rattle.std.proofs.Common.{arith, ◌≡◌, ◌-◌, ◌*◌, ℕ, ◌∙◌, ap, sym, refl, length, length-drop}
+use Rattle.std.proofs.Common.{arith, ◌≡◌, ◌-◌, ◌*◌, ℕ, ◌∙◌, ap, length, length-drop}
 use Rattle.std.proofs.Math.Nat.{mul_assoc}
-use Rattle.std.proofs.lemmas.List.{append-nil}
 use Rattle.sq_num.specs.Elements.{width}
 use Rattle.sq_arrays.proofs.Rows.{rows_begin, rows_more, rows_end, rows_size}
-use Rattle.sq_arrays.proofs.Writing.{wrote_same}
+use Rattle.sq_arrays.proofs.Writing.{gathers_same}
 use Rattle.sq_arrays.proofs.write.put_rows.Goals as goal
 
 whole : (rows last w n : ℕ) → n ≡ rows * last * w → n ≡ (rows - 0) * (last * w)
@@ -11,16 +10,14 @@ whole rows last w n is = is ∙ mul_assoc rows last w ∙ ap (λ (k : ℕ). k * 
 
 pub loop-init : goal.loop-init
 loop-init g c = record {
-  used = omega arith;
-  size = refl;
+  later = omega arith;
   rest = whole c.args.rows c.args.last (width c.args.elem) (length c.args.bytes.now) c.requires;
-  gathers = λ start faults text told. (text, rows_begin c.args.elem c.args.rows c.args.last c.args.bytes.now text, record { front = text; split = sym (append-nil text); wrote = told });
+  gathers = λ start faults text told. (text, rows_begin c.args.elem c.args.rows c.args.last c.args.bytes.now text, told);
 }
 
 pub loop-preserved : goal.loop-preserved
 loop-preserved g c = record {
-  used = c.put_row-progress.ensures.used;
-  size = c.put_row-progress.ensures.size;
+  later = omega (arith, c.loop.invariant.later, c.put_row.ensures.later);
   rest = ap length c.behind-rest.ensures ∙ length-drop (c.args.last * c.width.result) c.loop.rest.now
       ∙ ap (λ (k : ℕ). length c.loop.rest.now - c.args.last * k) c.width.ensures
       ∙ rows_size c.args.rows c.loop.counter (c.args.last * width c.args.elem) (length c.loop.rest.now) c.loop-test.true c.loop.invariant.rest;
@@ -28,12 +25,14 @@ loop-preserved g c = record {
       let so_far = c.loop.invariant.gathers start faults text told in (
         _,
         rows_more c.args.elem c.args.rows c.loop.counter c.args.last _ c.loop.rest.now _ so_far.0 _ c.loop-test.true (ap (λ (k : ℕ). c.args.last * k) c.width.ensures) c.behind-rest.ensures so_far.1,
-        c.put_row-progress.ensures.gathers start faults so_far.0 so_far.2,
+        c.put_row.ensures.gathers start faults so_far.0 so_far.2,
       );
 }
 
 pub returns : goal.returns
-returns g c = λ start faults text told.
-    let so_far = c.loop.invariant.gathers start faults text told in
-    let all = rows_end c.args.elem c.args.rows c.loop.counter c.args.last c.loop.rest.now so_far.0 _ c.loop-test.false so_far.1 in
-    wrote_same (sym so_far.2.split ∙ all) (c.put_next.ensures start faults so_far.2.front so_far.2.wrote)
+returns g c = record {
+  later = c.loop.invariant.later;
+  gathers = λ start faults text told.
+      let so_far = c.loop.invariant.gathers start faults text told in
+      gathers_same (rows_end c.args.elem c.args.rows c.loop.counter c.args.last c.loop.rest.now so_far.0 _ c.loop-test.false so_far.1) so_far.2;
+}
