@@ -8,7 +8,7 @@ use Rattle.sq_ast.specs.Canonical.{written}
 use Rattle.sq_ast.proofs.Spelled.{Fits, Each, none, more, whole}
 use Rattle.sq_ast.proofs.Operands.{IndexSays}
 use Rattle.sq_lexer.specs.declared.token.Token.{Token}
-use Rattle.sq_lexer.specs.Bytes.{start}
+use Rattle.sq_text.specs.Places.{start}
 use Rattle.sq_lexer.specs.Tokens.{AreTokens}
 use Rattle.sq_ast.specs.declared.program.Program.{Program}
 use Rattle.sq_ast.specs.Symbols.{symbols}

@@ -12,7 +12,7 @@ use Rattle.sq_ast.specs.declared.keyword.Keyword.{Keyword}
 use Rattle.sq_ast.specs.declared.keyword.Keyword.TheVariants as k
 use Rattle.sq_ast.specs.declared.class.Class.{Class}
 use Rattle.sq_ast.specs.declared.class.Class.TheVariants as c
-use Rattle.sq_ast.specs.declared.expr.Word as tree
+use Rattle.sq_text.specs.declared.word.Word as tree
 use Rattle.sq_ast.specs.declared.expr.ArgUse.{ArgUse, roll-ArgUse}
 use Rattle.sq_ast.specs.declared.expr.Expr.{Expr}
 use Rattle.sq_ast.specs.declared.leaf.AssignOp.{AssignOp}

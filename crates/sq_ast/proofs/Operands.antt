@@ -8,7 +8,7 @@ use Rattle.sq_lexer.specs.Bytes.{first_is, is_letter, is_digit}
 use Rattle.sq_lexer.specs.Signs.{spelling}
 use Rattle.sq_ast.specs.declared.keyword.Keyword.TheVariants as k
 use Rattle.sq_ast.specs.declared.class.Class.{Class}
-use Rattle.sq_ast.specs.declared.expr.Word as tree
+use Rattle.sq_text.specs.declared.word.Word as tree
 use Rattle.sq_ast.specs.declared.expr.UnOp.{UnOp}
 use Rattle.sq_ast.specs.declared.expr.UnOp.TheVariants.{Neg, Not, Inv}
 use Rattle.sq_ast.specs.declared.expr.Expr.{Expr}

@@ -5,7 +5,7 @@ use Rattle.sq_text.specs.declared.place.Place.{Place}
 use Rattle.sq_num.specs.declared.Elem.{Elem}
 use Rattle.sq_lexer.specs.declared.token.Sign.TheVariants as g
 use Rattle.sq_ast.specs.declared.keyword.Keyword.TheVariants as k
-use Rattle.sq_ast.specs.declared.expr.Word as tree
+use Rattle.sq_text.specs.declared.word.Word as tree
 use Rattle.sq_ast.specs.declared.expr.Expr.{Expr}
 use Rattle.sq_ast.specs.declared.leaf.LeafStmt.{LeafStmt}
 use Rattle.sq_ast.specs.declared.stmt.Stmt.{Stmt}

@@ -7,7 +7,7 @@ use Rattle.sq_num.specs.declared.Elem.{Elem}
 use Rattle.sq_num.specs.declared.Elem.TheVariants as elem
 use Rattle.sq_num.specs.declared.RedOp.{RedOp}
 use Rattle.sq_num.specs.declared.RedOp.TheVariants as red
-use Rattle.sq_ast.specs.declared.expr.Word.{Word}
+use Rattle.sq_text.specs.declared.word.Word.{Word}
 use Rattle.sq_ast.specs.declared.expr.ArgUse.{ArgUse}
 use Rattle.sq_ast.specs.declared.expr.UnOp.{UnOp}
 use Rattle.sq_ast.specs.declared.expr.UnOp.TheVariants.{Neg, Not, Inv}

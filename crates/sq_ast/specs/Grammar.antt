@@ -10,7 +10,7 @@ use Rattle.sq_lexer.specs.declared.token.Sign.TheVariants as g
 use Rattle.sq_ast.specs.declared.keyword.Keyword.TheVariants as k
 use Rattle.sq_ast.specs.declared.class.Class.{Class}
 use Rattle.sq_ast.specs.declared.class.Class.TheVariants as c
-use Rattle.sq_ast.specs.declared.expr.Word as tree
+use Rattle.sq_text.specs.declared.word.Word as tree
 use Rattle.sq_ast.specs.declared.expr.ArgUse.{ArgUse, roll-ArgUse}
 use Rattle.sq_ast.specs.declared.expr.UnOp.{UnOp}
 use Rattle.sq_ast.specs.declared.expr.UnOp.TheVariants.{Neg, Not, Inv}
@@ -40,6 +40,7 @@ use Rattle.sq_ast.specs.declared.program.Decl.TheVariants as declared
 use Rattle.sq_ast.specs.declared.program.Body.TheVariants as body
 use Rattle.sq_ast.specs.declared.program.Variant.{Variant}
 use Rattle.sq_ast.specs.declared.program.Program.{Program}
+use Rattle.sq_ast.specs.declared.program.TheConstants.{MOST_LEVELS}
 use Rattle.sq_ast.specs.Symbols.{Symbol, Word, Number, Key, Mark, Last, class_at, place_at}
 
 abbrev pub if_some : {A B : Type 0} → Option A → (A → B) → B → B
@@ -398,6 +399,10 @@ pub data Derives : Phrase → List Leveled → List Leveled → Type 0 where
       → Derives (One (Operand false) d (e.Most x y)) (at (Key p k.Max) d ∷ at (Mark q g.ParenOpen) (suc d) ∷ i) l
 
 -- ---- texts
+
+-- the levels of nesting that a program may have
+unfoldable pub most_levels : ℕ
+most_levels = MOST_LEVELS
 
 -- no token has more than so many levels open
 abbrev pub Within : ℕ → List Leveled → Type 0

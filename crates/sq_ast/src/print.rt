@@ -2,6 +2,7 @@
 
 mod expr;
 mod leaf;
+mod parts;
 mod stmt;
 mod variant;
 
@@ -15,6 +16,7 @@ ghost use Rattle.sq_ast.specs.Grammar.{StandsFor};
 ghost use Rattle.sq_ast.specs.Canonical.{Adds, canonical, indent};
 ghost use Rattle.sq_ast.specs.Unplaced.{ReadsAs, bare};
 
+use crate::print::parts::put_all;
 use crate::program::Program;
 use crate::text::Text;
 use itoa::Buffer;
@@ -58,7 +60,7 @@ fn printed(alloc: Global, p: &Program) -> Result<Text, AllocError>
     ensures { IfOk result (λ t. t ≡ canonical p.now) }
 {
     let mut out = Vec::new(alloc);
-    variant::put_variants(&mut out, p.tasks.as_slice())?;
+    put_all(&mut out, p.tasks.as_slice())?;
     Ok(Text::new(out))
 }
 

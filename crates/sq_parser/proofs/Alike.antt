@@ -5,7 +5,7 @@ use Rattle.std.proofs.lemmas.Option.{slice_get-map, slice_get-get_or}
 use Rattle.std.proofs.lemmas.List.{length-map}
 use Rattle.sq_lexer.specs.declared.token.Token.{Token}
 use Rattle.sq_lexer.specs.declared.token.Kind.{Kind}
-use Rattle.sq_parser.specs.declared.form.Wanted.{Wanted}
+use Rattle.sq_parser.specs.declared.small.form.Wanted.{Wanted}
 use Rattle.sq_parser.specs.Form.{kinds_of, kind_of, kinds_wanted}
 
 kind_at : (ts : List Token) (i : ℕ) (t : Token) → i < length ts → slice_get (kinds_of ts) i ≡ Some ((get_or ts i t).kind)

@@ -1,25 +1,23 @@
 -- The first fault of tokens that end with their end.
-use Rattle.std.proofs.Common.{◌≡◌, ◌≢◌, ℕ, zero, suc, ◌+◌, ◌-◌, ◌≤◌, ◌<◌, List, [], ◌∷◌, ◌++◌, length, take, Option, Some, None, Result, Ok, Err, refl, sym, ◌∙◌, ap, subst, arith, ◌⊎◌, inl, inr}
+use Rattle.std.proofs.Common.{◌≡◌, ◌≢◌, ℕ, zero, suc, ◌-◌, ◌<◌, List, [], ◌∷◌, length, Some, Ok, Err, refl, ap, subst, arith, inl, inr}
 use Rattle.std.specs.Prelude.{slice_get}
-use Rattle.sq_text.specs.declared.place.Place.{Place}
 use Rattle.sq_lexer.specs.declared.token.Token.{Token}
-use Rattle.sq_lexer.specs.declared.token.Kind.TheVariants as t
-use Rattle.sq_lexer.specs.Tokens.{HasEnd, is_end}
-use Rattle.sq_ast.specs.Symbols.{Symbol, Last, symbols, symbol_in}
-use Rattle.sq_ast.specs.Grammar.{SyntaxAt, TooDeepAt, StandsFor}
+use Rattle.sq_lexer.specs.Tokens.{HasEnd}
+use Rattle.sq_ast.specs.Symbols.{Symbol, symbols, symbol_in}
 use Rattle.sq_ast.specs.declared.program.Program.{Program}
-use Rattle.sq_text.specs.declared.fault.Code.{Code}
+use Rattle.sq_text.specs.declared.code.Code.{Code}
 use Rattle.sq_text.specs.declared.fault.Fault.{Fault}
-use Rattle.sq_text.specs.declared.fault.Phase.TheVariants as phase
-use Rattle.sq_text.specs.declared.fault.Code.TheVariants as code
+use Rattle.sq_text.specs.declared.code.Phase.TheVariants as phase
+use Rattle.sq_text.specs.declared.code.Code.TheVariants as code
 use Rattle.sq_text.specs.Answers.{IfRefused, Gives, Refuses}
-use Rattle.sq_parser.specs.declared.error.ParseError.{ParseError}
-use Rattle.sq_parser.specs.declared.error.ParseError.TheVariants.{OutOfMemory, Syntax, TooDeep}
-use Rattle.sq_parser.specs.Reading.{program}
-use Rattle.sq_parser.specs.Programs.{most_levels, IsProgram, IsAt, HasFault, place_of, refused, stop_of}
-use Rattle.sq_parser.proofs.Lengths.{length_symbols}
+use Rattle.sq_reader.specs.declared.error.ParseError.{ParseError}
+use Rattle.sq_reader.specs.declared.error.ParseError.TheVariants.{OutOfMemory, Syntax, TooDeep}
+use Rattle.sq_reader.specs.Reading.{program}
+use Rattle.sq_ast.specs.Grammar.{most_levels}
+use Rattle.sq_parser.specs.Programs.{IsProgram, IsAt, HasFault, place_of, stop_of}
+use Rattle.sq_reader.proofs.Lengths.{length_symbols}
 use Rattle.sq_parser.proofs.Unique.{one_fault, no_fault}
-use Rattle.sq_parser.proofs.Places.{HasFront, SyntaxIn, TooDeepIn, syntax_at, deep_at, stands, one_program, no_error}
+use Rattle.sq_reader.proofs.Places.{HasFront, SyntaxIn, TooDeepIn, syntax_at, deep_at, stands, one_program, no_error}
 
 pub front_of : (ts : List Token) → HasEnd ts → HasFront (symbols ts)
 front_of [] h = absurd h

@@ -1,6 +1,6 @@
 -- What holds of names holds of those that the reader holds.
 use Rattle.std.proofs.Common.{ℕ, List, sym, subst}
-use Rattle.sq_parser.specs.declared.names.Names.{Names}
+use Rattle.sq_parser.specs.declared.small.names.Names.{Names}
 use Rattle.sq_parser.specs.Names.{HasNames}
 
 pub holds_of : (P : List ℕ → List ℕ → List ℕ → List ℕ → List ℕ → Type 0) (names : Names) (task size input output counter : List ℕ)

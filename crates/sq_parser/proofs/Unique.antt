@@ -1,16 +1,17 @@
 -- Tokens that stand for a program have no fault, and others have one at most.
-use Rattle.std.proofs.Common.{◌≡◌, ℕ, zero, suc, ◌+◌, ◌≤◌, ◌<◌, List, [], ◌∷◌, ◌++◌, length, take, drop, Option, Some, None, Ok, Err, refl, sym, ◌∙◌, ap, subst, append_assoc, append-nil, arith, ◌⊎◌, inl, inr}
+use Rattle.std.proofs.Common.{◌≡◌, ℕ, zero, suc, ◌≤◌, ◌<◌, List, [], ◌∷◌, ◌++◌, take, drop, Option, Some, refl, sym, ◌∙◌, ap, subst, append_assoc, append-nil, arith, ◌⊎◌, inl, inr}
 use Rattle.std.proofs.lemmas.Bool.Decides.{leb_tells}
 use Rattle.std.specs.Prelude.{slice_get}
 use Rattle.sq_text.specs.declared.fault.Fault.{Fault}
-use Rattle.sq_text.specs.declared.fault.Code.{Code}
-use Rattle.sq_text.specs.declared.fault.Phase.TheVariants as phase
-use Rattle.sq_text.specs.declared.fault.Code.TheVariants as code
+use Rattle.sq_text.specs.declared.code.Code.{Code}
+use Rattle.sq_text.specs.declared.code.Phase.TheVariants as phase
+use Rattle.sq_text.specs.declared.code.Code.TheVariants as code
 use Rattle.sq_lexer.specs.declared.token.Token.{Token}
 use Rattle.sq_ast.specs.declared.program.Program.{Program}
 use Rattle.sq_ast.specs.Symbols.{Symbol, symbols}
 use Rattle.sq_ast.specs.Grammar.{Leveled, kinds, Within, IsText, StandsFor, BeginsText, BeginsWithin, SyntaxAt, TooDeepAt}
-use Rattle.sq_parser.specs.Programs.{most_levels, IsProgram, IsAt, HasFault, place_of}
+use Rattle.sq_ast.specs.Grammar.{most_levels}
+use Rattle.sq_parser.specs.Programs.{IsProgram, IsAt, HasFault, place_of}
 
 kinds_take : (k : ℕ) (l : List Leveled) → kinds (take k l) ≡ take k (kinds l)
 kinds_take zero l = refl

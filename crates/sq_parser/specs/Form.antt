@@ -3,8 +3,8 @@ use Rattle.std.specs.Prelude.{ℕ, ℤ, pos, List, map, Option, Some, None}
 use Rattle.sq_lexer.specs.declared.token.Token.{Token}
 use Rattle.sq_lexer.specs.declared.token.Kind.{Kind}
 use Rattle.sq_lexer.specs.declared.token.Kind.TheVariants as k
-use Rattle.sq_parser.specs.declared.form.Wanted.{Wanted}
-use Rattle.sq_parser.specs.declared.form.Wanted.TheVariants as w
+use Rattle.sq_parser.specs.declared.small.form.Wanted.{Wanted}
+use Rattle.sq_parser.specs.declared.small.form.Wanted.TheVariants as w
 
 abbrev pub kinds_of : List Token → List Kind
 kinds_of tokens = map (λ token. token.kind) tokens

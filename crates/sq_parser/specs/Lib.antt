@@ -1,4 +1,3 @@
-pub mod Reading
 pub mod Programs
 pub mod Form
 pub mod Names

@@ -1,6 +1,6 @@
 -- The names of a small program, as the reader holds them.
 use Rattle.std.specs.Prelude.{◌≡◌, ℕ, List}
-use Rattle.sq_parser.specs.declared.names.Names.{Names}
+use Rattle.sq_parser.specs.declared.small.names.Names.{Names}
 
 pub record HasNames (names : Names) (task size input output counter : List ℕ) : Type 0 where
   pub task_is : names.task.now ≡ task

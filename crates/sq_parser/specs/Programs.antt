@@ -1,21 +1,19 @@
--- What reading a program answers. A program has 64 levels of nesting at most.
+-- What reading a program answers.
 use Rattle.std.specs.Prelude.{◌≡◌, ℕ, ◌-◌, List, [], length, Option, Some, None, slice_get, ◌⊎◌}
 use Rattle.sq_text.specs.declared.place.Place.{Place}
 use Rattle.sq_text.specs.declared.fault.Fault.{Fault}
 use Rattle.sq_text.specs.declared.fault.Stop.{Stop}
 use Rattle.sq_text.specs.declared.fault.Stop.TheVariants.{Refused, NoMemory}
-use Rattle.sq_text.specs.declared.fault.Phase.TheVariants as phase
-use Rattle.sq_text.specs.declared.fault.Code.{Code}
-use Rattle.sq_text.specs.declared.fault.Code.TheVariants.{Syntax, TooDeep}
+use Rattle.sq_text.specs.declared.code.Phase.TheVariants as phase
+use Rattle.sq_text.specs.declared.code.Code.{Code}
+use Rattle.sq_text.specs.declared.code.Code.TheVariants.{Syntax, TooDeep}
 use Rattle.sq_lexer.specs.declared.token.Token.{Token}
 use Rattle.sq_ast.specs.declared.program.Program.{Program}
 use Rattle.sq_ast.specs.Symbols.{symbols}
 use Rattle.sq_ast.specs.Grammar as grammar
-use Rattle.sq_parser.specs.declared.error.ParseError.{ParseError}
-use Rattle.sq_parser.specs.declared.error.ParseError.TheVariants as error
-
-unfoldable pub most_levels : ℕ
-most_levels = 64
+use Rattle.sq_ast.specs.Grammar.{most_levels}
+use Rattle.sq_reader.specs.declared.error.ParseError.{ParseError}
+use Rattle.sq_reader.specs.declared.error.ParseError.TheVariants as error
 
 -- the tokens stand for this program
 abbrev pub IsProgram : List Token → Program → Type 0

@@ -4,8 +4,8 @@ use Rattle.std.specs.List.{list_any}
 use Rattle.sq_lexer.specs.declared.token.Token.{Token}
 use Rattle.sq_lexer.specs.Tokens.{AreTokens}
 use Rattle.sq_lexer.specs.Faults.{FitsFile}
-use Rattle.sq_text.specs.declared.fault.Phase.{Phase}
-use Rattle.sq_text.specs.declared.fault.Phase.TheVariants.{Program, Machine, Mapping}
+use Rattle.sq_text.specs.declared.code.Phase.{Phase}
+use Rattle.sq_text.specs.declared.code.Phase.TheVariants.{Program, Machine, Mapping}
 use Rattle.sq_parser.specs.declared.small.SmallTask.{SmallTask}
 use Rattle.sq_parser.specs.declared.small.SmallMachine.{SmallMachine}
 use Rattle.sq_parser.specs.declared.small.SmallEnd.{SmallEnd}

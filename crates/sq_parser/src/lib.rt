@@ -1,21 +1,9 @@
 //! The parser of programs, and the small programs, machines and mappings, read from their texts.
 #![tactic(auto)]
 
-mod class;
-mod error;
-mod expr;
-mod form;
-mod found;
-mod leaf;
-mod names;
+pub mod laws;
 mod parse;
-mod program;
 mod small;
-mod start;
-mod stmt;
-mod sum;
-mod tables;
-mod tokens;
 
 pub use parse::parse_program;
 pub use small::{
@@ -26,4 +14,4 @@ pub use small::{
 #[cfg(test)]
 mod parse_tests;
 #[cfg(test)]
-mod tests;
+mod small_tests;

@@ -7,17 +7,12 @@ ghost use Rattle.sq_lexer.specs.Tokens.{HasEnd};
 ghost use Rattle.sq_ast.specs.declared.program.Program.{Program};
 ghost use Rattle.sq_parser.specs.Programs as programs;
 
-use crate::error::ParseError;
-use crate::program::program;
-use crate::tokens::Tokens;
-use sq_ast::Program;
+use sq_ast::{MOST_LEVELS, Program};
 use sq_lexer::{Token, TokenList};
+use sq_reader::{ParseError, Tokens, read_program};
 use sq_text::{Code, Fault, Phase, Stop};
 use sqlite_items::Items;
 use std::alloc::Global;
-
-// How many levels of nesting a program may have.
-const MAX_DEPTH: usize = 64;
 
 // The fault with this code, at the place of the token from which on so many are left.
 fn refused(alloc: Global, tokens: &[Token], code: Code, left: usize) -> Stop
@@ -62,7 +57,7 @@ pub fn parse_program(alloc: Global, tokens: &TokenList) -> Result<Program, Stop>
 {
     let list = tokens.as_slice();
     let mut rest = Tokens::new(list);
-    match program(alloc, &mut rest, MAX_DEPTH) {
+    match read_program(alloc, &mut rest, MOST_LEVELS) {
         Ok(found) => Ok(found),
         Err(error) => Err(stop_of(alloc, list, error)),
     }

@@ -5,7 +5,12 @@ ghost use Rattle.sq_lexer.specs.declared.token.Token.{Token};
 ghost use Rattle.sq_lexer.specs.Faults.{ReadsTokens};
 ghost use Rattle.sq_parser.specs.Texts.{IsPlain, IsSmallProgram, IsSmallMachine, IsSmallMapping, Gives};
 
-use crate::found::{machine_of, mapping_of, program_of};
+mod contents;
+mod form;
+mod names;
+mod sum;
+
+use crate::small::contents::{machine_of, mapping_of, program_of};
 use sq_lexer::{TokenList, tokens};
 use sq_text::{Name, Phase, Stop};
 use sqlite_items::Items;

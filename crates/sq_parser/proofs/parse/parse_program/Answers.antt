@@ -1,7 +1,8 @@
 use Rattle.std.proofs.Common.{Err, sym, subst}
 use Rattle.sq_text.specs.Answers.{Gives, IfRefused, Refuses}
 use Rattle.sq_ast.specs.declared.program.Program.{Program}
-use Rattle.sq_parser.specs.Programs.{most_levels, stop_of, HasFault}
+use Rattle.sq_ast.specs.Grammar.{most_levels}
+use Rattle.sq_parser.specs.Programs.{stop_of, HasFault}
 use Rattle.sq_parser.proofs.Faults.{found, only, refusal, only_memory, refuses, none_refused}
 use Rattle.sq_parser.proofs.parse.parse_program.Goals as goal
 
