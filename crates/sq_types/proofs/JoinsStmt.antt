@@ -1,7 +1,7 @@
 -- What is found in a map.
 use Rattle.std.proofs.Common.{◌≡◌, List, Option, map, sym, ◌∙◌, ap, subst}
 use Rattle.sq_text.specs.declared.place.Place.{Place}
-use Rattle.sq_text.specs.declared.fault.Fault.{Fault}
+use Rattle.sq_text.specs.Found.{Found}
 use Rattle.sq_ast.specs.declared.stmt.Call.{Call}
 use Rattle.sq_ast.specs.declared.stmt.Range.{Range}
 use Rattle.sq_ast.specs.declared.stmt.MapKind.{MapKind}
@@ -13,7 +13,7 @@ use Rattle.sq_types.specs.Sites.{Spread, Finds, call_in, head_sites, ranges_know
 use Rattle.sq_types.proofs.Joins.{join}
 use Rattle.sq_types.proofs.OpenedStmt.{sites_map}
 
-pub found_map : (t : Stmt) (tasks : List Variant) (place : Place) (kind : MapKind) (rs qs : List Range) (body ys : List Stmt) (call : Option Call) (known within : Known) (a b c : Option Fault)
+pub found_map : (t : Stmt) (tasks : List Variant) (place : Place) (kind : MapKind) (rs qs : List Range) (body ys : List Stmt) (call : Option Call) (known within : Known) (a b c : Found)
     → t ≡ s.Map place kind rs body → qs ≡ rs → ys ≡ body → call ≡ call_in (map (stmt_part tasks) ys) → within ≡ ranges_known qs known
     → Finds a b (head_sites tasks kind qs call known) → Finds b c (stmts_sites tasks ys within) → Finds a c (stmt_sites tasks t known)
 found_map t tasks place kind rs qs body ys call known within a b c is same_ranges same called more p q =

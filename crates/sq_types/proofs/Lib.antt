@@ -7,3 +7,13 @@ pub mod JoinsLeaf
 pub mod Scopes
 pub mod Judged
 pub mod First
+pub mod RulesKept
+pub mod SoundExprs
+pub mod SoundStmts
+pub mod Judging
+pub mod Soundness
+pub mod WordsExprs
+pub mod WordsStmts
+pub mod Counting
+pub mod EachName
+pub mod Nested

@@ -1,7 +1,7 @@
 -- The equations of the folds over expressions.
 use Rattle.std.proofs.Common.{◌≡◌, ℕ, suc, ℤ, List, [], ◌∷◌, length, map, refl, sym, ◌∙◌, ap}
 use Rattle.sq_text.specs.declared.place.Place.{Place}
-use Rattle.sq_ast.specs.declared.expr.Word.{Word}
+use Rattle.sq_text.specs.declared.word.Word.{Word}
 use Rattle.sq_ast.specs.declared.expr.UnOp.{UnOp}
 use Rattle.sq_ast.specs.declared.expr.ArgUse.{ArgUse, out-ArgUse}
 use Rattle.sq_ast.specs.declared.expr.Link.{Link, out-Link}
@@ -15,7 +15,7 @@ use Rattle.sq_types.specs.Sites.{Spread, Indexed, expr_step, use_step, link_step
 abbrev used : ArgUse → Indexed
 used = fold-ArgUse Spread Indexed Spread expr_step use_step link_step
 
-length_map : {A B : Type 0} (f : A → B) (xs : List A) → length (map f xs) ≡ length xs
+pub length_map : {A B : Type 0} (f : A → B) (xs : List A) → length (map f xs) ≡ length xs
 length_map f [] = refl
 length_map f (x ∷ xs) = ap suc (length_map f xs)
 

@@ -1,7 +1,7 @@
 -- The equations of the folds over leaf code.
 use Rattle.std.proofs.Common.{◌≡◌, List, map, sym, ◌∙◌, ap}
 use Rattle.sq_text.specs.declared.place.Place.{Place}
-use Rattle.sq_ast.specs.declared.expr.Word.{Word}
+use Rattle.sq_text.specs.declared.word.Word.{Word}
 use Rattle.sq_ast.specs.declared.expr.ArgUse.{ArgUse}
 use Rattle.sq_ast.specs.declared.expr.Expr.{Expr}
 use Rattle.sq_ast.specs.declared.leaf.AssignOp.{AssignOp}

@@ -11,7 +11,7 @@ use Rattle.sq_ast.specs.declared.stmt.Stmt.TheFolds.{fold-roll-Stmt}
 use Rattle.sq_ast.specs.declared.program.Variant.{Variant}
 use Rattle.sq_types.specs.Sites.{Part, all_of, call_in, call_sites, head_sites, ranges_known, stmt_step, stmt_part, stmt_sites, stmts_sites}
 
-map_map : {A B C : Type 0} (g : B → C) (f : A → B) (xs : List A) → map g (map f xs) ≡ map (λ x. g (f x)) xs
+pub map_map : {A B C : Type 0} (g : B → C) (f : A → B) (xs : List A) → map g (map f xs) ≡ map (λ x. g (f x)) xs
 map_map g f [] = refl
 map_map g f (x ∷ xs) = ap (λ ys. g (f x) ∷ ys) (map_map g f xs)
 

@@ -1,4 +1,8 @@
 pub mod Known
-pub mod Rules
 pub mod Table
 pub mod Sites
+pub mod Roles
+pub mod Sound
+pub mod Words
+pub mod Readings
+pub mod Nesting

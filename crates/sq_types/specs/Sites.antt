@@ -1,14 +1,17 @@
 -- The names of a program where they stand, and what is known there. Sizes, parameters, tunables, locals, block sets and map variables
 -- of a variant share one space of names, of which each is known from its first declaration to the variant's end; a map's variable and
 -- a loop's counter are known in its body alone. Tasks are a space of their own.
-use Rattle.std.specs.Prelude.{◌≡◌, ℕ, ◌+◌, Bool, true, false, ◌&&◌, List, [], ◌∷◌, ◌++◌, Option, Some, None, if◌then◌else◌, map, length, slice_get, option_map}
+use Rattle.std.specs.Prelude.{ℕ, ◌+◌, Bool, true, false, ◌&&◌, List, [], ◌∷◌, ◌++◌, Option, Some, None, if◌then◌else◌, map, length, slice_get, option_map}
 use Rattle.std.proofs.Math.Bool.{beq}
 use Rattle.std.specs.List.{list_any}
 use Rattle.sq_text.specs.declared.fault.Fault.{Fault}
 use Rattle.sq_text.specs.declared.place.Place.{Place}
-use Rattle.sq_text.specs.First.{HoldsIn, firsts as first_fault}
-use Rattle.sq_text.specs.Answers.{fault_place}
-use Rattle.sq_ast.specs.declared.expr.Word.{Word}
+use Rattle.sq_text.specs.First.{HoldsIn}
+use Rattle.sq_text.specs.Found as found
+use Rattle.sq_text.specs.Found.{Found}
+use Rattle.sq_text.specs.Names.{Bytes, same_name, first_from}
+use Rattle.sq_text.specs.declared.word.Word.{Word}
+use Rattle.sq_num.specs.declared.Elem.{Elem}
 use Rattle.sq_ast.specs.declared.expr.ArgUse.{ArgUse, out-ArgUse}
 use Rattle.sq_ast.specs.declared.expr.Expr.{Expr}
 use Rattle.sq_ast.specs.declared.expr.Link.{Link}
@@ -36,9 +39,8 @@ use Rattle.sq_ast.specs.declared.program.Body.TheVariants as body
 use Rattle.sq_ast.specs.declared.program.Variant.{Variant}
 use Rattle.sq_ast.specs.declared.program.Program.{Program}
 use Rattle.sq_types.specs.declared.kind.Kind.TheVariants as kind
-use Rattle.sq_types.specs.Known.{Name, same_name, Known, with_name}
-use Rattle.sq_types.specs.Rules.{fault_number}
-use Rattle.sq_types.specs.Table.{Site, site, HoldsAt, judge, is_written, Task, Parameter, SizeName, Local, Declared, Blocks, Chopped, Lists, Value, Element, Target, Counts, Callee, Argument, Reduced}
+use Rattle.sq_types.specs.Known.{Known, with_name}
+use Rattle.sq_types.specs.Table.{Site, site, HoldsAt, judge, is_written, Task, Parameter, SizeName, Local, Declared, BlockSet, ChoppedArray, TunableList, Number, Element, Target, LoopWord, Callee, Argument, Reduced}
 
 -- What is known, the sites of a part, and then others.
 abbrev pub Spread : Type 0
@@ -53,15 +55,15 @@ all_of (part ∷ parts) known later = part known (all_of parts known later)
 -- a name with its indices: how many, and their sites
 pub record Indexed : Type 0 where
   pub place : Place
-  pub name : Name
+  pub name : Bytes
   pub count : ℕ
   pub within : Spread
 
 abbrev pub expr_step : Expr-F Spread Indexed Spread → Spread
 expr_step (Expr-F.Number n) known later = later
-expr_step (Expr-F.Name word) known later = site known word.place word.name Value ∷ later
+expr_step (Expr-F.Name word) known later = site known word.place word.name Number ∷ later
 expr_step (Expr-F.Element used) known later = site known used.place used.name (Element used.count) ∷ used.within known later
-expr_step (Expr-F.Len word) known later = site known word.place word.name Lists ∷ later
+expr_step (Expr-F.Len word) known later = site known word.place word.name TunableList ∷ later
 expr_step (Expr-F.Unary place op inner) known later = inner known later
 expr_step (Expr-F.Chain first rest) known later = first known (all_of rest known later)
 expr_step (Expr-F.Least x y) known later = x known (y known later)
@@ -124,31 +126,52 @@ params_sites first i (p ∷ rest) known later = param_sites (param_at first i) i
 
 -- ---- declarations
 
--- a declared name is known in the rest of its declaration
+abbrev pub declared_sites : Place → Bytes → Spread
+declared_sites place name known later = site known place name Declared ∷ later
+
+abbrev pub local_known : Elem → Bytes → List Expr → Known → Known
+local_known elem name extents known = with_name known name (kind.Array (record { dims = length extents; is_writable = true; elem = elem }))
+
+-- a local behind so many parameters and locals; its name is known in its extents, as any declared name is in the rest of its declaration
+abbrev pub local_sites : ℕ → Place → Elem → Bytes → List Expr → Spread
+local_sites before place elem name extents known later =
+    site known place name (Local before) ∷ exprs_sites extents (local_known elem name extents known) later
+
+abbrev pub rchop_known : Bytes → Word → Known → Known
+rchop_known name array known = with_name known name (kind.Rchop array.name)
+
+abbrev pub chop_sites : Word → List Expr → Spread
+chop_sites array sizes known later = site known array.place array.name ChoppedArray ∷ exprs_sites sizes known later
+
+abbrev pub rchop_sites : Place → Bytes → Word → List Expr → Spread
+rchop_sites place name array sizes known later =
+    site known place name (BlockSet array.name (length sizes)) ∷ chop_sites array sizes (rchop_known name array known) later
+
+abbrev pub ichop_known : Bytes → Word → Known → Known
+ichop_known name array known = with_name known name (kind.Ichop array.name)
+
+abbrev pub list_chop_sites : Word → Word → Word → Spread
+list_chop_sites array starts ends known later =
+    site known array.place array.name ChoppedArray ∷ site known starts.place starts.name TunableList ∷ site known ends.place ends.name TunableList ∷ later
+
+abbrev pub ichop_sites : Place → Bytes → Word → Word → Word → Spread
+ichop_sites place name array starts ends known later =
+    site known place name Declared ∷ list_chop_sites array starts ends (ichop_known name array known) later
+
 abbrev pub decl_known : Decl → Known → Known
 decl_known (decl.Tunable place name) known = with_name known name kind.Scalar
 decl_known (decl.List place name) known = with_name known name kind.List
-decl_known (decl.Local place elem name extents) known = with_name known name (kind.Array (record { dims = length extents; is_writable = true; elem = elem }))
-decl_known (decl.Rchop place name array sizes) known = with_name known name (kind.Rchop array.name)
-decl_known (decl.Ichop place name array starts ends) known = with_name known name (kind.Ichop array.name)
-
-abbrev pub rchop_sites : Word → List Expr → Spread
-rchop_sites array sizes known later = site known array.place array.name Chopped ∷ exprs_sites sizes known later
-
-abbrev pub ichop_sites : Word → Word → Word → Spread
-ichop_sites array starts ends known later =
-    site known array.place array.name Chopped ∷ site known starts.place starts.name Lists ∷ site known ends.place ends.name Lists ∷ later
+decl_known (decl.Local place elem name extents) known = local_known elem name extents known
+decl_known (decl.Rchop place name array sizes) known = rchop_known name array known
+decl_known (decl.Ichop place name array starts ends) known = ichop_known name array known
 
 -- a declaration behind so many parameters and locals
 abbrev pub decl_sites : ℕ → Decl → Spread
-decl_sites before (decl.Tunable place name) known later = site known place name Declared ∷ later
-decl_sites before (decl.List place name) known later = site known place name Declared ∷ later
-decl_sites before (decl.Local place elem name extents) known later =
-    site known place name (Local before) ∷ exprs_sites extents (decl_known (decl.Local place elem name extents) known) later
-decl_sites before (decl.Rchop place name array sizes) known later =
-    site known place name (Blocks array.name (length sizes)) ∷ rchop_sites array sizes (decl_known (decl.Rchop place name array sizes) known) later
-decl_sites before (decl.Ichop place name array starts ends) known later =
-    site known place name Declared ∷ ichop_sites array starts ends (decl_known (decl.Ichop place name array starts ends) known) later
+decl_sites before (decl.Tunable place name) = declared_sites place name
+decl_sites before (decl.List place name) = declared_sites place name
+decl_sites before (decl.Local place elem name extents) = local_sites before place elem name extents
+decl_sites before (decl.Rchop place name array sizes) = rchop_sites place name array sizes
+decl_sites before (decl.Ichop place name array starts ends) = ichop_sites place name array starts ends
 
 abbrev pub is_local : Decl → Bool
 is_local (decl.Local place elem name extents) = true
@@ -168,18 +191,13 @@ decls_sites before (d ∷ rest) known later = decl_sites before d known (decls_s
 
 -- ---- tasks
 
--- where the first variant of a task stands, in variants that begin at the i-th
-abbrev pub first_from : ℕ → List Variant → Name → Option ℕ
-first_from i [] name = None
-first_from i (v ∷ rest) name = if same_name name v.task then Some i else first_from (i + 1) rest name
-
 abbrev pub params_at : List Variant → Option ℕ → Option (List Param)
 params_at variants None = None
 params_at variants (Some i) = option_map (λ v. v.params) (slice_get variants i)
 
 -- the parameters of the first variant of a task in the text
-abbrev pub params_of : List Variant → Name → Option (List Param)
-params_of variants name = params_at variants (first_from 0 variants name)
+abbrev pub params_of : List Variant → Bytes → Option (List Param)
+params_of variants name = params_at variants (first_from 0 (map (λ v. v.task) variants) name)
 
 -- ---- statements
 
@@ -260,11 +278,14 @@ abbrev pub target_sites : ArgUse → Spread
 target_sites a known later =
     site known (out-ArgUse a).place (out-ArgUse a).name (Target (length (out-ArgUse a).index)) ∷ exprs_sites (out-ArgUse a).index known later
 
+abbrev pub loop_word_sites : Word → Word → Spread
+loop_word_sites used counter known later = site known used.place used.name (LoopWord counter.name) ∷ later
+
 -- the head of a loop, in whose bounds its counter isn't known
 abbrev pub loop_sites : Word → Expr → Word → Expr → Word → Spread
 loop_sites counter first tested bound stepped known later =
     site known counter.place counter.name Declared ∷ expr_sites first known
-    (site known tested.place tested.name (Counts counter.name) ∷ expr_sites bound known (site known stepped.place stepped.name (Counts counter.name) ∷ later))
+    (site known tested.place tested.name (LoopWord counter.name) ∷ expr_sites bound known (site known stepped.place stepped.name (LoopWord counter.name) ∷ later))
 
 abbrev pub leaf_step : LeafStmt-F Spread → Spread
 leaf_step (LeafStmt-F.Assign target op value) known later = target_sites target known (expr_sites value known later)
@@ -275,14 +296,14 @@ leaf_step (LeafStmt-F.For counter first tested bound stepped parts) known later 
 abbrev pub leaf_sites : LeafStmt → Spread
 leaf_sites = fold-LeafStmt Spread leaf_step
 
-abbrev pub leafs_sites : List LeafStmt → Spread
-leafs_sites list = all_of (map leaf_sites list)
+abbrev pub leaf_body_sites : List LeafStmt → Spread
+leaf_body_sites list = all_of (map leaf_sites list)
 
 -- ---- variants
 
 abbrev pub body_sites : List Variant → Body → Spread
 body_sites tasks (body.Inner list) = stmts_sites tasks list
-body_sites tasks (body.Leaf list) = leafs_sites list
+body_sites tasks (body.Leaf list) = leaf_body_sites list
 
 -- a variant, of which nothing is known before
 abbrev pub variant_sites : List Variant → Bool → Variant → List Site → List Site
@@ -296,7 +317,7 @@ is_leaf Leaf = true
 
 -- a task, and whether it is a leaf variant
 abbrev pub Twin : Type 0
-Twin = Name × Bool
+Twin = Bytes × Bool
 
 abbrev pub twin_of : Variant → Twin
 twin_of v = (v.task, is_leaf v.kind)
@@ -325,10 +346,10 @@ TypeFault program f = HoldsIn HoldsAt (sites program) f
 
 -- ---- what a walk finds
 
--- the least of a fault and those of the sites
-abbrev pub firsts : Option Fault → List Site → Option Fault
-firsts found rest = first_fault fault_place fault_number judge found rest
+-- what was found, and the first of it and these
+abbrev pub firsts : Found → List Site → Found
+firsts = found.firsts judge
 
 -- what was found, and what is found with the sites of a part: these, and then others
-abbrev pub Finds : Option Fault → Option Fault → (List Site → List Site) → Type 0
-Finds old new part = (later : List Site) → firsts new later ≡ firsts old (part later)
+abbrev pub Finds : Found → Found → (List Site → List Site) → Type 0
+Finds = found.Finds judge

@@ -5,7 +5,14 @@ use Rattle.std.specs.Option.{option_map_or}
 use Rattle.sq_num.specs.declared.Elem.{Elem}
 use Rattle.sq_num.specs.declared.Elem.TheVariants.{Byte, Int, Long}
 use Rattle.sq_text.specs.declared.place.Place.{Place}
+use Rattle.sq_text.specs.declared.code.Code.{Code}
+use Rattle.sq_text.specs.declared.code.Code.TheVariants.{DupTask, DupName, UnknownName, WrongKind, DimCount, WriteIn, ArgCount, ArgType, BadReduce, LimitArrays}
+use Rattle.sq_text.specs.declared.code.Phase.TheVariants.{Types}
+use Rattle.sq_text.specs.declared.fault.Arg.TheVariants.{Word}
 use Rattle.sq_text.specs.declared.fault.Fault.{Fault}
+use Rattle.sq_text.specs.First.{HoldsIn}
+use Rattle.sq_text.specs.Found.{Breach, breach, fault_by, at_name}
+use Rattle.sq_text.specs.Names.{Bytes, same_name}
 use Rattle.sq_ast.specs.declared.expr.ArgUse.{ArgUse, out-ArgUse}
 use Rattle.sq_ast.specs.declared.program.Mode.{Mode}
 use Rattle.sq_ast.specs.declared.program.Mode.TheVariants.{Input, Output, Both}
@@ -13,10 +20,7 @@ use Rattle.sq_ast.specs.declared.program.Param.{Param}
 use Rattle.sq_types.specs.declared.kind.Shape.{Shape}
 use Rattle.sq_types.specs.declared.kind.Kind.{Kind}
 use Rattle.sq_types.specs.declared.kind.Kind.TheVariants.{Size, Scalar, List as Listing, Variable, Array, Rchop, Ichop}
-use Rattle.sq_types.specs.declared.rule.Rule.{Rule}
-use Rattle.sq_types.specs.declared.rule.Rule.TheVariants.{DupTask, DupName, UnknownName, WrongKind, DimCount, WriteIn, ArgCount, ArgType, BadReduce, LimitArrays}
-use Rattle.sq_types.specs.Known.{Name, same_name, Known, kind_of}
-use Rattle.sq_types.specs.Rules.{fault_at, fault_of}
+use Rattle.sq_types.specs.Known.{Known, kind_of}
 
 -- ---- names where they stand
 
@@ -27,13 +31,13 @@ pub data Role : Type 0 where
   SizeName : Role  -- a name as an extent of a parameter
   Local : (before : ℕ) → Role  -- a local array, with so many parameters and locals before it
   Declared : Role  -- any other name that is declared
-  Blocks : (array : Name) → (count : ℕ) → Role  -- a block set of `rchop` that is declared, with its array and so many sizes
-  Chopped : Role  -- the array of a block set
-  Lists : Role  -- a tunable list
-  Value : Role  -- a name that stands for a number
+  BlockSet : (array : Bytes) → (count : ℕ) → Role  -- a block set of `rchop` that is declared, with its array and so many sizes
+  ChoppedArray : Role  -- the array of a block set
+  TunableList : Role  -- a tunable list that is used
+  Number : Role  -- a name that stands for a number
   Element : (indices : ℕ) → Role  -- an array in leaf code that is read at so many indices
   Target : (indices : ℕ) → Role  -- an array that is assigned at so many indices
-  Counts : (counter : Name) → Role  -- the name before `<` or `++` in the head of a loop with this counter
+  LoopWord : (counter : Bytes) → Role  -- the name before `<` or `++` in the head of a loop with this counter
   Callee : (params : Option (List Param)) → (count : ℕ) → Role  -- a task that is called with so many arguments
   Argument : (indices : ℕ) → (param : Option Param) → Role  -- an argument with so many indices, and the parameter that it is for
   Reduced : (params : Option (List Param)) → (args : List ArgUse) → Role  -- the array that is reduced into, with the arguments of the call
@@ -42,10 +46,10 @@ pub data Role : Type 0 where
 pub record Site : Type 0 where
   pub known : Known
   pub place : Place
-  pub name : Name
+  pub name : Bytes
   pub role : Role
 
-abbrev pub site : Known → Place → Name → Role → Site
+abbrev pub site : Known → Place → Bytes → Role → Site
 site known place name role = record { known = known; place = place; name = name; role = role }
 
 -- ---- kinds
@@ -163,13 +167,13 @@ other_type (Some p) q = not (same_mode p.mode q.mode && same_elem p.elem q.elem)
 -- ---- reductions
 
 -- a block set of this array
-abbrev pub is_block_of : Name → Option Kind → Bool
+abbrev pub is_block_of : Bytes → Option Kind → Bool
 is_block_of name (Some (Rchop array)) = same_name array name
 is_block_of name (Some (Ichop array)) = same_name array name
 is_block_of name _ = false
 
 -- how many arguments are the array, or a block of it
-abbrev pub uses_of : Known → Name → List ArgUse → ℕ
+abbrev pub uses_of : Known → Bytes → List ArgUse → ℕ
 uses_of known name [] = 0
 uses_of known name (a ∷ rest) =
     (if same_name (out-ArgUse a).name name || is_block_of name (kind_of known (out-ArgUse a).name) then 1 else 0) + uses_of known name rest
@@ -180,7 +184,7 @@ keeps_both None i = true
 keeps_both (Some params) i = option_map_or (λ p. is_both p.mode) (slice_get params i) false
 
 -- an argument from the i-th on is the array, whole, for an `inout` parameter
-abbrev pub has_whole : Name → Option (List Param) → ℕ → List ArgUse → Bool
+abbrev pub has_whole : Bytes → Option (List Param) → ℕ → List ArgUse → Bool
 has_whole name params i [] = false
 has_whole name params i (a ∷ rest) =
     (same_name (out-ArgUse a).name name && length (out-ArgUse a).index == 0 && keeps_both params i) || has_whole name params (i + 1) rest
@@ -188,24 +192,24 @@ has_whole name params i (a ∷ rest) =
 -- ---- the table, a function for each rule
 
 -- a second variant of one task and kind
-abbrev pub dup_task : Known → Name → Role → Bool
+abbrev pub dup_task : Known → Bytes → Role → Bool
 dup_task known name (Task again first count) = again
 dup_task known name _ = false
 
 -- a name declared again while it is known; a size name may be repeated as a size
-abbrev pub dup_name : Known → Name → Role → Bool
+abbrev pub dup_name : Known → Bytes → Role → Bool
 dup_name known name (Parameter first before param) = is_some (kind_of known name)
 dup_name known name SizeName = is_other is_size (kind_of known name)
 dup_name known name (Local before) = is_some (kind_of known name)
 dup_name known name Declared = is_some (kind_of known name)
-dup_name known name (Blocks array count) = is_some (kind_of known name)
+dup_name known name (BlockSet array count) = is_some (kind_of known name)
 dup_name known name _ = false
 
 -- a name that isn't known, or a called task without a variant
-abbrev pub unknown_name : Known → Name → Role → Bool
-unknown_name known name Chopped = is_none (kind_of known name)
-unknown_name known name Lists = is_none (kind_of known name)
-unknown_name known name Value = is_none (kind_of known name)
+abbrev pub unknown_name : Known → Bytes → Role → Bool
+unknown_name known name ChoppedArray = is_none (kind_of known name)
+unknown_name known name TunableList = is_none (kind_of known name)
+unknown_name known name Number = is_none (kind_of known name)
 unknown_name known name (Element indices) = is_none (kind_of known name)
 unknown_name known name (Target indices) = is_none (kind_of known name)
 unknown_name known name (Callee params count) = is_none params
@@ -214,21 +218,21 @@ unknown_name known name (Reduced params args) = is_none (kind_of known name)
 unknown_name known name _ = false
 
 -- a known name of another kind than is needed; in a loop's head a name that isn't its counter
-abbrev pub wrong_kind : Known → Name → Role → Bool
-wrong_kind known name Chopped = is_other is_array (kind_of known name)
-wrong_kind known name Lists = is_other is_list (kind_of known name)
-wrong_kind known name Value = is_other is_number (kind_of known name)
+abbrev pub wrong_kind : Known → Bytes → Role → Bool
+wrong_kind known name ChoppedArray = is_other is_array (kind_of known name)
+wrong_kind known name TunableList = is_other is_list (kind_of known name)
+wrong_kind known name Number = is_other is_number (kind_of known name)
 wrong_kind known name (Element indices) = is_other is_array (kind_of known name)
 wrong_kind known name (Target indices) = is_other is_array (kind_of known name)
-wrong_kind known name (Counts counter) = not (same_name name counter)
+wrong_kind known name (LoopWord counter) = not (same_name name counter)
 wrong_kind known name (Argument indices param) = is_other (is_argument indices) (kind_of known name)
 wrong_kind known name (Reduced params args) = is_other is_array (kind_of known name)
 wrong_kind known name _ = false
 
 -- a wrong number of indices or block sizes; an argument of other dimensions than the parameter, or a parameter than the first variant's
-abbrev pub dim_count : Known → Name → Role → Bool
+abbrev pub dim_count : Known → Bytes → Role → Bool
 dim_count known name (Parameter first before param) = differs (param_dims first) (length param.extents)
-dim_count known name (Blocks array count) = differs (dims_of (shape_of (kind_of known array))) count
+dim_count known name (BlockSet array count) = differs (dims_of (shape_of (kind_of known array))) count
 dim_count known name (Element indices) = differs (dims_of (shape_of (kind_of known name))) indices
 dim_count known name (Target indices) = differs (dims_of (shape_of (kind_of known name))) indices
 dim_count known name (Argument indices param) =
@@ -236,69 +240,69 @@ dim_count known name (Argument indices param) =
 dim_count known name _ = false
 
 -- an `in` array, or a block of one, that is assigned, passed to be written or reduced into
-abbrev pub write_in : Known → Name → Role → Bool
+abbrev pub write_in : Known → Bytes → Role → Bool
 write_in known name (Target indices) = is_read_only (shape_of (kind_of known name))
 write_in known name (Argument indices param) = writes param && is_read_only (array_of known (kind_of known name))
 write_in known name (Reduced params args) = is_read_only (shape_of (kind_of known name))
 write_in known name _ = false
 
 -- a wrong number of arguments, or of parameters of a further variant
-abbrev pub arg_count : Known → Name → Role → Bool
+abbrev pub arg_count : Known → Bytes → Role → Bool
 arg_count known name (Task again first count) = differs (count_of first) count
 arg_count known name (Callee params count) = differs (count_of params) count
 arg_count known name _ = false
 
 -- an argument of another element type; a further variant's parameter of another mode or element type
-abbrev pub arg_type : Known → Name → Role → Bool
+abbrev pub arg_type : Known → Bytes → Role → Bool
 arg_type known name (Parameter first before param) = other_type first param
 arg_type known name (Argument indices param) = other_elem (array_of known (kind_of known name)) param
 arg_type known name _ = false
 
 -- The array that is reduced into is not an argument exactly once, whole, for an `inout` parameter, or a block of it is one too.
-abbrev pub bad_reduce : Known → Name → Role → Bool
+abbrev pub bad_reduce : Known → Bytes → Role → Bool
 bad_reduce known name (Reduced params args) = not (uses_of known name args == 1 && has_whole name params 0 args)
 bad_reduce known name _ = false
 
 -- the 33rd parameter or local
-abbrev pub limit_arrays : Known → Name → Role → Bool
+abbrev pub limit_arrays : Known → Bytes → Role → Bool
 limit_arrays known name (Parameter first before param) = before == 32
 limit_arrays known name (Local before) = before == 32
 limit_arrays known name _ = false
 
-abbrev pub breaks : Rule → Known → Name → Role → Bool
-breaks DupTask = dup_task
-breaks DupName = dup_name
-breaks UnknownName = unknown_name
-breaks WrongKind = wrong_kind
-breaks DimCount = dim_count
-breaks WriteIn = write_in
-breaks ArgCount = arg_count
-breaks ArgType = arg_type
-breaks BadReduce = bad_reduce
-breaks LimitArrays = limit_arrays
+-- ---- faults
+
+-- a rule: the code of its faults, and whether a name breaks it
+pub record Rule : Type 0 where
+  pub code : Code
+  pub is_broken : Known → Bytes → Role → Bool
+
+abbrev pub rule : Code → (Known → Bytes → Role → Bool) → Rule
+rule code is_broken = record { code = code; is_broken = is_broken }
+
+-- the rules, in the order in which they count at one place
+abbrev pub table : List Rule
+table =
+    rule DupTask dup_task ∷ rule DupName dup_name ∷ rule UnknownName unknown_name ∷ rule WrongKind wrong_kind ∷ rule DimCount dim_count
+    ∷ rule WriteIn write_in ∷ rule ArgCount arg_count ∷ rule ArgType arg_type ∷ rule BadReduce bad_reduce ∷ rule LimitArrays limit_arrays ∷ []
+
+-- the name breaks this rule where it stands, and this is the fault
+pub record Breaks (s : Site) (r : Rule) (f : Fault) : Type 0 where
+  pub broken : r.is_broken s.known s.name s.role ≡ true
+  pub is : f ≡ fault_by Types (breach r.code s.place (Word s.name ∷ []))
 
 -- this fault holds at this name
-pub record HoldsAt (s : Site) (f : Fault) : Type 0 where
-  pub rule : Rule
-  pub broken : breaks rule s.known s.name s.role ≡ true
-  pub is : f ≡ fault_at s.place s.name rule
+abbrev pub HoldsAt : Site → Fault → Type 0
+HoldsAt s f = HoldsIn (Breaks s) table f
 
 -- ---- the first fault at one name
 
--- the rule with the least number
-abbrev pub rule_of : Known → Name → Role → Option Rule
-rule_of known name role =
-    if dup_task known name role then Some DupTask
-    else if dup_name known name role then Some DupName
-    else if unknown_name known name role then Some UnknownName
-    else if wrong_kind known name role then Some WrongKind
-    else if dim_count known name role then Some DimCount
-    else if write_in known name role then Some WriteIn
-    else if arg_count known name role then Some ArgCount
-    else if arg_type known name role then Some ArgType
-    else if bad_reduce known name role then Some BadReduce
-    else if limit_arrays known name role then Some LimitArrays
-    else None
+-- the first of some rules that a name breaks
+abbrev pub first_broken : List Rule → Known → Bytes → Role → Option Code
+first_broken [] known name role = None
+first_broken (r ∷ rest) known name role = if r.is_broken known name role then Some r.code else first_broken rest known name role
 
-abbrev pub judge : Site → Option Fault
-judge s = fault_of s.place s.name (rule_of s.known s.name s.role)
+abbrev pub rule_of : Known → Bytes → Role → Option Code
+rule_of = first_broken table
+
+abbrev pub judge : Site → Option Breach
+judge s = at_name (rule_of s.known s.name s.role) s.place s.name

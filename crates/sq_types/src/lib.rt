@@ -1,20 +1,19 @@
 //! Names, kinds and parameters: whether a program keeps the rules, and the first one that it breaks.
 #![tactic(auto)]
 
-mod declares;
-mod decls;
+mod declarations;
 mod expr;
-mod found;
 mod kind;
+mod known;
+pub mod laws;
 mod leaf;
-mod names;
+mod parameters;
 mod program;
-mod reduced;
-mod rule;
+mod role;
+mod rules;
 mod stmt;
 mod tasks;
 mod typed;
-mod uses;
 
 pub use typed::{Typed, check};
 

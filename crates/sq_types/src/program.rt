@@ -1,38 +1,40 @@
 //! The names of variants, and the first fault of a program.
 
-ghost use Rattle.std.specs.Prelude.{◌≡◌, [], None, IfOk, OnOk};
+ghost use Rattle.std.specs.Prelude.{◌≡◌, [], IfOk, OnOk};
+ghost use Rattle.sq_text.specs.Found.{nothing_found};
 ghost use Rattle.sq_types.specs.Sites as sites;
 
-use crate::declares::task;
-use crate::decls::{decls, params};
-use crate::leaf::leafs;
-use crate::names::Names;
+use crate::declarations::declarations;
+use crate::known::KnownNames;
+use crate::leaf::leaf_body;
+use crate::parameters::parameters;
+use crate::role::Role;
+use crate::rules::name;
 use crate::stmt::stmts;
 use crate::tasks::Tasks;
 use indexmap::IndexSet;
 use sq_ast::{Body, Program, Variant, VariantKind};
-use sq_text::{Fault, Name};
+use sq_text::{Fault, FirstFault, Name, Phase};
 use std::alloc::{AllocError, Global};
 
 /// A task, and whether it is a leaf variant.
 type Twin = (Name, bool);
 
 fn body(
-    alloc: Global,
-    found: &mut Option<Fault>,
-    names: &mut Names,
+    found: &mut FirstFault,
+    known: &mut KnownNames,
     tasks: &Tasks<'_>,
     body: &Body,
 ) -> Result<(), AllocError>
-    ensures { OnOk result (sites.Finds found.old found.new (sites.body_sites tasks.now.variants.now body.now names.old.entries)) }
+    ensures { OnOk result (sites.Finds found.old found.new (sites.body_sites tasks.now.variants.now body.now known.old)) }
 {
     match body {
         Body::Inner(list) => {
-            stmts(alloc, found, names, tasks, list.as_slice())?;
+            stmts(found, known, tasks, list.as_slice())?;
             Ok(())
         }
         Body::Leaf(list) => {
-            leafs(alloc, found, names, list.as_slice())?;
+            leaf_body(found, known, list.as_slice())?;
             Ok(())
         }
     }
@@ -40,21 +42,25 @@ fn body(
 
 // A variant, of which nothing is known before.
 fn variant(
-    alloc: Global,
-    found: &mut Option<Fault>,
+    found: &mut FirstFault,
     tasks: &Tasks<'_>,
     again: bool,
     v: &Variant,
 ) -> Result<(), AllocError>
     ensures { OnOk result (sites.Finds found.old found.new (sites.variant_sites tasks.now.variants.now again v.now)) }
 {
-    let mut names = Names::new(alloc);
+    let mut known = KnownNames::new(found.alloc());
     let first = tasks.params(&v.task);
     let list = v.params.as_slice();
-    task(alloc, found, v.place, &v.task, again, first, list.len())?;
-    params(alloc, found, &mut names, first, list)?;
-    decls(alloc, found, &mut names, list.len(), v.decls.as_slice())?;
-    body(alloc, found, &mut names, tasks, &v.body)?;
+    let role = Role::Task {
+        again,
+        first,
+        count: list.len(),
+    };
+    name(found, &known, v.place, &v.task, role)?;
+    parameters(found, &mut known, first, list)?;
+    declarations(found, &mut known, list.len(), v.decls.as_slice())?;
+    body(found, &mut known, tasks, &v.body)?;
     Ok(())
 }
 
@@ -73,29 +79,25 @@ fn see(alloc: Global, seen: &mut IndexSet<Twin>, v: &Variant) -> Result<bool, Al
     Ok(!is_new)
 }
 
-fn variants(
-    alloc: Global,
-    found: &mut Option<Fault>,
-    tasks: &Tasks<'_>,
-    list: &[Variant],
-) -> Result<(), AllocError>
+fn variants(found: &mut FirstFault, tasks: &Tasks<'_>, list: &[Variant]) -> Result<(), AllocError>
     ensures { OnOk result (sites.Finds found.old found.new (sites.variants_sites tasks.now.variants.now [] list.now)) }
 {
+    let alloc = found.alloc();
     let mut seen = IndexSet::new(alloc);
     for v in list {
         let again = see(alloc, &mut seen, v)?;
-        variant(alloc, found, tasks, again, v)?;
+        variant(found, tasks, again, v)?;
     }
     Ok(())
 }
 
 /// The fault with the least place, and there with the least number.
 pub fn first_fault(alloc: Global, program: &Program) -> Result<Option<Fault>, AllocError>
-    ensures { IfOk result (λ found. found ≡ sites.firsts None (sites.sites program.now)) }
+    ensures { IfOk result (λ fault. fault ≡ (sites.firsts (nothing_found Phase.Types) (sites.sites program.now)).fault) }
 {
     let list = program.tasks.as_slice();
     let tasks = Tasks::new(alloc, list)?;
-    let mut found = None;
-    variants(alloc, &mut found, &tasks, list)?;
-    Ok(found)
+    let mut found = FirstFault::new(alloc, Phase::Types);
+    variants(&mut found, &tasks, list)?;
+    Ok(found.finish())
 }

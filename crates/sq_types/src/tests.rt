@@ -1,10 +1,10 @@
-use super::*;
+use crate::program::first_fault;
 use sq_ast::{
     ArgUse, AssignOp, BinOp, Body, Call, Decl, Expr, Exprs, Extent, LeafStmt, Link, MapKind, Mode,
-    Param, Params, Program, Range, Stmt, Variant, VariantKind, Word,
+    Param, Params, Program, Range, Stmt, Variant, VariantKind,
 };
 use sq_num::{Elem, RedOp};
-use sq_text::{Arg, Code, Fault, Name, Phase, Place, Stop};
+use sq_text::{Arg, Code, Fault, Name, Phase, Place, Word};
 use sqlite_items::{Boxed, Items};
 use std::alloc::Global;
 use std::process::Abort;
@@ -308,12 +308,9 @@ impl<R: Abort> Names<'_, R> {
     }
 }
 
+// Trees that no text gives are judged too.
 fn outcome(rt: &impl Abort, alloc: Global, program: Program) -> Option<Fault> {
-    match check(alloc, program) {
-        Ok(_) => None,
-        Err(Stop::Refused(fault)) => Some(fault),
-        Err(Stop::NoMemory) => panic!(rt; "memory"),
-    }
+    first_fault(alloc, &program).expect(rt, "memory")
 }
 
 // Whether this is the fault, with its name.
@@ -328,7 +325,7 @@ fn is_fault(found: &Option<Fault>, code: Code, at: u32, name: &str) -> bool {
     is_name && fault.phase == Phase::Types && fault.code == code && fault.place == Some(place(at))
 }
 
-fn first_fault(rt: &impl Abort, alloc: Global, edits: &[(u32, &str)]) -> Option<Fault> {
+fn first_fault_of(rt: &impl Abort, alloc: Global, edits: &[(u32, &str)]) -> Option<Fault> {
     let names = Names { rt, alloc, edits };
     outcome(
         rt,
@@ -342,23 +339,14 @@ type Case<'a> = (u32, &'a str, u32, &'a str, Code, u32, &'a str);
 
 fn all_fail(rt: &impl Abort, alloc: Global, table: &[Case<'_>]) {
     for (one, first, two, second, code, at, name) in table {
-        let found = first_fault(rt, alloc, &[(*one, first), (*two, second)]);
+        let found = first_fault_of(rt, alloc, &[(*one, first), (*two, second)]);
         assert!(rt; is_fault(&found, *code, *at, name), "{at}: {code:?} {name}");
     }
 }
 
 #[test]
-fn a_program_without_a_fault_is_kept(rt: HostRuntime) {
-    let names = Names {
-        rt: &rt,
-        alloc: rt.alloc(),
-        edits: &[],
-    };
-    let program = names.program(Mode::Output, Elem::Int, &["P", "Q"]);
-    match check(rt.alloc(), program) {
-        Ok(typed) => assert_eq!(rt; typed.program().tasks.len(), 4),
-        Err(_) => assert!(rt; false),
-    }
+fn a_program_that_breaks_no_rule_has_no_fault(rt: HostRuntime) {
+    assert!(rt; first_fault_of(&rt, rt.alloc(), &[]).is_none());
 }
 
 #[test]
@@ -468,7 +456,7 @@ fn of_several_faults_the_first_counts(rt: HostRuntime) {
 
 #[test]
 fn a_block_of_the_reduced_array_is_no_argument(rt: HostRuntime) {
-    let found = first_fault(&rt, rt.alloc(), &[(803, "B"), (807, "B"), (408, "B")]);
+    let found = first_fault_of(&rt, rt.alloc(), &[(803, "B"), (807, "B"), (408, "B")]);
     assert!(rt; is_fault(&found, Code::BadReduce, 803, "B"));
 }
 
