@@ -1,29 +1,29 @@
--- Numbers that are cut at their end give the same conditions.
-use Rattle.std.proofs.Common.{◌≡◌, ℕ, zero, suc, ◌+◌, ◌-◌, ◌*◌, ◌^◌, ◌<◌, ◌≤◌, min, nat_le, nat_lt, Bool, ◌==◌, ◌&&◌, ◌||◌, List, [], ◌∷◌, refl, ◌∙◌, ap, arith, inl, inr, lit<}
+-- Numbers that are cut at their end break the same rules.
+use Rattle.std.proofs.Common.{◌≡◌, ℕ, zero, suc, ◌+◌, ◌-◌, ◌*◌, ◌^◌, ◌<◌, ◌≤◌, min, nat_le, nat_lt, Bool, ◌==◌, ◌&&◌, ◌||◌, List, [], ◌∷◌, length, refl, ◌∙◌, ap, arith, inl, inr, lit<}
 use Rattle.std.proofs.Math.Nat.{mul-suc}
 use Rattle.std.proofs.lemmas.Bool.Decides.{leb_tells}
-use Rattle.sq_text.specs.declared.fault.Code.TheVariants as code
-use Rattle.sq_shapes.specs.declared.held.Numeral.{Numeral}
-use Rattle.sq_machfile.specs.declared.tree.LevelText.{LevelText}
-use Rattle.sq_machfile.specs.declared.tree.Below.{Below}
-use Rattle.sq_machfile.specs.declared.tree.MachineText.{MachineText}
-use Rattle.sq_machfile.specs.Faults.{Condition, Count, of_word, of_number, is_known, uncut, passes, bytes_with, width_below, nodes_with, after_level, after_children, after_below, level_conditions, children_conditions, one_below, below_conditions, conditions_by, conditions, at_root}
-use Rattle.sq_machfile.specs.Counting.{capped}
+use Rattle.sq_text.specs.declared.code.Code.TheVariants as code
+use Rattle.sq_text.specs.declared.word.Word.{Word}
+use Rattle.sq_text.specs.declared.word.Numeral.{Numeral}
+use Rattle.sq_text.specs.Found.{at_word, at_numeral}
+use Rattle.sq_machfile.specs.declared.text.LevelText.{LevelText}
+use Rattle.sq_machfile.specs.declared.text.Below.{Below}
+use Rattle.sq_machfile.specs.declared.text.LevelsText.{LevelsText}
+use Rattle.sq_machfile.specs.declared.text.MachineText.{MachineText}
+use Rattle.sq_machfile.specs.declared.text.MachineText.TheVariants.{Levels, Nodes}
+use Rattle.sq_machfile.specs.declared.nested.Nested.{Nested}
+use Rattle.sq_machfile.specs.Nesting.{nested}
+use Rattle.sq_machfile.specs.Faults.{Rule, Count, NodeCount, uncut, passes, is_bad_fan, is_over_capacity, level_name, bytes_with, width_below, nodes_with, after_level, after_children, after_below, level_rules, children_rules, one_below, below_rules, levels_rules, at_root, with_node, fan_of, node_rules, after_node, all_node_rules, names_rules, no_names, before_nodes, rules_by, rules_of}
+use Rattle.sq_machfile.specs.Tallies.{capped}
 
 abbrev most : ℕ
 most = 2 ^ 64 - 1
 
--- a level's conditions, where this says whether its capacity is too much, and a number's of children, where this says whether the nodes are too many
-abbrev level_with : ℕ → Count → LevelText → List Condition → Bool → List Condition
-level_with index c level later b =
-    of_word code.DupLevel level.name (is_known c.names level.name.name) ∷ of_word code.LimitLevels level.name (index == 8) ∷ of_number code.LimitCapacity level.capacity b ∷ later
-
-abbrev children_with : Numeral → List Condition → Bool → List Condition
-children_with children later b =
-    of_number code.LimitFan children (nat_lt children.value 1 || nat_lt 64 children.value) ∷ of_number code.LimitNodes children b ∷ later
-
 sum_capped : (x y m : ℕ) → min (min x m + min y m) m ≡ min (x + y) m
 sum_capped x y m = omega arith
+
+more_capped : (x y m : ℕ) → min (min x m + y) m ≡ min (x + y) m
+more_capped x y m = omega arith
 
 product_capped : (x y m : ℕ) → min (min x m * y) m ≡ min (x * y) m
 product_capped x y m = elim (leb_tells x m) [
@@ -47,6 +47,11 @@ passes_capped : (limit x y m : ℕ) → limit < m → passes limit (min x m) (mi
 passes_capped limit x y m lt =
     ap (λ b. b && nat_lt limit (min y m)) (within_capped limit x m lt) ∙ ap (λ b. nat_le x limit && b) (beyond_capped limit y m lt)
 
+over_capped : (capacity before after : ℕ) → is_over_capacity capacity (capped before) (capped after) ≡ is_over_capacity capacity before after
+over_capped capacity before after = ap (λ b. nat_lt (2 ^ 30) capacity || b) (passes_capped (2 ^ 31) before after most (lit< tt))
+
+-- ---- version 1
+
 -- a count that is cut
 abbrev cut_count : Count → Count
 cut_count c = record { names = c.names; width = capped c.width; nodes = capped c.nodes; bytes = capped c.bytes }
@@ -67,36 +72,67 @@ after_children_cut : (c : Count) (n : Numeral) → after_children capped (cut_co
 after_children_cut c n = ap (λ width. record (cut_count c) { width = width; nodes = nodes_with capped (cut_count c) n }) (width_cut c n)
     ∙ ap (λ nodes. record (cut_count c) { width = capped (width_below uncut c n); nodes = nodes }) (nodes_cut c n)
 
-level_cut : (i : ℕ) (c : Count) (l : LevelText) (later : List Condition) → level_conditions capped i (cut_count c) l later ≡ level_conditions uncut i c l later
+level_cut : (i : ℕ) (c : Count) (l : LevelText) (later : List Rule) → level_rules capped i (cut_count c) l later ≡ level_rules uncut i c l later
 level_cut i c l later =
-    let sum : passes (2 ^ 31) (capped c.bytes) (bytes_with capped (cut_count c) l) ≡ passes (2 ^ 31) c.bytes (bytes_with uncut c l) =
-    ap (passes (2 ^ 31) (capped c.bytes)) (bytes_cut c l) ∙ passes_capped (2 ^ 31) c.bytes (bytes_with uncut c l) most (lit< tt) in
-    ap (λ b. level_with i c l later (nat_lt (2 ^ 30) l.capacity.value || b)) sum
+    let sum : is_over_capacity l.capacity.value (capped c.bytes) (bytes_with capped (cut_count c) l) ≡ is_over_capacity l.capacity.value c.bytes (bytes_with uncut c l) =
+    ap (is_over_capacity l.capacity.value (capped c.bytes)) (bytes_cut c l) ∙ over_capped l.capacity.value c.bytes (bytes_with uncut c l) in
+    ap (λ b. level_name i c.names l.name (at_numeral code.LimitCapacity l.capacity b ∷ later)) sum
 
-children_cut : (c : Count) (n : Numeral) (later : List Condition) → children_conditions capped (cut_count c) n later ≡ children_conditions uncut c n later
+children_cut : (c : Count) (n : Numeral) (later : List Rule) → children_rules capped (cut_count c) n later ≡ children_rules uncut c n later
 children_cut c n later =
     let sum : passes 4096 (capped c.nodes) (nodes_with capped (cut_count c) n) ≡ passes 4096 c.nodes (nodes_with uncut c n) =
     ap (passes 4096 (capped c.nodes)) (nodes_cut c n) ∙ passes_capped 4096 c.nodes (nodes_with uncut c n) most (lit< tt) in
-    ap (λ b. children_with n later b) sum
+    ap (λ b. at_numeral code.LimitFan n (is_bad_fan n.value) ∷ at_numeral code.LimitNodes n b ∷ later) sum
 
-one_cut : (i : ℕ) (c : Count) (b : Below) (later : List Condition) → one_below capped i (cut_count c) b later ≡ one_below uncut i c b later
+one_cut : (i : ℕ) (c : Count) (b : Below) (later : List Rule) → one_below capped i (cut_count c) b later ≡ one_below uncut i c b later
 one_cut i c b later =
-    ap (λ a. children_conditions capped (cut_count c) b.children (level_conditions capped i a b.level later)) (after_children_cut c b.children)
-    ∙ ap (children_conditions capped (cut_count c) b.children) (level_cut i (after_children uncut c b.children) b.level later)
-    ∙ children_cut c b.children (level_conditions uncut i (after_children uncut c b.children) b.level later)
+    ap (λ a. children_rules capped (cut_count c) b.children (level_rules capped i a b.level later)) (after_children_cut c b.children)
+    ∙ ap (children_rules capped (cut_count c) b.children) (level_cut i (after_children uncut c b.children) b.level later)
+    ∙ children_cut c b.children (level_rules uncut i (after_children uncut c b.children) b.level later)
 
 after_cut : (c : Count) (b : Below) → after_below capped (cut_count c) b ≡ cut_count (after_below uncut c b)
 after_cut c b = ap (λ a. after_level capped a b.level) (after_children_cut c b.children) ∙ after_level_cut (after_children uncut c b.children) b.level
 
-below_cut : (i : ℕ) (c : Count) (rest : List Below) → below_conditions capped i (cut_count c) rest ≡ below_conditions uncut i c rest
+below_cut : (i : ℕ) (c : Count) (rest : List Below) → below_rules capped i (cut_count c) rest ≡ below_rules uncut i c rest
 below_cut i c [] = refl
 below_cut i c (b ∷ rest) =
-    ap (λ a. one_below capped i (cut_count c) b (below_conditions capped (suc i) a rest)) (after_cut c b)
+    ap (λ a. one_below capped i (cut_count c) b (below_rules capped (suc i) a rest)) (after_cut c b)
     ∙ ap (one_below capped i (cut_count c) b) (below_cut (suc i) (after_below uncut c b) rest)
-    ∙ one_cut i c b (below_conditions uncut (suc i) (after_below uncut c b) rest)
+    ∙ one_cut i c b (below_rules uncut (suc i) (after_below uncut c b) rest)
 
-pub same_conditions : (machine : MachineText) → conditions_by capped machine ≡ conditions machine
-same_conditions machine =
-    ap (λ a. level_conditions capped 0 at_root machine.root (below_conditions capped 1 a machine.below)) (after_level_cut at_root machine.root)
-    ∙ ap (level_conditions capped 0 at_root machine.root) (below_cut 1 (after_level uncut at_root machine.root) machine.below)
-    ∙ level_cut 0 at_root machine.root (below_conditions uncut 1 (after_level uncut at_root machine.root) machine.below)
+levels_cut : (text : LevelsText) → levels_rules capped text ≡ levels_rules uncut text
+levels_cut text =
+    ap (λ a. level_rules capped 0 at_root text.root (below_rules capped 1 a text.below)) (after_level_cut at_root text.root)
+    ∙ ap (level_rules capped 0 at_root text.root) (below_cut 1 (after_level uncut at_root text.root) text.below)
+    ∙ level_cut 0 at_root text.root (below_rules uncut 1 (after_level uncut at_root text.root) text.below)
+
+-- ---- version 2
+
+abbrev cut_nodes : NodeCount → NodeCount
+cut_nodes c = record { names = c.names; bytes = capped c.bytes }
+
+-- the rules of a node, where this says whether its capacity is too much
+abbrev node_with : ℕ → ℕ → NodeCount → Nested → List Rule → Bool → List Rule
+node_with levels i c n later b =
+    at_word code.DupNode n.name (c.names n.name.name) ∷ at_word code.NodeDepth n.name (nat_le levels n.depth) ∷ at_word code.LimitNodes n.name (i == 4096)
+    ∷ at_numeral code.LimitFan (fan_of n) (nat_lt n.depth (levels - 1) && is_bad_fan n.children) ∷ at_numeral code.LimitCapacity n.capacity b ∷ later
+
+node_bytes_cut : (c : NodeCount) (n : Nested) → with_node capped (cut_nodes c) n ≡ capped (with_node uncut c n)
+node_bytes_cut c n = more_capped c.bytes n.capacity.value most
+
+node_cut : (levels i : ℕ) (c : NodeCount) (n : Nested) (later : List Rule) → node_rules capped levels i (cut_nodes c) n later ≡ node_rules uncut levels i c n later
+node_cut levels i c n later =
+    let sum : is_over_capacity n.capacity.value (capped c.bytes) (with_node capped (cut_nodes c) n) ≡ is_over_capacity n.capacity.value c.bytes (with_node uncut c n) =
+    ap (is_over_capacity n.capacity.value (capped c.bytes)) (node_bytes_cut c n) ∙ over_capped n.capacity.value c.bytes (with_node uncut c n) in
+    ap (node_with levels i c n later) sum
+
+nodes_all_cut : (levels i : ℕ) (c : NodeCount) (ns : List Nested) → all_node_rules capped levels i (cut_nodes c) ns ≡ all_node_rules uncut levels i c ns
+nodes_all_cut levels i c [] = refl
+nodes_all_cut levels i c (n ∷ ns) =
+    ap (λ bytes. node_rules capped levels i (cut_nodes c) n (all_node_rules capped levels (suc i) (record { names = (after_node uncut c n).names; bytes = bytes }) ns)) (node_bytes_cut c n)
+    ∙ ap (node_rules capped levels i (cut_nodes c) n) (nodes_all_cut levels (suc i) (after_node uncut c n) ns)
+    ∙ node_cut levels i c n (all_node_rules uncut levels (suc i) (after_node uncut c n) ns)
+
+pub same_rules : (machine : MachineText) → rules_by capped machine ≡ rules_of machine
+same_rules (Levels text) = levels_cut text
+same_rules (Nodes text) = ap (names_rules 0 no_names text.names) (nodes_all_cut (length text.names) 0 before_nodes (nested text.nodes))

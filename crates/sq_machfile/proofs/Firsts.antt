@@ -1,25 +1,30 @@
--- The first fault of a list of conditions.
-use Rattle.std.proofs.Common.{◌≡◌, Bool, true, false, if◌then◌else◌, Some, None, refl, sym, ◌∙◌, ap, subst, arith, inr, true≢false}
+-- The first fault of the limits.
+use Rattle.std.proofs.Common.{◌≡◌, List, Option, sym, ◌∙◌, ap, subst}
 use Rattle.sq_text.specs.declared.fault.Fault.{Fault}
-use Rattle.sq_text.specs.First.{IsFirst, AtOrBefore}
-use Rattle.sq_text.specs.Answers.{fault_place}
-use Rattle.sq_text.proofs.Firsts.{first_of_sites}
-use Rattle.sq_machfile.specs.declared.tree.MachineText.{MachineText}
-use Rattle.sq_machfile.specs.Faults.{Condition, HoldsAt, conditions, conditions_by, number, LimitFault}
-use Rattle.sq_machfile.specs.Counting.{capped, judge, firsts}
-use Rattle.sq_machfile.proofs.Caps.{same_conditions}
+use Rattle.sq_text.specs.declared.word.Word.{Word}
+use Rattle.sq_machfile.specs.declared.nested.Nested.{Nested}
+use Rattle.sq_machfile.specs.declared.text.LevelsText.{LevelsText}
+use Rattle.sq_machfile.specs.declared.text.NodesText.{NodesText}
+use Rattle.sq_machfile.specs.declared.text.MachineText.TheVariants.{Levels, Nodes}
+use Rattle.sq_machfile.specs.Nesting.{nested}
+use Rattle.sq_text.specs.declared.code.Phase.TheVariants.{Machine}
+use Rattle.sq_text.specs.Faults.{IsFirst}
+use Rattle.sq_text.specs.Found.{firsts, nothing_found}
+use Rattle.sq_text.proofs.Breaches.{first_breach}
+use Rattle.sq_machfile.specs.declared.text.MachineText.{MachineText}
+use Rattle.sq_machfile.specs.Faults.{judge, rules_by, rules_of, levels_rules, nodes_rules, LimitFault}
+use Rattle.sq_machfile.specs.Tallies.{capped}
+use Rattle.sq_machfile.proofs.Caps.{same_rules}
 
--- a fault is at or before itself
-pub at_itself : (f g : Fault) → g ≡ f → AtOrBefore fault_place number f g
-at_itself f g e = inr (ap fault_place (sym e), let n : number f ≡ number g = ap number (sym e) in omega arith)
+pub first_limit : (machine : MachineText) → IsFirst (LimitFault machine) (firsts judge (nothing_found Machine) (rules_by capped machine)).fault
+first_limit machine = subst (λ rules. IsFirst (LimitFault machine) (firsts judge (nothing_found Machine) rules).fault) (sym (same_rules machine)) (first_breach judge Machine (rules_of machine))
 
-judged_by : (b : Bool) (c : Condition) → c.holds ≡ b → IsFirst fault_place number (HoldsAt c) (if b then Some c.fault else None)
-judged_by true c e = ((e, refl), λ g h. at_itself c.fault g h.1)
-judged_by false c e = λ f h. true≢false (sym h.0 ∙ e)
+-- the same of what is found for each version
+pub even_first : (text : LevelsText) (o : Option Fault) → o ≡ (firsts judge (nothing_found Machine) (levels_rules capped text)).fault → IsFirst (LimitFault (Levels text)) o
+even_first text o e = subst (IsFirst (LimitFault (Levels text))) (sym e) (first_limit (Levels text))
 
-judged : (c : Condition) → IsFirst fault_place number (HoldsAt c) (judge c)
-judged c = judged_by c.holds c refl
-
-pub first_limit : (machine : MachineText) → IsFirst fault_place number (LimitFault machine) (firsts None (conditions_by capped machine))
-first_limit machine = subst (λ cs. IsFirst fault_place number (LimitFault machine) (firsts None cs)) (sym (same_conditions machine))
-    (first_of_sites fault_place number HoldsAt judge judged (conditions machine))
+pub uneven_first : (text : NodesText) (names : List Word) (nodes : List Nested) (o : Option Fault) → names ≡ text.names → nodes ≡ nested text.nodes
+    → o ≡ (firsts judge (nothing_found Machine) (nodes_rules capped names nodes)).fault → IsFirst (LimitFault (Nodes text)) o
+uneven_first text names nodes o en em e = subst (IsFirst (LimitFault (Nodes text)))
+    (sym (e ∙ ap (λ ns. (firsts judge (nothing_found Machine) (nodes_rules capped ns nodes)).fault) en ∙ ap (λ ns. (firsts judge (nothing_found Machine) (nodes_rules capped text.names ns)).fault) em))
+    (first_limit (Nodes text))

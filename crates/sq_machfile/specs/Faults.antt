@@ -1,59 +1,69 @@
--- The table of the faults of a machine: for each place of its text the faults that may be there, each with its condition.
-use Rattle.std.specs.Prelude.{◌≡◌, ℕ, suc, ◌+◌, ◌*◌, ◌^◌, ◌==◌, Bool, true, ◌&&◌, ◌||◌, nat_lt, nat_le, if◌then◌else◌, List, [], ◌∷◌, ◌++◌, Some}
-use Rattle.std.specs.List.{list_any}
-use Rattle.std.specs.Str.{bytes_eq}
-use Rattle.sq_text.specs.declared.place.Place.{Place}
-use Rattle.sq_text.specs.declared.fault.Phase.TheVariants as phase
-use Rattle.sq_text.specs.declared.fault.Code.{Code}
-use Rattle.sq_text.specs.declared.fault.Code.TheVariants as code
-use Rattle.sq_text.specs.declared.fault.Arg.{Arg}
-use Rattle.sq_text.specs.declared.fault.Arg.TheVariants as arg
+-- Which limits a machine file may break: for each rule its code, place and argument, where it is broken.
+use Rattle.std.specs.Prelude.{ℕ, zero, suc, ◌+◌, ◌-◌, ◌*◌, ◌^◌, Bool, false, ◌||◌, ◌&&◌, ◌==◌, nat_lt, nat_le, List, [], ◌∷◌, length, Option}
+use Rattle.sq_text.specs.declared.code.Phase.TheVariants as phase
+use Rattle.sq_text.specs.declared.code.Code.TheVariants as code
 use Rattle.sq_text.specs.declared.fault.Fault.{Fault}
-use Rattle.sq_text.specs.First.{HoldsIn}
-use Rattle.sq_shapes.specs.declared.held.Word.{Word}
-use Rattle.sq_shapes.specs.declared.held.Numeral.{Numeral}
-use Rattle.sq_machfile.specs.declared.tree.LevelText.{LevelText}
-use Rattle.sq_machfile.specs.declared.tree.Below.{Below}
-use Rattle.sq_machfile.specs.declared.tree.MachineText.{MachineText}
+use Rattle.sq_text.specs.declared.place.Place.{Place}
+use Rattle.sq_text.specs.declared.word.Word.{Word}
+use Rattle.sq_text.specs.declared.word.Numeral.{Numeral}
+use Rattle.sq_text.specs.Found.{Breach, at_word, at_numeral, BreaksIn}
+use Rattle.sq_text.specs.Names.{Bytes, same_name}
+use Rattle.sq_machfile.specs.declared.text.LevelText.{LevelText}
+use Rattle.sq_machfile.specs.declared.text.Below.{Below}
+use Rattle.sq_machfile.specs.declared.text.LevelsText.{LevelsText}
+use Rattle.sq_machfile.specs.declared.text.NodesText.{NodesText}
+use Rattle.sq_machfile.specs.declared.text.MachineText.{MachineText}
+use Rattle.sq_machfile.specs.declared.text.MachineText.TheVariants.{Levels, Nodes}
+use Rattle.sq_machfile.specs.declared.nested.Nested.{Nested}
+use Rattle.sq_machfile.specs.Nesting.{nested}
 
--- the numbers of the codes, by which faults at one place are ordered
-abbrev pub number_of : Code → ℕ
-number_of code.LimitFile = 1
-number_of code.BadByte = 2
-number_of code.OpenComment = 3
-number_of code.NumberTooBig = 4
-number_of code.Syntax = 5
-number_of code.DupLevel = 7
-number_of code.LimitLevels = 8
-number_of code.LimitFan = 9
-number_of code.LimitCapacity = 10
-number_of code.LimitNodes = 11
-number_of _ = 0
+-- the breach of a rule, where it is broken
+abbrev pub Rule : Type 0
+Rule = Option Breach
 
-abbrev pub number : Fault → ℕ
-number fault = number_of fault.code
+-- ---- names that stand before a place
 
--- a fault that may be there, and whether it is
-pub record Condition : Type 0 where
-  pub fault : Fault
-  pub holds : Bool
+abbrev pub NameSet : Type 0
+NameSet = Bytes → Bool
 
-abbrev pub condition : Code → Place → Arg → Bool → Condition
-condition c place argument holds = record { fault = record { phase = phase.Machine; code = c; place = Some place; args = argument ∷ [] }; holds = holds }
+abbrev pub no_names : NameSet
+no_names name = false
 
-abbrev pub of_word : Code → Word → Bool → Condition
-of_word c word holds = condition c word.place (arg.Word word.name) holds
+abbrev pub with_name : Bytes → NameSet → NameSet
+with_name name names = λ n. names n || same_name n name
 
-abbrev pub of_number : Code → Numeral → Bool → Condition
-of_number c numeral holds = condition c numeral.place (arg.Number numeral.value) holds
+-- ---- sums
 
-abbrev pub HoldsAt : Condition → Fault → Type 0
-HoldsAt c f = (c.holds ≡ true) × (f ≡ c.fault)
+-- a sum passes a limit where it grows from within it to beyond it
+abbrev pub passes : ℕ → ℕ → ℕ → Bool
+passes limit before after = nat_le before limit && nat_lt limit after
 
--- what is counted down to a level
+abbrev pub is_bad_fan : ℕ → Bool
+is_bad_fan children = nat_lt children 1 || nat_lt 64 children
+
+-- a capacity, where the bytes of all memories grow by it
+abbrev pub is_over_capacity : ℕ → ℕ → ℕ → Bool
+is_over_capacity capacity before after = nat_lt (2 ^ 30) capacity || passes (2 ^ 31) before after
+
+-- ---- names of levels
+
+-- the name of a level, the index-th from the root, and then other rules
+abbrev pub level_name : ℕ → NameSet → Word → List Rule → List Rule
+level_name index names word later =
+    at_word code.DupLevel word (names word.name)
+    -- there are at most eight levels
+    ∷ at_word code.LimitLevels word (index == 8)
+    ∷ later
+
+-- the names of levels, from the index-th on, and then other rules
+abbrev pub names_rules : ℕ → NameSet → List Word → List Rule → List Rule
+names_rules index names [] later = later
+names_rules index names (word ∷ words) later = level_name index names word (names_rules (suc index) (with_name word.name names) words later)
+
+-- what is counted down to a level, in version 1
 pub record Count : Type 0 where
-  -- the names of the levels above, each once
-  pub names : List (List ℕ)
+  -- the names of the levels above
+  pub names : NameSet
   -- the nodes of the level
   pub width : ℕ
   -- the nodes of the level and of those above
@@ -62,20 +72,26 @@ pub record Count : Type 0 where
   pub bytes : ℕ
 
 abbrev pub at_root : Count
-at_root = record { names = []; width = 1; nodes = 1; bytes = 0 }
+at_root = record { names = no_names; width = 1; nodes = 1; bytes = 0 }
 
-abbrev pub is_known : List (List ℕ) → List ℕ → Bool
-is_known names name = list_any (bytes_eq name) names
+-- what is counted up to a node in the order of the text, in version 2
+pub record NodeCount : Type 0 where
+  -- the names of the nodes before
+  pub names : NameSet
+  -- the bytes of the memories before
+  pub bytes : ℕ
 
-abbrev pub with_name : List (List ℕ) → List ℕ → List (List ℕ)
-with_name names name = if is_known names name then names else names ++ name ∷ []
+abbrev pub before_nodes : NodeCount
+before_nodes = record { names = no_names; bytes = 0 }
 
--- a sum passes a limit where it grows from within it to beyond it
-abbrev pub passes : ℕ → ℕ → ℕ → Bool
-passes limit before after = nat_le before limit && nat_lt limit after
+-- the number of a node's children, at its name
+abbrev pub fan_of : Nested → Numeral
+fan_of node = record { place = node.name.place; value = node.children }
 
--- `cut` is what a count is cut to: the reader's numbers have an end, and in the definition they have none.
+-- `cut` is what a sum is cut to: the reader's numbers have an end, and in the definition they have none.
 module _ (cut : ℕ → ℕ) where
+  -- ---- version 1
+
   abbrev pub bytes_with : Count → LevelText → ℕ
   bytes_with c level = cut (c.bytes + cut (c.width * level.capacity.value))
 
@@ -86,49 +102,77 @@ module _ (cut : ℕ → ℕ) where
   nodes_with c children = cut (c.nodes + width_below c children)
 
   abbrev pub after_level : Count → LevelText → Count
-  after_level c level = record c { names = with_name c.names level.name.name; bytes = bytes_with c level }
+  after_level c level = record c { names = with_name level.name.name c.names; bytes = bytes_with c level }
 
   abbrev pub after_children : Count → Numeral → Count
   after_children c children = record c { width = width_below c children; nodes = nodes_with c children }
 
-  abbrev pub is_over_capacity : Count → LevelText → Bool
-  is_over_capacity c level = nat_lt (2 ^ 30) level.capacity.value || passes (2 ^ 31) c.bytes (bytes_with c level)
+  -- a level, which is the index-th from the root, and then other rules
+  abbrev pub level_rules : ℕ → Count → LevelText → List Rule → List Rule
+  level_rules index c level later =
+      level_name index c.names level.name
+      (at_numeral code.LimitCapacity level.capacity (is_over_capacity level.capacity.value c.bytes (bytes_with c level)) ∷ later)
 
-  -- a level, which is the index-th from the root, and then others
-  abbrev pub level_conditions : ℕ → Count → LevelText → List Condition → List Condition
-  level_conditions index c level later =
-      of_word code.DupLevel level.name (is_known c.names level.name.name)
-      -- there are at most eight levels
-      ∷ of_word code.LimitLevels level.name (index == 8)
-      ∷ of_number code.LimitCapacity level.capacity (is_over_capacity c level)
+  -- a number of children, and then other rules
+  abbrev pub children_rules : Count → Numeral → List Rule → List Rule
+  children_rules c children later =
+      at_numeral code.LimitFan children (is_bad_fan children.value)
+      ∷ at_numeral code.LimitNodes children (passes 4096 c.nodes (nodes_with c children))
       ∷ later
 
-  -- a number of children, and then others
-  abbrev pub children_conditions : Count → Numeral → List Condition → List Condition
-  children_conditions c children later =
-      of_number code.LimitFan children (nat_lt children.value 1 || nat_lt 64 children.value)
-      ∷ of_number code.LimitNodes children (passes 4096 c.nodes (nodes_with c children))
-      ∷ later
-
-  abbrev pub one_below : ℕ → Count → Below → List Condition → List Condition
-  one_below index c below later = children_conditions c below.children (level_conditions index (after_children c below.children) below.level later)
+  abbrev pub one_below : ℕ → Count → Below → List Rule → List Rule
+  one_below index c below later = children_rules c below.children (level_rules index (after_children c below.children) below.level later)
 
   abbrev pub after_below : Count → Below → Count
   after_below c below = after_level (after_children c below.children) below.level
 
-  abbrev pub below_conditions : ℕ → Count → List Below → List Condition
-  below_conditions index c [] = []
-  below_conditions index c (below ∷ rest) = one_below index c below (below_conditions (suc index) (after_below c below) rest)
+  abbrev pub below_rules : ℕ → Count → List Below → List Rule
+  below_rules index c [] = []
+  below_rules index c (below ∷ rest) = one_below index c below (below_rules (suc index) (after_below c below) rest)
 
-  abbrev pub conditions_by : MachineText → List Condition
-  conditions_by machine = level_conditions 0 at_root machine.root (below_conditions 1 (after_level at_root machine.root) machine.below)
+  abbrev pub levels_rules : LevelsText → List Rule
+  levels_rules text = level_rules 0 at_root text.root (below_rules 1 (after_level at_root text.root) text.below)
+
+  -- ---- version 2
+
+  abbrev pub with_node : NodeCount → Nested → ℕ
+  with_node c node = cut (c.bytes + node.capacity.value)
+
+  -- the index-th node in the order of the text, where there are so many levels, and then other rules
+  abbrev pub node_rules : ℕ → ℕ → NodeCount → Nested → List Rule → List Rule
+  node_rules levels index c node later =
+      at_word code.DupNode node.name (c.names node.name.name)
+      ∷ at_word code.NodeDepth node.name (nat_le levels node.depth)
+      ∷ at_word code.LimitNodes node.name (index == 4096)
+      -- at the last level the children are too deep
+      ∷ at_numeral code.LimitFan (fan_of node) (nat_lt node.depth (levels - 1) && is_bad_fan node.children)
+      ∷ at_numeral code.LimitCapacity node.capacity (is_over_capacity node.capacity.value c.bytes (with_node c node))
+      ∷ later
+
+  abbrev pub after_node : NodeCount → Nested → NodeCount
+  after_node c node = record { names = with_name node.name.name c.names; bytes = with_node c node }
+
+  abbrev pub all_node_rules : ℕ → ℕ → NodeCount → List Nested → List Rule
+  all_node_rules levels index c [] = []
+  all_node_rules levels index c (node ∷ nodes) = node_rules levels index c node (all_node_rules levels (suc index) (after_node c node) nodes)
+
+  abbrev pub nodes_rules : List Word → List Nested → List Rule
+  nodes_rules names nodes = names_rules 0 no_names names (all_node_rules (length names) 0 before_nodes nodes)
+
+  abbrev pub rules_by : MachineText → List Rule
+  rules_by (Levels text) = levels_rules text
+  rules_by (Nodes text) = nodes_rules text.names (nested text.nodes)
 
 abbrev pub uncut : ℕ → ℕ
 uncut n = n
 
-abbrev pub conditions : MachineText → List Condition
-conditions machine = conditions_by uncut machine
+abbrev pub rules_of : MachineText → List Rule
+rules_of machine = rules_by uncut machine
+
+-- the rule's breach is judged by itself
+abbrev pub judge : Rule → Option Breach
+judge rule = rule
 
 -- this fault holds of the machine that the text writes
 abbrev pub LimitFault : MachineText → Fault → Type 0
-LimitFault machine f = HoldsIn HoldsAt (conditions machine) f
+LimitFault machine f = BreaksIn judge phase.Machine (rules_of machine) f

@@ -1,14 +1,22 @@
-//! Machine files: the levels of a memory hierarchy.
+//! Machine files: the levels and nodes of a memory hierarchy.
 #![tactic(auto)]
 
-mod fault;
+mod even;
 mod level;
+mod levels;
+mod limits;
 mod machine;
+mod names;
+mod nested;
+mod node;
 mod reading;
+mod text;
 mod tree;
+mod uneven;
 
 pub use level::Level;
 pub use machine::{Machine, read_machine};
+pub use node::Node;
 
 #[cfg(test)]
 mod tests;

@@ -1,103 +1,108 @@
 //! Machines.
 
-ghost use Rattle.std.specs.Prelude.{◌≡◌, ◌<◌, List, IfOk, length};
+ghost use Rattle.std.specs.Prelude.{◌≡◌, ◌<◌, IfOk, length};
 ghost use Rattle.sq_text.specs.Answers.{Answers, Gives};
-ghost use Rattle.sq_machfile.specs.declared.level.Level.{Level};
-ghost use Rattle.sq_machfile.specs.Faults.{number};
-ghost use Rattle.sq_machfile.specs.Machines.{WithinLimits, StandsFor, MachineFault, level_with, levels_of, nodes_at};
+ghost use Rattle.sq_machfile.specs.Machines.{Hierarchy, WithinLimits, StandsFor, MachineFault, nodes_at, AnswersLimits};
+ghost use Rattle.sq_machfile.specs.Grammar.{IsWritten};
+ghost use Rattle.sq_machfile.specs.declared.text.MachineText.TheVariants as MachineText;
 
-use crate::fault::first_fault;
 use crate::level::Level;
+use crate::node::Node;
 use crate::reading::parse;
-use crate::tree::{LevelText, MachineText};
+use crate::text::{LevelText, LevelsText, MachineText, NodesText};
+use crate::{even, levels, nested, tree, uneven};
 use sq_lexer::tokens;
 use sq_text::{Phase, Stop};
 use sqlite_items::Items;
 use std::alloc::{AllocError, Global};
 use std::marker::Model;
 
-/// A hierarchy of memories, within every limit. Contracts see it as its levels, root first.
+/// A hierarchy of memories, within every limit. Contracts see it as its levels, root first, and its nodes, level by level from the left.
 #[derive(Debug, Drop)]
 pub struct Machine {
     levels: Items<Level>,
+    nodes: Items<Node>,
 }
 
 impl Model for Machine {
-    ghost use Rattle.std.specs.Prelude.{List};
-    ghost use Rattle.sq_machfile.specs.declared.level.Level.{Level};
-    ghost use Rattle.sq_machfile.specs.Machines.{WithinLimits};
+    ghost use Rattle.sq_machfile.specs.Machines.{Hierarchy, WithinLimits};
 
-    ghost Value = { List Level };
+    ghost Value = { Hierarchy };
 
-    ghost view = { λ m. m.levels };
+    ghost view = { λ m. record { levels = m.levels; nodes = m.nodes } };
 
-    ghost invariant = { λ m. WithinLimits m.levels };
+    ghost invariant = { λ m. WithinLimits (record { levels = m.levels; nodes = m.nodes }) };
 }
 
 impl Machine {
     /// The levels, root first.
     pub fn levels(&self) -> &[Level]
-        ensures items { result.now ≡ self.now }
+        ensures items { result.now ≡ self.now.levels }
         ensures within { WithinLimits self.now }
     {
         self.levels.as_slice()
     }
 
-    /// How many nodes the level has: the product of the numbers of children above it.
+    /// The nodes, level by level, and in each level from the left.
+    pub fn tree(&self) -> &[Node]
+        ensures items { result.now ≡ self.now.nodes }
+        ensures within { WithinLimits self.now }
+    {
+        self.nodes.as_slice()
+    }
+
+    /// How many nodes the level has.
     pub fn nodes(&self, level: usize) -> u32
-        requires { level < length self.now }
+        requires { level < length self.now.levels }
         ensures { result ≡ nodes_at self.now level }
     {
-        product_above(self.levels(), level)
+        levels::count_nodes(self.nodes.as_slice(), level)
     }
 }
 
-fn product_above(levels: &[Level], level: usize) -> u32
-    requires within { WithinLimits levels.now }
-    requires level { level < length levels.now }
-    ensures { result ≡ nodes_at levels.now level }
+fn even_machine(alloc: Global, text: &LevelsText) -> Result<Machine, Stop>
+    ensures { AnswersLimits (MachineText.Levels text.now) result }
 {
-    let mut nodes: u32 = 1;
-    for i in 0..level {
-        nodes *= levels[i].children;
+    if let Some(fault) = even::first_fault(alloc, text)? {
+        return Err(Stop::Refused(fault));
     }
-    nodes
+    let levels = levels::even_levels(alloc, text)?;
+    let nodes = tree::even_nodes(alloc, levels.as_slice())?;
+    Ok(Machine { levels, nodes })
 }
 
-fn level_with(alloc: Global, text: &LevelText, children: u32) -> Result<Level, AllocError>
-    ensures { IfOk result (λ level. level ≡ level_with text.now children) }
+fn uneven_machine(alloc: Global, text: NodesText) -> Result<Machine, Stop>
+    requires { IsWritten (MachineText.Nodes text) }
+    ensures { AnswersLimits (MachineText.Nodes text) result }
 {
-    let name = text.name.name.copy(alloc)?;
-    Ok(Level {
-        name,
-        capacity: text.capacity.value,
-        children,
-    })
+    let NodesText { names, nodes } = text;
+    let nodes = nested::with_children(alloc, nodes)?;
+    let nodes = nodes.as_slice();
+    if let Some(fault) = uneven::first_fault(alloc, names.as_slice(), nodes)? {
+        return Err(Stop::Refused(fault));
+    }
+    let nodes = tree::uneven_nodes(alloc, names.len() as u32, nodes)?;
+    let levels = levels::uneven_levels(alloc, nodes.as_slice(), names.as_slice())?;
+    Ok(Machine { levels, nodes })
 }
 
-fn levels_of(alloc: Global, machine: &MachineText) -> Result<Items<Level>, AllocError>
-    requires { WithinLimits (levels_of machine.now) }
-    ensures { IfOk result (λ levels. levels ≡ levels_of machine.now) }
+fn machine_of(alloc: Global, written: MachineText) -> Result<Machine, Stop>
+    requires { IsWritten written }
+    ensures { AnswersLimits written result }
 {
-    let mut levels = Items::new(alloc);
-    let mut above = &machine.root;
-    for below in machine.below.as_slice() {
-        let level = level_with(alloc, above, below.children.value as u32)?;
-        levels.push(level)?;
-        above = &below.level;
+    match written {
+        MachineText::Levels(text) => even_machine(alloc, &text),
+        MachineText::Nodes(text) => uneven_machine(alloc, text),
     }
-    let last = level_with(alloc, above, 0)?;
-    levels.push(last)?;
-    Ok(levels)
 }
 
 /// The machine that a text stands for, or its first fault.
 pub fn read_machine(alloc: Global, text: &[u8]) -> Result<Machine, Stop>
     // Ok exactly where no fault holds; else the first one.
-    ensures answers { Answers number (MachineFault text.now) result }
+    ensures answers { Answers (MachineFault text.now) result }
     ensures found { IfOk result (λ machine. StandsFor text.now machine) }
     // A text stands for at most one machine, which is found where it keeps the limits.
-    ensures only { (levels : List Level) → StandsFor text.now levels → WithinLimits levels → Gives result levels }
+    ensures only { (machine : Hierarchy) → StandsFor text.now machine → WithinLimits machine → Gives result machine }
 {
     let tokens = match tokens(alloc, Phase::Machine, text) {
         Ok(tokens) => tokens,
@@ -107,9 +112,5 @@ pub fn read_machine(alloc: Global, text: &[u8]) -> Result<Machine, Stop>
         Ok(written) => written,
         Err(stop) => return Err(stop),
     };
-    if let Some(fault) = first_fault(alloc, &written)? {
-        return Err(Stop::Refused(fault));
-    }
-    let levels = levels_of(alloc, &written)?;
-    Ok(Machine { levels })
+    machine_of(alloc, written)
 }

@@ -1,36 +1,45 @@
 -- The reader gives exactly what the grammar derives, and the machine goes on after it as it does.
-use Rattle.std.proofs.Common.{ℕ, ℤ, suc, ◌≤◌, List, [], ◌∷◌, ◌++◌, length, refl, sym, subst, arith}
+use Rattle.std.proofs.Common.{ℕ, ℤ, suc, ◌≤◌, List, [], ◌∷◌, ◌++◌, if◌then◌else◌, ◌≡◌, length, refl, sym, subst, arith, codes}
 use Rattle.std.proofs.Math.IntN.{neg_ℤ}
 use Rattle.std.specs.List.{slice_get}
-use Rattle.sq_shapes.specs.declared.held.Word.{Word}
+use Rattle.sq_text.specs.declared.word.Word.{Word}
 use Rattle.sq_ast.specs.declared.program.VariantKind.{VariantKind}
 use Rattle.sq_ast.specs.declared.program.VariantKind.TheVariants as variant
 use Rattle.sq_lexer.specs.declared.token.Token.{Token}
 use Rattle.sq_lexer.specs.declared.token.Sign.TheVariants as g
-use Rattle.sq_shapes.specs.declared.shape.Shape.TheVariants as s
-use Rattle.sq_shapes.specs.Reading.{pure, all, until, number_in, word_in}
-use Rattle.sq_shapes.proofs.Owing.{Owed, Want, At, wants}
-use Rattle.sq_shapes.proofs.Shaped.{Front, none, next, mapping, entry, instance, tunable, call, inner, leaf, a_word, a_number, one, a_sign}
-use Rattle.sq_shapes.proofs.Readings.{Reading, given, gives_more, phrase, weaken, all_reads, shapes_read, choice_reads, Adds, until_reads, IsLast, last_front, finish_reads}
+use Rattle.sq_shapes.specs.declared.pattern.Pattern.TheVariants as s
+use Rattle.sq_lexer.specs.declared.token.Kind.{Kind}
+use Rattle.sq_shapes.specs.Patterns.{fits}
+use Rattle.sq_shapes.specs.Reading.{pure, all, choice, until, number_in, word_in}
+use Rattle.sq_shapes.proofs.Owing.{Owed, Want, At, wants, settle}
+use Rattle.sq_shapes.proofs.Matching.{Front, none, next, mapping, entry, instance, tunable, call, spread, cyclic, blocked, inner, leaf, a_word, a_number, exactly, a_sign}
+use Rattle.sq_shapes.proofs.Readings.{Reading, given, gives_more, phrase, weaken, all_reads, patterns_read, choice_reads, Adds, until_reads, IsLast, last_front, finish_reads}
 use Rattle.sq_mapfile.specs.declared.mapping.Setting.{Setting}
 use Rattle.sq_mapfile.specs.declared.mapping.Setting.TheVariants.{One, Many}
-use Rattle.sq_mapfile.specs.declared.tree.SizeText.{SizeText}
-use Rattle.sq_mapfile.specs.declared.tree.ItemText.{ItemText}
-use Rattle.sq_mapfile.specs.declared.tree.ItemText.TheVariants.{Tunable, Call}
-use Rattle.sq_mapfile.specs.declared.tree.InstanceText.{InstanceText}
-use Rattle.sq_mapfile.specs.declared.tree.MappingText.{MappingText}
-use Rattle.sq_mapfile.specs.Grammar.{Derives, IsText}
+use Rattle.sq_mapfile.specs.declared.text.SizeText.{SizeText}
+use Rattle.sq_mapfile.specs.declared.text.ItemText.{ItemText}
+use Rattle.sq_mapfile.specs.declared.text.ItemText.TheVariants.{Tunable, Call, Spread}
+use Rattle.sq_mapfile.specs.declared.text.InstanceText.{InstanceText}
+use Rattle.sq_mapfile.specs.declared.text.MappingText.{MappingText}
+use Rattle.sq_text.specs.declared.spread.SpreadRule.{SpreadRule}
+use Rattle.sq_text.specs.declared.spread.SpreadRule.TheVariants as spreading
+use Rattle.sq_text.specs.declared.place.Place.{Place}
+use Rattle.sq_lexer.specs.Tokens.{token}
+use Rattle.sq_lexer.specs.declared.token.Kind.TheVariants as k
+use Rattle.sq_mapfile.specs.declared.text.Version.{Version}
+use Rattle.sq_mapfile.specs.declared.text.Version.TheVariants.{First, Second}
+use Rattle.sq_mapfile.specs.Grammar.{Derives, IsText, number_of}
 use Rattle.sq_mapfile.specs.Grammar as grammar
-use Rattle.sq_mapfile.specs.Reading.{size_shapes, next_size_shapes, size_at, minus_shapes, tunable_shapes, call_shapes, instance_shapes, level_shapes, head_shapes, sizes_end, instance_of}
+use Rattle.sq_mapfile.specs.Reading.{size_patterns, next_size_patterns, size_at, minus_patterns, tunable_patterns, call_patterns, spread_patterns, instance_patterns, level_patterns, head_patterns, sizes_end, instance_of}
 use Rattle.sq_mapfile.specs.Reading as reading
-use Rattle.sq_mapfile.proofs.Points.{Point, Sizes, MoreSizes, AValue, Values, MoreValues, ASetting, AnItem, Items, AKind, Instances, tunable_owes, call_owes, instance_owes, ways, start}
+use Rattle.sq_mapfile.proofs.Points.{Point, Sizes, MoreSizes, AValue, Values, MoreValues, ASetting, ARule, AnItem, Items, AKind, Instances, AVersion, tunable_owes, call_owes, spread_owes, instance_owes, version_owes, ways, start}
 
 -- ---- sizes
 
-first_size_front : {i ts j l : List Token} {rest : List SizeText} → Front size_shapes i ts j → Derives (grammar.MoreSizes rest) j l → Derives (grammar.Sizes (size_at 0 ts ∷ rest)) i l
+first_size_front : {i ts j l : List Token} {rest : List SizeText} → Front size_patterns i ts j → Derives (grammar.MoreSizes rest) j l → Derives (grammar.Sizes (size_at 0 ts ∷ rest)) i l
 first_size_front (next a_word (next (a_sign _) (next a_number none))) d = grammar.first_size d
 
-next_size_front : {i ts j l : List Token} {rest : List SizeText} → Front next_size_shapes i ts j → Derives (grammar.MoreSizes rest) j l
+next_size_front : {i ts j l : List Token} {rest : List SizeText} → Front next_size_patterns i ts j → Derives (grammar.MoreSizes rest) j l
     → Derives (grammar.MoreSizes (size_at 1 ts ∷ rest)) i l
 next_size_front (next (a_sign _) (next a_word (next (a_sign _) (next a_number none)))) d = grammar.next_size d
 
@@ -40,34 +49,34 @@ IsFirstSize i x j = (rest : List SizeText) (l : List Token) → Derives (grammar
 abbrev AreMoreSizes : List SizeText → List Token → List Token → Type 0
 AreMoreSizes xs i j = Derives (grammar.MoreSizes xs) i j
 
-first_size_reads : (n : ℕ) (i : List Token) (K : List (Owed Point)) → length i ≤ suc n → Reading ways n (wants size_shapes K) K (IsFirstSize i) i (reading.first_size i)
-first_size_reads n i K le = phrase (all size_shapes i) _ (shapes_read size_shapes n i K refl (omega arith))
+first_size_reads : (n : ℕ) (i : List Token) (K : List (Owed Point)) → length i ≤ suc n → Reading ways n (wants size_patterns K) K (IsFirstSize i) i (reading.first_size i)
+first_size_reads n i K le = phrase (all size_patterns i) _ (patterns_read size_patterns n i K refl (omega arith))
     (λ ts j few front. given (size_at 0 ts) j few (λ rest l d. first_size_front front d))
 
 next_size_reads : (n : ℕ) (i : List Token) (K : List (Owed Point)) → length i ≤ suc n
-    → Reading ways n (wants next_size_shapes K) K (λ x j. (rest : List SizeText) (l : List Token) → AreMoreSizes rest j l → AreMoreSizes (x ∷ rest) i l) i (reading.next_size i)
-next_size_reads n i K le = phrase (all next_size_shapes i) _ (shapes_read next_size_shapes n i K refl (omega arith))
+    → Reading ways n (wants next_size_patterns K) K (λ x j. (rest : List SizeText) (l : List Token) → AreMoreSizes rest j l → AreMoreSizes (x ∷ rest) i l) i (reading.next_size i)
+next_size_reads n i K le = phrase (all next_size_patterns i) _ (patterns_read next_size_patterns n i K refl (omega arith))
     (λ ts j few front. given (size_at 1 ts) j few (λ rest l d. next_size_front front d))
 
 more_sizes_read : (n : ℕ) (x : SizeText) (i : List Token) (K : List (Owed Point)) → length i ≤ n
     → Reading ways n (At MoreSizes ∷ K) (Want (s.Sign g.ParenClose) ∷ K) (Adds AreMoreSizes (x ∷ []) i) i (reading.more_sizes x i)
 unfolding reading.more_sizes
 more_sizes_read n x i K le = weaken (length i) (until (s.Sign g.ParenClose) reading.next_size (length i) (x ∷ []) i) le
-    (until_reads AreMoreSizes (λ i. grammar.no_more_sizes) (s.Sign g.ParenClose) reading.next_size (At MoreSizes ∷ K) (Want (s.Sign g.ParenClose) ∷ K) (wants next_size_shapes (At MoreSizes ∷ K))
+    (until_reads AreMoreSizes (λ i. grammar.no_more_sizes) (s.Sign g.ParenClose) reading.next_size (At MoreSizes ∷ K) (Want (s.Sign g.ParenClose) ∷ K) (wants next_size_patterns (At MoreSizes ∷ K))
     (λ t. refl) refl refl (λ n i le. next_size_reads n i (At MoreSizes ∷ K) le) (length i) (x ∷ []) i (omega arith))
 
 sizes_added : (x : SizeText) (i j l : List Token) (every : List SizeText) → IsFirstSize i x j → Adds AreMoreSizes (x ∷ []) j every l → Derives (grammar.Sizes every) i l
 sizes_added x i j l every first (xs, is, more) = subst (λ every. Derives (grammar.Sizes every) i l) (sym is) (first xs l more)
 
 sizes_read : (n : ℕ) (i : List Token) (K : List (Owed Point)) → length i ≤ n → Reading ways n (At Sizes ∷ K) (Want (s.Sign g.ParenClose) ∷ K) (λ xs j. Derives (grammar.Sizes xs) i j) i (reading.sizes i)
-sizes_read n i K le = choice_reads (At Sizes ∷ K) (Want (s.Sign g.ParenClose) ∷ K) (wants size_shapes (At MoreSizes ∷ K)) (s.Sign g.ParenClose) (pure []) reading.some_sizes i (λ t. refl) refl
+sizes_read n i K le = choice_reads (At Sizes ∷ K) (Want (s.Sign g.ParenClose) ∷ K) (wants size_patterns (At MoreSizes ∷ K)) (s.Sign g.ParenClose) (pure []) reading.some_sizes i (λ t. refl) refl
     (given [] i le grammar.no_size)
     (phrase (reading.first_size i) _ (first_size_reads n i (At MoreSizes ∷ K) (omega arith))
     (λ x j few first. gives_more (reading.more_sizes x j) (λ every l more. sizes_added x i j l every first more) (more_sizes_read n x j K few)))
 
 -- ---- settings
 
-negative_front : {i ts j : List Token} → Front minus_shapes i ts j → Derives (grammar.AValue (neg_ℤ (number_in (slice_get ts 1)))) i j
+negative_front : {i ts j : List Token} → Front minus_patterns i ts j → Derives (grammar.AValue (neg_ℤ (number_in (slice_get ts 1)))) i j
 negative_front (next (a_sign _) (next a_number none)) = grammar.negative
 
 plain_front : {i ts j : List Token} → Front (s.AnyNumber ∷ []) i ts j → Derives (grammar.AValue (number_in (slice_get ts 0))) i j
@@ -82,16 +91,16 @@ many_front : {i ts j l us m : List Token} {xs : List ℤ} → Front (s.Sign g.Br
 many_front (next (a_sign _) none) d (next (a_sign _) none) = grammar.many d
 
 value_reads : (n : ℕ) (i : List Token) (K : List (Owed Point)) → length i ≤ suc n → Reading ways n (At AValue ∷ K) K (λ x j. Derives (grammar.AValue x) i j) i (reading.value i)
-value_reads n i K le = choice_reads (At AValue ∷ K) (wants minus_shapes K) (Want s.AnyNumber ∷ K) (s.Sign g.Minus) reading.negative reading.plain i (λ t. refl) refl
-    (phrase (all minus_shapes i) _ (shapes_read minus_shapes n i K refl (omega arith)) (λ ts j few front. given (neg_ℤ (number_in (slice_get ts 1))) j few (negative_front front)))
-    (phrase (all (s.AnyNumber ∷ []) i) _ (shapes_read (s.AnyNumber ∷ []) n i K refl (omega arith)) (λ ts j few front. given (number_in (slice_get ts 0)) j few (plain_front front)))
+value_reads n i K le = choice_reads (At AValue ∷ K) (wants minus_patterns K) (Want s.AnyNumber ∷ K) (s.Sign g.Minus) reading.negative reading.plain i (λ t. refl) refl
+    (phrase (all minus_patterns i) _ (patterns_read minus_patterns n i K refl (omega arith)) (λ ts j few front. given (neg_ℤ (number_in (slice_get ts 1))) j few (negative_front front)))
+    (phrase (all (s.AnyNumber ∷ []) i) _ (patterns_read (s.AnyNumber ∷ []) n i K refl (omega arith)) (λ ts j few front. given (number_in (slice_get ts 0)) j few (plain_front front)))
 
 abbrev AreMoreValues : List ℤ → List Token → List Token → Type 0
 AreMoreValues xs i j = Derives (grammar.MoreValues xs) i j
 
 next_value_reads : (n : ℕ) (i : List Token) (K : List (Owed Point)) → length i ≤ suc n
     → Reading ways n (Want (s.Sign g.Comma) ∷ At AValue ∷ K) K (λ x j. (rest : List ℤ) (l : List Token) → AreMoreValues rest j l → AreMoreValues (x ∷ rest) i l) i (reading.next_value i)
-next_value_reads n i K le = phrase (all (s.Sign g.Comma ∷ []) i) _ (shapes_read (s.Sign g.Comma ∷ []) n i (At AValue ∷ K) refl (omega arith))
+next_value_reads n i K le = phrase (all (s.Sign g.Comma ∷ []) i) _ (patterns_read (s.Sign g.Comma ∷ []) n i (At AValue ∷ K) refl (omega arith))
     (λ ts j few front. gives_more (reading.value j) (λ x l d rest m more. next_value_front front d more) (value_reads n j K (omega arith)))
 
 more_values_read : (n : ℕ) (x : ℤ) (i : List Token) (K : List (Owed Point)) → length i ≤ n
@@ -112,39 +121,79 @@ values_read n i K le = choice_reads (At Values ∷ K) (Want (s.Sign g.BracketClo
 
 setting_reads : (n : ℕ) (i : List Token) (K : List (Owed Point)) → length i ≤ suc n → Reading ways n (At ASetting ∷ K) K (λ x j. Derives (grammar.ASetting x) i j) i (reading.setting i)
 setting_reads n i K le = choice_reads (At ASetting ∷ K) (Want (s.Sign g.BracketOpen) ∷ At Values ∷ K) (At AValue ∷ K) (s.Sign g.BracketOpen) reading.many reading.one i (λ t. refl) refl
-    (phrase (all (s.Sign g.BracketOpen ∷ []) i) _ (shapes_read (s.Sign g.BracketOpen ∷ []) n i (At Values ∷ K) refl (omega arith))
+    (phrase (all (s.Sign g.BracketOpen ∷ []) i) _ (patterns_read (s.Sign g.BracketOpen ∷ []) n i (At Values ∷ K) refl (omega arith))
     (λ ts j few opening. phrase (reading.values j) _ (values_read n j K few)
-    (λ xs l few2 d. phrase (all (s.Sign g.BracketClose ∷ []) l) _ (shapes_read (s.Sign g.BracketClose ∷ []) n l K refl (omega arith))
+    (λ xs l few2 d. phrase (all (s.Sign g.BracketClose ∷ []) l) _ (patterns_read (s.Sign g.BracketClose ∷ []) n l K refl (omega arith))
     (λ us m few3 closing. given (Many xs) m few3 (many_front opening d closing)))))
     (phrase (reading.value i) _ (value_reads n i K le) (λ x j few d. given (One x) j few (grammar.one d)))
 
 -- ---- items
 
-tunable_front : {i ts j l us m : List Token} {x : Setting} → Front tunable_shapes i ts j → Derives (grammar.ASetting x) j l → Front (s.Sign g.Semi ∷ []) l us m
-    → Derives (grammar.AnItem (Tunable (word_in (slice_get ts 1)) x)) i m
+tunable_front : {version : Version} {i ts j l us m : List Token} {x : Setting} → Front tunable_patterns i ts j → Derives (grammar.ASetting x) j l → Front (s.Sign g.Semi ∷ []) l us m
+    → Derives (grammar.AnItem version (Tunable (word_in (slice_get ts 1)) x)) i m
 tunable_front (next tunable (next a_word (next (a_sign _) none))) d (next (a_sign _) none) = grammar.a_tunable d
 
-call_front : {i ts j : List Token} → Front call_shapes i ts j → Derives (grammar.AnItem (Call (word_in (slice_get ts 1)) (word_in (slice_get ts 3)))) i j
+call_front : {version : Version} {i ts j : List Token} → Front call_patterns i ts j → Derives (grammar.AnItem version (Call (word_in (slice_get ts 1)) (word_in (slice_get ts 3)))) i j
 call_front (next call (next a_word (next (a_sign _) (next a_word (next (a_sign _) none))))) = grammar.a_call
 
-item_reads : (n : ℕ) (i : List Token) (K : List (Owed Point)) → length i ≤ suc n → Reading ways n (At AnItem ∷ K) K (λ x j. Derives (grammar.AnItem x) i j) i (reading.item i)
-item_reads n i K le = choice_reads (At AnItem ∷ K) (Want s.Tunable ∷ (tunable_owes ++ K)) (Want s.Call ∷ (call_owes ++ K)) s.Tunable reading.tunable reading.call i (λ t. refl) refl
-    (phrase (all tunable_shapes i) _ (shapes_read tunable_shapes n i (At ASetting ∷ Want (s.Sign g.Semi) ∷ K) refl (omega arith))
+cyclic_front : {i ts j : List Token} → Front (s.Cyclic ∷ []) i ts j → Derives (grammar.ARule spreading.Cyclic) i j
+cyclic_front (next cyclic none) = grammar.cyclic
+
+blocked_front : {i ts j : List Token} → Front (s.Blocked ∷ []) i ts j → Derives (grammar.ARule spreading.Blocked) i j
+blocked_front (next blocked none) = grammar.blocked
+
+rule_reads : (n : ℕ) (i : List Token) (K : List (Owed Point)) → length i ≤ suc n → Reading ways n (At ARule ∷ K) K (λ x j. Derives (grammar.ARule x) i j) i (reading.rule i)
+rule_reads n i K le = choice_reads (At ARule ∷ K) (Want s.Cyclic ∷ K) (Want s.Blocked ∷ K) s.Cyclic reading.cyclic reading.blocked i (λ t. refl) refl
+    (phrase (all (s.Cyclic ∷ []) i) _ (patterns_read (s.Cyclic ∷ []) n i K refl (omega arith)) (λ ts j few front. given spreading.Cyclic j few (cyclic_front front)))
+    (phrase (all (s.Blocked ∷ []) i) _ (patterns_read (s.Blocked ∷ []) n i K refl (omega arith)) (λ ts j few front. given spreading.Blocked j few (blocked_front front)))
+
+spread_front : {i ts j l us m : List Token} {x : SpreadRule} → Front spread_patterns i ts j → Derives (grammar.ARule x) j l → Front (s.Sign g.Semi ∷ []) l us m
+    → Derives (grammar.AnItem Second (Spread (word_in (slice_get ts 0)) x)) i m
+spread_front (next spread (next (a_sign _) none)) d (next (a_sign _) none) = grammar.a_spread d
+
+spread_reads : (n : ℕ) (i : List Token) (K : List (Owed Point)) → length i ≤ suc n
+    → Reading ways n (Want s.Spread ∷ (spread_owes ++ K)) K (λ x j. Derives (grammar.AnItem Second x) i j) i (reading.spread i)
+spread_reads n i K le = phrase (all spread_patterns i) _ (patterns_read spread_patterns n i (At ARule ∷ Want (s.Sign g.Semi) ∷ K) refl (omega arith))
+    (λ ts j few front. phrase (reading.rule j) _ (rule_reads n j (Want (s.Sign g.Semi) ∷ K) (omega arith))
+    (λ x l few2 d. phrase (all (s.Sign g.Semi ∷ []) l) _ (patterns_read (s.Sign g.Semi ∷ []) n l K refl (omega arith))
+    (λ us m few3 semi. given (Spread (word_in (slice_get ts 0)) x) m few3 (spread_front front d semi))))
+
+plain_reads : (version : Version) (n : ℕ) (i : List Token) (K : List (Owed Point)) → length i ≤ suc n
+    → Reading ways n (At (AnItem First) ∷ K) K (λ x j. Derives (grammar.AnItem version x) i j) i (reading.plain_item i)
+plain_reads version n i K le = choice_reads (At (AnItem First) ∷ K) (Want s.Tunable ∷ (tunable_owes ++ K)) (Want s.Call ∷ (call_owes ++ K)) s.Tunable reading.tunable reading.call i (λ t. refl) refl
+    (phrase (all tunable_patterns i) _ (patterns_read tunable_patterns n i (At ASetting ∷ Want (s.Sign g.Semi) ∷ K) refl (omega arith))
     (λ ts j few front. phrase (reading.setting j) _ (setting_reads n j (Want (s.Sign g.Semi) ∷ K) (omega arith))
-    (λ x l few2 d. phrase (all (s.Sign g.Semi ∷ []) l) _ (shapes_read (s.Sign g.Semi ∷ []) n l K refl (omega arith))
+    (λ x l few2 d. phrase (all (s.Sign g.Semi ∷ []) l) _ (patterns_read (s.Sign g.Semi ∷ []) n l K refl (omega arith))
     (λ us m few3 semi. given (Tunable (word_in (slice_get ts 1)) x) m few3 (tunable_front front d semi)))))
-    (phrase (all call_shapes i) _ (shapes_read call_shapes n i K refl (omega arith))
+    (phrase (all call_patterns i) _ (patterns_read call_patterns n i K refl (omega arith))
     (λ ts j few front. given (Call (word_in (slice_get ts 1)) (word_in (slice_get ts 3))) j few (call_front front)))
 
-abbrev AreItems : List ItemText → List Token → List Token → Type 0
-AreItems xs i j = Derives (grammar.Items xs) i j
+item_reads : (version : Version) (n : ℕ) (i : List Token) (K : List (Owed Point)) → length i ≤ suc n
+    → Reading ways n (At (AnItem version) ∷ K) K (λ x j. Derives (grammar.AnItem version x) i j) i (reading.item version i)
+item_reads First n i K le = plain_reads First n i K le
+item_reads Second n i K le = choice_reads (At (AnItem Second) ∷ K) (Want s.Spread ∷ (spread_owes ++ K)) (At (AnItem First) ∷ K) s.Spread reading.spread reading.plain_item i (λ t. refl) refl
+    (spread_reads n i K le) (plain_reads Second n i K le)
 
-items_read : (n : ℕ) (i : List Token) (K : List (Owed Point)) → length i ≤ n → Reading ways n (At Items ∷ K) (Want (s.Sign g.BraceClose) ∷ K) (λ xs j. Derives (grammar.Items xs) i j) i (reading.items i)
+abbrev AreItems : Version → List ItemText → List Token → List Token → Type 0
+AreItems version xs i j = Derives (grammar.Items version xs) i j
+
+-- the ways on within a list of items
+abbrev EndsOrGoesOn : Version → Type 0
+EndsOrGoesOn version = (K : List (Owed Point)) (t : Kind)
+    → settle ways (At (Items version) ∷ K) t ≡ (if fits (s.Sign g.BraceClose) t then settle ways (Want (s.Sign g.BraceClose) ∷ K) t else settle ways (At (AnItem version) ∷ At (Items version) ∷ K) t)
+
+ends_or_goes_on : (version : Version) → EndsOrGoesOn version
+ends_or_goes_on First = λ K t. refl
+ends_or_goes_on Second = λ K t. refl
+
+items_read : (version : Version) (n : ℕ) (i : List Token) (K : List (Owed Point)) → length i ≤ n
+    → Reading ways n (At (Items version) ∷ K) (Want (s.Sign g.BraceClose) ∷ K) (λ xs j. Derives (grammar.Items version xs) i j) i (reading.items version i)
 unfolding reading.items
-items_read n i K le = weaken (length i) (until (s.Sign g.BraceClose) reading.item (length i) [] i) le
-    (gives_more (until (s.Sign g.BraceClose) reading.item (length i) [] i) (λ every j added. subst (λ every. Derives (grammar.Items every) i j) (sym added.1) added.2)
-    (until_reads AreItems (λ i. grammar.no_item) (s.Sign g.BraceClose) reading.item (At Items ∷ K) (Want (s.Sign g.BraceClose) ∷ K) (At AnItem ∷ At Items ∷ K) (λ t. refl) refl refl
-    (λ n i le. gives_more (reading.item i) (λ x j d rest l more. grammar.an_item d more) (item_reads n i (At Items ∷ K) le)) (length i) [] i (omega arith)))
+items_read version n i K le = weaken (length i) (until (s.Sign g.BraceClose) (reading.item version) (length i) [] i) le
+    (gives_more (until (s.Sign g.BraceClose) (reading.item version) (length i) [] i) (λ every j added. subst (λ every. Derives (grammar.Items version every) i j) (sym added.1) added.2)
+    (until_reads (AreItems version) (λ i. grammar.no_item) (s.Sign g.BraceClose) (reading.item version) (At (Items version) ∷ K) (Want (s.Sign g.BraceClose) ∷ K)
+    (At (AnItem version) ∷ At (Items version) ∷ K) (ends_or_goes_on version K) refl refl
+    (λ n i le. gives_more (reading.item version i) (λ x j d rest l more. grammar.an_item d more) (item_reads version n i (At (Items version) ∷ K) le)) (length i) [] i (omega arith)))
 
 -- ---- instances
 
@@ -156,55 +205,78 @@ leaf_front (next leaf none) = grammar.leaf
 
 kind_reads : (n : ℕ) (i : List Token) (K : List (Owed Point)) → length i ≤ suc n → Reading ways n (At AKind ∷ K) K (λ x j. Derives (grammar.AKind x) i j) i (reading.kind i)
 kind_reads n i K le = choice_reads (At AKind ∷ K) (Want s.Inner ∷ K) (Want s.Leaf ∷ K) s.Inner reading.inner reading.leaf i (λ t. refl) refl
-    (phrase (all (s.Inner ∷ []) i) _ (shapes_read (s.Inner ∷ []) n i K refl (omega arith)) (λ ts j few front. given variant.Inner j few (inner_front front)))
-    (phrase (all (s.Leaf ∷ []) i) _ (shapes_read (s.Leaf ∷ []) n i K refl (omega arith)) (λ ts j few front. given variant.Leaf j few (leaf_front front)))
+    (phrase (all (s.Inner ∷ []) i) _ (patterns_read (s.Inner ∷ []) n i K refl (omega arith)) (λ ts j few front. given variant.Inner j few (inner_front front)))
+    (phrase (all (s.Leaf ∷ []) i) _ (patterns_read (s.Leaf ∷ []) n i K refl (omega arith)) (λ ts j few front. given variant.Leaf j few (leaf_front front)))
 
-instance_front : {i ts j l us m o vs q : List Token} {x : VariantKind} {xs : List ItemText} → Front instance_shapes i ts j → Derives (grammar.AKind x) j l → Front level_shapes l us m
-    → Derives (grammar.Items xs) m o → Front (s.Sign g.BraceClose ∷ []) o vs q → Derives (grammar.AnInstance (instance_of ts x us xs)) i q
+instance_front : {version : Version} {i ts j l us m o vs q : List Token} {x : VariantKind} {xs : List ItemText} → Front instance_patterns i ts j → Derives (grammar.AKind x) j l → Front level_patterns l us m
+    → Derives (grammar.Items version xs) m o → Front (s.Sign g.BraceClose ∷ []) o vs q → Derives (grammar.AnInstance version (instance_of ts x us xs)) i q
 instance_front (next instance (next a_word (next (a_sign _) (next a_word (next (a_sign _) none))))) kind (next (a_sign _) (next a_word (next (a_sign _) none))) items (next (a_sign _) none) =
     grammar.an_instance kind items
 
-instance_reads : (n : ℕ) (i : List Token) (K : List (Owed Point)) → length i ≤ suc n → Reading ways n (Want s.Instance ∷ (instance_owes ++ K)) K (λ x j. Derives (grammar.AnInstance x) i j) i (reading.instance i)
-instance_reads n i K le = phrase (all instance_shapes i) _ (shapes_read instance_shapes n i (At AKind ∷ wants level_shapes (At Items ∷ K)) refl (omega arith))
-    (λ ts j few head. phrase (reading.kind j) _ (kind_reads n j (wants level_shapes (At Items ∷ K)) (omega arith))
-    (λ x l few2 kind. phrase (all level_shapes l) _ (shapes_read level_shapes n l (At Items ∷ K) refl (omega arith))
-    (λ us m few3 level. phrase (reading.items m) _ (items_read n m K few3)
-    (λ xs o few4 items. phrase (all (s.Sign g.BraceClose ∷ []) o) _ (shapes_read (s.Sign g.BraceClose ∷ []) n o K refl (omega arith))
+instance_reads : (version : Version) (n : ℕ) (i : List Token) (K : List (Owed Point)) → length i ≤ suc n
+    → Reading ways n (Want s.Instance ∷ (instance_owes version ++ K)) K (λ x j. Derives (grammar.AnInstance version x) i j) i (reading.instance version i)
+instance_reads version n i K le = phrase (all instance_patterns i) _ (patterns_read instance_patterns n i (At AKind ∷ wants level_patterns (At (Items version) ∷ K)) refl (omega arith))
+    (λ ts j few head. phrase (reading.kind j) _ (kind_reads n j (wants level_patterns (At (Items version) ∷ K)) (omega arith))
+    (λ x l few2 kind. phrase (all level_patterns l) _ (patterns_read level_patterns n l (At (Items version) ∷ K) refl (omega arith))
+    (λ us m few3 level. phrase (reading.items version m) _ (items_read version n m K few3)
+    (λ xs o few4 items. phrase (all (s.Sign g.BraceClose ∷ []) o) _ (patterns_read (s.Sign g.BraceClose ∷ []) n o K refl (omega arith))
     (λ vs q few5 closing. given (instance_of ts x us xs) q few5 (instance_front head kind level items closing))))))
 
-abbrev AreInstances : List InstanceText → List Token → List Token → Type 0
-AreInstances xs i j = Derives (grammar.Instances xs) i j
+abbrev AreInstances : Version → List InstanceText → List Token → List Token → Type 0
+AreInstances version xs i j = Derives (grammar.Instances version xs) i j
 
-instances_read : (n : ℕ) (i : List Token) → length i ≤ n → Reading ways n (At Instances ∷ []) (Want s.End ∷ []) (λ xs j. Derives (grammar.Instances xs) i j) i (reading.instances i)
+instances_read : (version : Version) (n : ℕ) (i : List Token) → length i ≤ n
+    → Reading ways n (At (Instances version) ∷ []) (Want s.End ∷ []) (λ xs j. Derives (grammar.Instances version xs) i j) i (reading.instances version i)
 unfolding reading.instances
-instances_read n i le = weaken (length i) (until s.End reading.instance (length i) [] i) le
-    (gives_more (until s.End reading.instance (length i) [] i) (λ every j added. subst (λ every. Derives (grammar.Instances every) i j) (sym added.1) added.2)
-    (until_reads AreInstances (λ i. grammar.no_instance) s.End reading.instance (At Instances ∷ []) (Want s.End ∷ []) (Want s.Instance ∷ (instance_owes ++ At Instances ∷ [])) (λ t. refl) refl refl
-    (λ n i le. gives_more (reading.instance i) (λ x j d rest l more. grammar.one_more_instance d more) (instance_reads n i (At Instances ∷ []) le)) (length i) [] i (omega arith)))
+instances_read version n i le = weaken (length i) (until s.End (reading.instance version) (length i) [] i) le
+    (gives_more (until s.End (reading.instance version) (length i) [] i) (λ every j added. subst (λ every. Derives (grammar.Instances version every) i j) (sym added.1) added.2)
+    (until_reads (AreInstances version) (λ i. grammar.no_instance) s.End (reading.instance version) (At (Instances version) ∷ []) (Want s.End ∷ [])
+    (Want s.Instance ∷ (instance_owes version ++ At (Instances version) ∷ [])) (λ t. refl) refl refl
+    (λ n i le. gives_more (reading.instance version i) (λ x j d rest l more. grammar.one_more_instance d more) (instance_reads version n i (At (Instances version) ∷ []) le)) (length i) [] i (omega arith)))
 
 -- ---- the whole
 
+abbrev mapping_word : Place → Token
+mapping_word p = token (k.Word (codes "mapping")) p
+
 -- the name of the entry and its sizes, and whatever stands after them
-abbrev IsEntry : List Token → Word × List SizeText → List Token → Type 0
-IsEntry i x j = (instances : List InstanceText) (l : List Token) → Derives (grammar.Instances instances) j l → Derives (grammar.AMapping (grammar.mapping x.0 x.1 instances)) i l
+abbrev IsEntry : Version → List Token → Word × List SizeText → List Token → Type 0
+IsEntry version i x j = (p : Place) (instances : List InstanceText) (l : List Token)
+    → Derives (grammar.Instances version instances) j l → Derives (grammar.AMapping (grammar.mapping x.0 x.1 instances)) (mapping_word p ∷ i) l
 
-entry_front : {i ts j l us m o : List Token} {xs : List SizeText} {ys : List InstanceText} → Front head_shapes i ts j → Derives (grammar.Sizes xs) j l → Front sizes_end l us m
-    → Derives (grammar.Instances ys) m o → Derives (grammar.AMapping (grammar.mapping (word_in (slice_get ts 4)) xs ys)) i o
-entry_front (next mapping (next one (next (a_sign _) (next entry (next a_word (next (a_sign _) none)))))) sizes (next (a_sign _) (next (a_sign _) none)) instances =
-    grammar.a_mapping sizes instances
+entry_front : (version : Version) {p : Place} {i ts j l us m o : List Token} {xs : List SizeText} {ys : List InstanceText} → Front (s.Exactly (number_of version) ∷ head_patterns) i ts j
+    → Derives (grammar.Sizes xs) j l → Front sizes_end l us m → Derives (grammar.Instances version ys) m o
+    → Derives (grammar.AMapping (grammar.mapping (word_in (slice_get ts 3)) xs ys)) (mapping_word p ∷ i) o
+entry_front version (next (exactly _) (next (a_sign _) (next entry (next a_word (next (a_sign _) none))))) sizes (next (a_sign _) (next (a_sign _) none)) instances =
+    grammar.a_mapping {version = version} sizes instances
 
-entry_reads : (n : ℕ) (i : List Token) (K : List (Owed Point)) → length i ≤ n → Reading ways n (wants head_shapes (At Sizes ∷ Want (s.Sign g.Semi) ∷ K)) K (IsEntry i) i (reading.entry i)
-entry_reads n i K le = phrase (all head_shapes i) _ (shapes_read head_shapes n i (At Sizes ∷ Want (s.Sign g.Semi) ∷ K) refl (omega arith))
+entry_reads : (version : Version) (n : ℕ) (i : List Token) (K : List (Owed Point)) → length i ≤ suc n
+    → Reading ways n (Want (s.Exactly (number_of version)) ∷ wants head_patterns (At Sizes ∷ Want (s.Sign g.Semi) ∷ K)) K (IsEntry version i) i (reading.entry version i)
+entry_reads version n i K le = phrase (reading.head version i) _ (patterns_read (s.Exactly (number_of version) ∷ head_patterns) n i (At Sizes ∷ Want (s.Sign g.Semi) ∷ K) refl (omega arith))
     (λ ts j few head. phrase (reading.sizes j) _ (sizes_read n j (Want (s.Sign g.Semi) ∷ K) few)
-    (λ xs l few2 sizes. phrase (all sizes_end l) _ (shapes_read sizes_end n l K refl (omega arith))
-    (λ us m few3 closing. given (word_in (slice_get ts 4), xs) m few3 (λ ys o instances. entry_front head sizes closing instances))))
+    (λ xs l few2 sizes. phrase (all sizes_end l) _ (patterns_read sizes_end n l K refl (omega arith))
+    (λ us m few3 closing. given (word_in (slice_get ts 3), xs) m few3 (λ p ys o instances. entry_front version head sizes closing instances))))
 
 is_text : {i j : List Token} {x : MappingText} → Derives (grammar.AMapping x) i j → IsLast j → IsText i x
 is_text {i} {x = x} d (p, is) = record { end = p; text = subst (λ j. Derives (grammar.AMapping x) i j) is d }
 
+-- these tokens behind the word `mapping` are a text
+abbrev IsBody : List Token → MappingText → Type 0
+IsBody i x = (p : Place) → IsText (mapping_word p ∷ i) x
+
+body_reads : (version : Version) (n : ℕ) (i : List Token) → length i ≤ suc n
+    → Reading ways n (Want (s.Exactly (number_of version)) ∷ version_owes version) [] (λ x j. IsBody i x) i (reading.body version i)
+unfolding reading.body
+body_reads version n i le = phrase (reading.entry version i) _ (entry_reads version n i (At (Instances version) ∷ []) le)
+    (λ x j few head. phrase (reading.instances version j) _ (instances_read version n j few)
+    (λ xs l few2 instances. phrase (all (s.End ∷ []) l) _ (all_reads (s.End ∷ []) n l [] (refl, tt) (omega arith))
+    (λ us m few3 last. finish_reads n (grammar.mapping x.0 x.1 xs) m few3 (λ e p. is_text (head p xs l instances) (last_front last e)))))
+
+mapping_front : {i ts j : List Token} {x : MappingText} → Front (s.Mapping ∷ []) i ts j → IsBody j x → IsText i x
+mapping_front (next mapping none) d = d _
+
 pub mapping_reads : (i : List Token) → Reading ways (length i) start [] (λ x j. IsText i x) i (reading.mapping i)
-unfolding reading.mapping
-mapping_reads i = phrase (reading.entry i) _ (entry_reads (length i) i (At Instances ∷ []) (omega arith))
-    (λ x j few head. phrase (reading.instances j) _ (instances_read (length i) j few)
-    (λ xs l few2 instances. phrase (all (s.End ∷ []) l) _ (all_reads (s.End ∷ []) (length i) l [] (refl, tt) (omega arith))
-    (λ us m few3 last. finish_reads (length i) (grammar.mapping x.0 x.1 xs) m few3 (λ e. is_text (head xs l instances) (last_front last e)))))
+mapping_reads i = phrase (all (s.Mapping ∷ []) i) _ (patterns_read (s.Mapping ∷ []) (length i) i (At AVersion ∷ []) refl (omega arith))
+    (λ ts j few front. gives_more (choice (s.Exactly 1) (reading.body First) (reading.body Second) j) (λ x l d. mapping_front front d)
+    (choice_reads (At AVersion ∷ []) (Want (s.Exactly 1) ∷ version_owes First) (Want (s.Exactly 2) ∷ version_owes Second) (s.Exactly 1) (reading.body First) (reading.body Second) j
+    (λ t. refl) refl (body_reads First (length i) j (omega (arith, few))) (body_reads Second (length i) j (omega (arith, few)))))

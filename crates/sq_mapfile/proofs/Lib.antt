@@ -1,17 +1,16 @@
-pub mod Among
+pub mod Acyclic
 pub mod ByKind
 pub mod Callees
 pub mod Complete
+pub mod Converse
 pub mod Derived
 pub mod Facts
-pub mod FirstName
 pub mod FirstOnCycle
 pub mod Gathered
 pub mod Indices
 pub mod Kept
 pub mod Leading
-pub mod Least
-pub mod NamesOnce
+pub mod Once
 pub mod OpenedCalls
 pub mod Paths
 pub mod Points
@@ -20,4 +19,6 @@ pub mod Seen
 pub mod Sizes
 pub mod Sounds
 pub mod Texts
+pub mod Unbroken
+pub mod Walks
 pub mod Whole

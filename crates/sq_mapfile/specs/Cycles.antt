@@ -1,15 +1,17 @@
 -- Calls of instances, as a graph, and the calls that lie on a cycle.
 use Rattle.std.specs.Prelude.{◌≡◌, ℕ, suc, List, [], ◌∷◌, Option, Some, None, if◌then◌else◌, slice_get}
-use Rattle.sq_text.specs.declared.fault.Code.TheVariants as code
+use Rattle.sq_text.specs.declared.code.Phase.TheVariants as phase
+use Rattle.sq_text.specs.declared.code.Code.TheVariants as code
+use Rattle.sq_text.specs.declared.fault.Arg.TheVariants as arg
 use Rattle.sq_text.specs.declared.fault.Fault.{Fault}
 use Rattle.sq_text.specs.First.{HoldsIn}
-use Rattle.sq_shapes.specs.declared.held.Word.{Word}
-use Rattle.sq_mapfile.specs.declared.tree.ItemText.{ItemText}
-use Rattle.sq_mapfile.specs.declared.tree.ItemText.TheVariants.{Tunable, Call}
-use Rattle.sq_mapfile.specs.declared.tree.InstanceText.{InstanceText}
-use Rattle.sq_mapfile.specs.declared.tree.MappingText.{MappingText}
-use Rattle.sq_mapfile.specs.Names.{Name, is_among, with_name, index_of}
-use Rattle.sq_mapfile.specs.Faults.{fault_at}
+use Rattle.sq_text.specs.Found.{breach, fault_by}
+use Rattle.sq_text.specs.declared.word.Word.{Word}
+use Rattle.sq_mapfile.specs.declared.text.ItemText.{ItemText}
+use Rattle.sq_mapfile.specs.declared.text.ItemText.TheVariants.{Tunable, Call, Spread}
+use Rattle.sq_mapfile.specs.declared.text.InstanceText.{InstanceText}
+use Rattle.sq_mapfile.specs.declared.text.MappingText.{MappingText}
+use Rattle.sq_mapfile.specs.Names.{stands_before, index_of, call_index}
 
 -- a call of one instance by another, each counted from 0, and where the callee is named
 pub record CallText : Type 0 where
@@ -17,29 +19,43 @@ pub record CallText : Type 0 where
   pub callee : ℕ
   pub name : Word
 
--- the call of an instance, where there is one of the name, and then others
-abbrev pub call_to : ℕ → Option ℕ → Word → List CallText → List CallText
+-- the calls of a part, and then others
+abbrev pub Part : Type 0
+Part = List CallText → List CallText
+
+-- the call of an instance, where there is one of the name
+abbrev pub call_to : ℕ → Option ℕ → Word → Part
 call_to caller None name later = later
 call_to caller (Some callee) name later = record { caller = caller; callee = callee; name = name } ∷ later
 
--- the calls of an instance: of two items for one task the first counts; these tasks have one before
-abbrev pub items_calls : List InstanceText → ℕ → List Name → List ItemText → List CallText → List CallText
-items_calls instances caller before [] later = later
-items_calls instances caller before (Tunable name setting ∷ rest) later = items_calls instances caller before rest later
-items_calls instances caller before (Call task name ∷ rest) later =
-    if is_among before task.name then items_calls instances caller before rest later
-    else call_to caller (index_of instances name.name) name (items_calls instances caller (with_name before task.name) rest later)
+-- the call of the k-th of these items: of two items for one task the first counts
+abbrev pub item_calls : List InstanceText → ℕ → List ItemText → ℕ → ItemText → Part
+item_calls instances caller items k (Tunable name setting) later = later
+item_calls instances caller items k (Call task name) later =
+    if stands_before (call_index items task.name) k then later else call_to caller (index_of instances name.name) name later
+item_calls instances caller items k (Spread word rule) later = later
 
--- the calls of the instances from an index on: of two instances of a name the first counts; these names have one before
-abbrev pub calls_from : List InstanceText → ℕ → List Name → List InstanceText → List CallText
-calls_from instances i before [] = []
-calls_from instances i before (x ∷ rest) =
-    if is_among before x.name.name then calls_from instances (suc i) before rest
-    else items_calls instances i [] x.items (calls_from instances (suc i) (with_name before x.name.name) rest)
+-- those of the items from the k-th on
+abbrev pub items_calls : List InstanceText → ℕ → List ItemText → ℕ → List ItemText → Part
+items_calls instances caller items k [] later = later
+items_calls instances caller items k (x ∷ rest) later = item_calls instances caller items k x (items_calls instances caller items (suc k) rest later)
 
--- all calls of a mapping, in the order of the text
+-- those of the i-th instance: of two instances of a name the first counts
+abbrev pub instance_calls : List InstanceText → ℕ → InstanceText → Part
+instance_calls instances i x later =
+    if stands_before (index_of instances x.name.name) i then later else items_calls instances i x.items 0 x.items later
+
+-- those of the instances from the i-th on
+abbrev pub calls_from : List InstanceText → ℕ → List InstanceText → List CallText
+calls_from instances i [] = []
+calls_from instances i (x ∷ rest) = instance_calls instances i x (calls_from instances (suc i) rest)
+
+-- all calls of these instances, in the order of the text
+abbrev pub calls_among : List InstanceText → List CallText
+calls_among instances = calls_from instances 0 instances
+
 abbrev pub calls_of : MappingText → List CallText
-calls_of m = calls_from m.instances 0 [] m.instances
+calls_of m = calls_among m.instances
 
 -- one of the calls is of b by a
 pub record Calls (calls : List CallText) (a b : ℕ) : Type 0 where
@@ -54,10 +70,14 @@ pub data Leads (calls : List CallText) (a : ℕ) : ℕ → Type 0 where
   here : Leads calls a a
   further : {b c : ℕ} → Leads calls a b → Calls calls b c → Leads calls a c
 
+-- the fault of a call on a cycle
+abbrev pub cycle_at : CallText → Fault
+cycle_at call = fault_by phase.Mapping (breach code.Cycle call.name.place (arg.Word call.name.name ∷ []))
+
 -- the call lies on a cycle: calls lead from its callee back to its caller
 pub record IsOnCycle (calls : List CallText) (call : CallText) (f : Fault) : Type 0 where
   pub back : Leads calls call.callee call.caller
-  pub is : f ≡ fault_at code.Cycle call.name.place call.name.name
+  pub is : f ≡ cycle_at call
 
 abbrev pub CycleFault : MappingText → Fault → Type 0
 CycleFault m f = HoldsIn (IsOnCycle (calls_of m)) (calls_of m) f

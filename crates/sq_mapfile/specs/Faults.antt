@@ -1,135 +1,123 @@
--- The table of the rules of a mapping: for each rule, the fault of a name that breaks it.
--- A fault that speaks of a name holds only where the names that it needs are known.
-use Rattle.std.specs.Prelude.{◌≡◌, ℕ, suc, ◌==◌, Bool, true, false, not, ◌&&◌, ◌||◌, is_none, if◌then◌else◌, List, [], ◌∷◌, map, Option, Some, None}
+-- The table of the rules of a mapping: for each rule its code, place and argument, where it is broken.
+-- A rule that speaks of a name is broken only where the names that it needs are known.
+use Rattle.std.specs.Prelude.{ℕ, suc, ◌==◌, Bool, true, false, not, ◌&&◌, ◌||◌, is_some, is_none, if◌then◌else◌, List, [], ◌∷◌, map, Option, Some, None}
 use Rattle.std.proofs.Math.Bool.{beq}
 use Rattle.std.specs.Option.{option_map}
 use Rattle.std.specs.Map.{lookup}
-use Rattle.sq_text.specs.declared.place.Place.{Place}
-use Rattle.sq_text.specs.declared.fault.Phase.TheVariants as phase
-use Rattle.sq_text.specs.declared.fault.Code.{Code}
-use Rattle.sq_text.specs.declared.fault.Code.TheVariants as code
-use Rattle.sq_text.specs.declared.fault.Arg.TheVariants as arg
+use Rattle.sq_text.specs.declared.code.Phase.TheVariants as phase
+use Rattle.sq_text.specs.declared.code.Code.TheVariants as code
 use Rattle.sq_text.specs.declared.fault.Fault.{Fault}
-use Rattle.sq_text.specs.First.{HoldsIn}
-use Rattle.sq_shapes.specs.declared.held.Word.{Word}
+use Rattle.sq_text.specs.declared.word.Word.{Word}
+use Rattle.sq_text.specs.Found.{Breach, at_word, at_lack, at_place, BreaksIn}
+use Rattle.sq_text.specs.Names.{Bytes, same_name}
 use Rattle.sq_ast.specs.declared.program.VariantKind.{VariantKind}
+use Rattle.sq_ast.specs.declared.program.VariantKind.TheVariants.{Inner, Leaf}
 use Rattle.sq_ast.specs.declared.program.Variant.{Variant}
 use Rattle.sq_ast.specs.declared.program.Program.{Program}
 use Rattle.sq_machfile.specs.declared.level.Level.{Level}
 use Rattle.sq_mapfile.specs.declared.mapping.Setting.{Setting}
 use Rattle.sq_mapfile.specs.declared.mapping.Setting.TheVariants.{One, Many}
-use Rattle.sq_mapfile.specs.declared.tree.SizeText.{SizeText}
-use Rattle.sq_mapfile.specs.declared.tree.ItemText.{ItemText}
-use Rattle.sq_mapfile.specs.declared.tree.ItemText.TheVariants.{Tunable, Call}
-use Rattle.sq_mapfile.specs.declared.tree.InstanceText.{InstanceText}
-use Rattle.sq_mapfile.specs.declared.tree.MappingText.{MappingText}
-use Rattle.sq_mapfile.specs.Names.{Name, same_name, is_among, with_name, index_of, instance_of, has_task, variant_of, level_of}
-use Rattle.sq_mapfile.specs.Wanted.{Wanted, wanted_by}
+use Rattle.sq_mapfile.specs.declared.text.SizeText.{SizeText}
+use Rattle.sq_mapfile.specs.declared.text.ItemText.{ItemText}
+use Rattle.sq_mapfile.specs.declared.text.ItemText.TheVariants.{Tunable, Call, Spread}
+use Rattle.sq_mapfile.specs.declared.text.InstanceText.{InstanceText}
+use Rattle.sq_mapfile.specs.declared.text.MappingText.{MappingText}
+use Rattle.sq_mapfile.specs.Names.{is_among, stands_before, index_of, instance_of, tunable_index, call_index, spread_index, size_index, has_task, variant_of, level_of}
+use Rattle.sq_mapfile.specs.Required.{Required, required_by}
 
--- the numbers of the codes, by which faults at one place are ordered
-abbrev pub number_of : Code → ℕ
-number_of code.LimitFile = 1
-number_of code.BadByte = 2
-number_of code.OpenComment = 3
-number_of code.NumberTooBig = 4
-number_of code.Syntax = 5
-number_of code.DupInstance = 7
-number_of code.DupItem = 8
-number_of code.NoInstance = 9
-number_of code.NoTask = 10
-number_of code.NoVariant = 11
-number_of code.NoLevel = 12
-number_of code.CallMissing = 13
-number_of code.CallUnknown = 14
-number_of code.CallTask = 15
-number_of code.LevelSkip = 16
-number_of code.Cycle = 17
-number_of code.TunableMissing = 18
-number_of code.TunableUnknown = 19
-number_of code.TunableKind = 20
-number_of code.SizeMissing = 21
-number_of code.SizeUnknown = 22
-number_of _ = 0
+-- the breach of a rule, where it is broken
+abbrev pub Rule : Type 0
+Rule = Option Breach
 
-abbrev pub number : Fault → ℕ
-number fault = number_of fault.code
+-- ---- names
 
-abbrev pub fault_at : Code → Place → Name → Fault
-fault_at c place name = record { phase = phase.Mapping; code = c; place = Some place; args = arg.Word name ∷ [] }
+-- the i-th instance has the name of one before it
+abbrev pub dup_instance : List InstanceText → ℕ → Word → Rule
+dup_instance instances i name = at_word code.DupInstance name (stands_before (index_of instances name.name) i)
 
--- the fault of this word, where the rule is broken
-abbrev pub broken : Code → Word → Bool → Option Fault
-broken c word is_broken = if is_broken then Some (fault_at c word.place word.name) else None
-
--- the fault at this word of a name that is missing
-abbrev pub lacks : Code → Word → Option Name → Option Fault
-lacks c word missing = option_map (fault_at c word.place) missing
-
--- the first of the wanted names that isn't given
-abbrev pub first_missing : List Name → List Name → Option Name
-first_missing [] given = None
-first_missing (name ∷ rest) given = if is_among given name then first_missing rest given else Some name
-
--- ---- the table, a function for each rule
-
--- a name of an instance again, behind the instances of these names
-abbrev pub dup_instance : List Name → Word → Option Fault
-dup_instance before name = broken code.DupInstance name (is_among before name.name)
-
--- a tunable, a call or a size again, behind those of these names in one list
-abbrev pub dup_item : List Name → Word → Option Fault
-dup_item before name = broken code.DupItem name (is_among before name.name)
+-- the i-th of a list has the name of one before it, of which the first has this index
+abbrev pub dup_item : Option ℕ → ℕ → Word → Rule
+dup_item first i word = at_word code.DupItem word (stands_before first i)
 
 -- the entry or a call names no instance
-abbrev pub no_instance : List InstanceText → Word → Option Fault
-no_instance instances name = broken code.NoInstance name (is_none (index_of instances name.name))
+abbrev pub no_instance : List InstanceText → Word → Rule
+no_instance instances name = at_word code.NoInstance name (is_none (index_of instances name.name))
 
 -- the task of an instance isn't in the program
-abbrev pub no_task : List Variant → Word → Option Fault
-no_task variants task = broken code.NoTask task (not (has_task variants task.name))
+abbrev pub no_task : List Variant → Word → Rule
+no_task variants task = at_word code.NoTask task (not (has_task variants task.name))
 
 -- the task of an instance hasn't that variant
-abbrev pub no_variant : List Variant → Word → VariantKind → Option Fault
-no_variant variants task kind = broken code.NoVariant task (has_task variants task.name && is_none (variant_of variants task.name kind))
+abbrev pub no_variant : List Variant → Word → VariantKind → Rule
+no_variant variants task kind = at_word code.NoVariant task (has_task variants task.name && is_none (variant_of variants task.name kind))
 
 -- the machine hasn't that level
-abbrev pub no_level : List Level → Word → Option Fault
-no_level levels level = broken code.NoLevel level (is_none (level_of levels level.name))
+abbrev pub no_level : List Level → Word → Rule
+no_level levels level = at_word code.NoLevel level (is_none (level_of levels level.name))
+
+-- the first of the required names that isn't given
+abbrev pub first_missing : (Bytes → Bool) → List Bytes → Option Bytes
+first_missing given [] = None
+first_missing given (name ∷ rest) = if given name then first_missing given rest else Some name
+
+-- ---- calls
+
+abbrev pub has_call : List ItemText → Bytes → Bool
+has_call items task = is_some (call_index items task)
+
+abbrev pub missing_call : Option Required → List ItemText → Option Bytes
+missing_call None items = None
+missing_call (Some required) items = first_missing (has_call items) required.calls
+
+abbrev pub is_uncalled : Option Required → Bytes → Bool
+is_uncalled None task = false
+is_uncalled (Some required) task = not (is_among required.calls task)
+
+abbrev pub is_of_other_task : Option InstanceText → Bytes → Bool
+is_of_other_task None task = false
+is_of_other_task (Some instance) task = not (same_name task instance.task.name)
+
+-- neither the caller's level nor the next
+abbrev pub is_skip : Option ℕ → Option ℕ → Bool
+is_skip (Some caller) (Some callee) = not (callee == caller || callee == suc caller)
+is_skip _ _ = false
+
+abbrev pub is_below_root : Option ℕ → Bool
+is_below_root None = false
+is_below_root (Some level) = not (level == 0)
 
 -- the variant calls a task for which the instance has no item
-abbrev pub call_missing : Option Wanted → Word → List Name → Option Fault
-call_missing None name given = None
-call_missing (Some wanted) name given = lacks code.CallMissing name (first_missing wanted.calls given)
+abbrev pub call_missing : Option Required → Word → List ItemText → Rule
+call_missing required name items = at_lack code.CallMissing name (missing_call required items)
 
 -- an item for a task that the variant doesn't call
-abbrev pub call_unknown : Option Wanted → Word → Option Fault
-call_unknown None task = None
-call_unknown (Some wanted) task = broken code.CallUnknown task (not (is_among wanted.calls task.name))
+abbrev pub call_unknown : Option Required → Word → Rule
+call_unknown required task = at_word code.CallUnknown task (is_uncalled required task.name)
 
 -- the instance that is named for a task is one of another task
-abbrev pub call_task : Option InstanceText → Word → Word → Option Fault
-call_task None task name = None
-call_task (Some callee) task name = broken code.CallTask name (not (same_name task.name callee.task.name))
+abbrev pub call_task : Option InstanceText → Bytes → Word → Rule
+call_task callee task name = at_word code.CallTask name (is_of_other_task callee task)
 
 -- the callee's level is neither the caller's nor the next
-abbrev pub level_skip : Option ℕ → Option ℕ → Word → Option Fault
-level_skip (Some caller) (Some callee) name = broken code.LevelSkip name (not (callee == caller || callee == suc caller))
-level_skip _ _ name = None
+abbrev pub level_skip : Option ℕ → Option ℕ → Word → Rule
+level_skip caller callee name = at_word code.LevelSkip name (is_skip caller callee)
 
 -- the entry isn't at the root
-abbrev pub entry_skip : Option ℕ → Word → Option Fault
-entry_skip None name = None
-entry_skip (Some level) name = broken code.LevelSkip name (not (level == 0))
+abbrev pub entry_skip : Option ℕ → Word → Rule
+entry_skip level name = at_word code.LevelSkip name (is_below_root level)
 
--- a tunable of the variant has no item
-abbrev pub tunable_missing : Option Wanted → Word → List Name → Option Fault
-tunable_missing None name given = None
-tunable_missing (Some wanted) name given = lacks code.TunableMissing name (first_missing (map (λ t. t.0) wanted.tunables) given)
+-- ---- tunables
 
--- the variant has no such tunable
-abbrev pub tunable_unknown : Option Wanted → Word → Option Fault
-tunable_unknown None name = None
-tunable_unknown (Some wanted) name = broken code.TunableUnknown name (is_none (lookup (same_name name.name) wanted.tunables))
+abbrev pub has_tunable : List ItemText → Bytes → Bool
+has_tunable items name = is_some (tunable_index items name)
+
+abbrev pub missing_tunable : Option Required → List ItemText → Option Bytes
+missing_tunable None items = None
+missing_tunable (Some required) items = first_missing (has_tunable items) (map (λ t. t.0) required.tunables)
+
+abbrev pub is_no_tunable : Option Required → Bytes → Bool
+is_no_tunable None name = false
+is_no_tunable (Some required) name = is_none (lookup (same_name name) required.tunables)
 
 abbrev pub is_list : Setting → Bool
 is_list (One value) = false
@@ -139,20 +127,52 @@ abbrev pub is_other : Option Bool → Setting → Bool
 is_other None setting = false
 is_other (Some wants_list) setting = not (beq wants_list (is_list setting))
 
+abbrev pub is_other_kind : Option Required → Bytes → Setting → Bool
+is_other_kind None name setting = false
+is_other_kind (Some required) name setting = is_other (lookup (same_name name) required.tunables) setting
+
+-- a tunable of the variant has no item
+abbrev pub tunable_missing : Option Required → Word → List ItemText → Rule
+tunable_missing required name items = at_lack code.TunableMissing name (missing_tunable required items)
+
+-- the variant has no such tunable
+abbrev pub tunable_unknown : Option Required → Word → Rule
+tunable_unknown required name = at_word code.TunableUnknown name (is_no_tunable required name.name)
+
 -- a list for a number, or a number for a list
-abbrev pub tunable_kind : Option Wanted → Word → Setting → Option Fault
-tunable_kind None name setting = None
-tunable_kind (Some wanted) name setting = broken code.TunableKind name (is_other (lookup (same_name name.name) wanted.tunables) setting)
+abbrev pub tunable_kind : Option Required → Word → Setting → Rule
+tunable_kind required name setting = at_word code.TunableKind name (is_other_kind required name.name setting)
+
+-- ---- sizes
+
+abbrev pub has_size : List SizeText → Bytes → Bool
+has_size sizes name = is_some (size_index sizes name)
+
+abbrev pub missing_size : Option Required → List SizeText → Option Bytes
+missing_size None sizes = None
+missing_size (Some required) sizes = first_missing (has_size sizes) required.sizes
+
+abbrev pub is_no_size : Option Required → Bytes → Bool
+is_no_size None name = false
+is_no_size (Some required) name = not (is_among required.sizes name)
 
 -- a size name of the entry has no value
-abbrev pub size_missing : Option Wanted → Word → List Name → Option Fault
-size_missing None name given = None
-size_missing (Some wanted) name given = lacks code.SizeMissing name (first_missing wanted.sizes given)
+abbrev pub size_missing : Option Required → Word → List SizeText → Rule
+size_missing required name sizes = at_lack code.SizeMissing name (missing_size required sizes)
 
 -- the entry has no such size name
-abbrev pub size_unknown : Option Wanted → Word → Option Fault
-size_unknown None name = None
-size_unknown (Some wanted) name = broken code.SizeUnknown name (not (is_among wanted.sizes name.name))
+abbrev pub size_unknown : Option Required → Word → Rule
+size_unknown required name = at_word code.SizeUnknown name (is_no_size required name.name)
+
+-- ---- spreads
+
+abbrev pub is_leaf : VariantKind → Bool
+is_leaf Inner = false
+is_leaf Leaf = true
+
+-- a leaf has no maps to spread
+abbrev pub spread_leaf : VariantKind → Word → Rule
+spread_leaf kind word = at_place code.SpreadLeaf word.place (is_leaf kind)
 
 -- ---- the whole file
 
@@ -165,88 +185,92 @@ pub record Scope : Type 0 where
 abbrev pub scope : Program → List Level → MappingText → Scope
 scope program levels m = record { variants = program.tasks; levels = levels; instances = m.instances }
 
--- what the variant of an instance wants, where it is in the program
-abbrev pub wanted_of : Scope → InstanceText → Option Wanted
-wanted_of s x = option_map wanted_by (variant_of s.variants x.task.name x.kind)
+-- what the variant of an instance requires, where it is in the program
+abbrev pub required_of : Scope → InstanceText → Option Required
+required_of s x = option_map required_by (variant_of s.variants x.task.name x.kind)
 
--- the variant and the level of a named instance, where these are known
-abbrev pub wanted_at : Scope → Option InstanceText → Option Wanted
-wanted_at s None = None
-wanted_at s (Some x) = wanted_of s x
+-- the same of a named instance, where it is known
+abbrev pub required_at : Scope → Option InstanceText → Option Required
+required_at s None = None
+required_at s (Some x) = required_of s x
+
+-- the level of a named instance, where both are known
+abbrev pub level_in : List Level → Option InstanceText → Option ℕ
+level_in levels None = None
+level_in levels (Some x) = level_of levels x.level.name
 
 abbrev pub level_at : Scope → Option InstanceText → Option ℕ
-level_at s None = None
-level_at s (Some x) = level_of s.levels x.level.name
+level_at s x = level_in s.levels x
 
--- the faults that there may be at some place, and then others
-abbrev pub Faults : Type 0
-Faults = List (Option Fault)
+-- the rules of a part, and then others
+abbrev pub Rules : Type 0
+Rules = List Rule → List Rule
 
-abbrev pub tunable_names : List ItemText → List Name
-tunable_names [] = []
-tunable_names (Tunable name setting ∷ rest) = name.name ∷ tunable_names rest
-tunable_names (Call task name ∷ rest) = tunable_names rest
+-- what is known where the items of an instance stand
+pub record Inside : Type 0 where
+  pub scope : Scope
+  pub required : Option Required
+  pub level : Option ℕ
+  pub kind : VariantKind
+  pub items : List ItemText
 
-abbrev pub call_names : List ItemText → List Name
-call_names [] = []
-call_names (Tunable name setting ∷ rest) = call_names rest
-call_names (Call task name ∷ rest) = task.name ∷ call_names rest
+abbrev pub inside : Scope → InstanceText → Inside
+inside s x = record { scope = s; required = required_of s x; level = level_of s.levels x.level.name; kind = x.kind; items = x.items }
 
-abbrev pub size_names : List SizeText → List Name
-size_names sizes = map (λ size. size.name.name) sizes
+-- the i-th item
+abbrev pub item_rules : Inside → ℕ → ItemText → Rules
+item_rules n i (Tunable name setting) later =
+    dup_item (tunable_index n.items name.name) i name ∷ tunable_unknown n.required name ∷ tunable_kind n.required name setting ∷ later
+item_rules n i (Call task name) later =
+    dup_item (call_index n.items task.name) i task ∷ call_unknown n.required task ∷ no_instance n.scope.instances name
+    ∷ call_task (instance_of n.scope.instances name.name) task.name name ∷ level_skip n.level (level_at n.scope (instance_of n.scope.instances name.name)) name ∷ later
+item_rules n i (Spread word rule) later = dup_item (spread_index n.items) i word ∷ spread_leaf n.kind word ∷ later
 
--- an item of an instance at this level, behind tunables and calls of these names
-abbrev pub item_faults : Scope → Option Wanted → Option ℕ → List Name → List Name → ItemText → Faults → Faults
-item_faults s wanted level tunables calls (Tunable name setting) later =
-    dup_item tunables name ∷ tunable_unknown wanted name ∷ tunable_kind wanted name setting ∷ later
-item_faults s wanted level tunables calls (Call task name) later =
-    dup_item calls task ∷ call_unknown wanted task ∷ no_instance s.instances name
-    ∷ call_task (instance_of s.instances name.name) task name ∷ level_skip level (level_at s (instance_of s.instances name.name)) name ∷ later
+-- the items from the i-th on
+abbrev pub items_rules : Inside → ℕ → List ItemText → Rules
+items_rules n i [] later = later
+items_rules n i (x ∷ rest) later = item_rules n i x (items_rules n (suc i) rest later)
 
-abbrev pub after_tunable : List Name → ItemText → List Name
-after_tunable names (Tunable name setting) = with_name names name.name
-after_tunable names (Call task name) = names
+-- the words before the items of the i-th instance
+abbrev pub head_rules : Scope → Option Required → ℕ → InstanceText → Rules
+head_rules s required i x later =
+    dup_instance s.instances i x.name ∷ call_missing required x.name x.items ∷ tunable_missing required x.name x.items
+    ∷ no_task s.variants x.task ∷ no_variant s.variants x.task x.kind ∷ no_level s.levels x.level ∷ later
 
-abbrev pub after_call : List Name → ItemText → List Name
-after_call names (Tunable name setting) = names
-after_call names (Call task name) = with_name names task.name
+abbrev pub instance_rules : Scope → ℕ → InstanceText → Rules
+instance_rules s i x later = head_rules s (required_of s x) i x (items_rules (inside s x) 0 x.items later)
 
-abbrev pub items_faults : Scope → Option Wanted → Option ℕ → List Name → List Name → List ItemText → Faults → Faults
-items_faults s wanted level tunables calls [] later = later
-items_faults s wanted level tunables calls (x ∷ rest) later =
-    item_faults s wanted level tunables calls x (items_faults s wanted level (after_tunable tunables x) (after_call calls x) rest later)
+-- the instances from the i-th on
+abbrev pub instances_rules : Scope → ℕ → List InstanceText → List Rule
+instances_rules s i [] = []
+instances_rules s i (x ∷ rest) = instance_rules s i x (instances_rules s (suc i) rest)
 
--- an instance behind those of these names
-abbrev pub instance_faults : Scope → List Name → InstanceText → Faults → Faults
-instance_faults s before x later =
-    dup_instance before x.name ∷ call_missing (wanted_of s x) x.name (call_names x.items) ∷ tunable_missing (wanted_of s x) x.name (tunable_names x.items)
-    ∷ no_task s.variants x.task ∷ no_variant s.variants x.task x.kind ∷ no_level s.levels x.level
-    ∷ items_faults s (wanted_of s x) (level_of s.levels x.level.name) [] [] x.items later
+-- the i-th size of these
+abbrev pub size_rules : Option Required → List SizeText → ℕ → SizeText → Rules
+size_rules required sizes i size later = dup_item (size_index sizes size.name.name) i size.name ∷ size_unknown required size.name ∷ later
 
-abbrev pub instances_faults : Scope → List Name → List InstanceText → Faults
-instances_faults s before [] = []
-instances_faults s before (x ∷ rest) = instance_faults s before x (instances_faults s (with_name before x.name.name) rest)
+-- those from the i-th on
+abbrev pub sizes_rules : Option Required → List SizeText → ℕ → List SizeText → Rules
+sizes_rules required sizes i [] later = later
+sizes_rules required sizes i (size ∷ rest) later = size_rules required sizes i size (sizes_rules required sizes (suc i) rest later)
 
--- the sizes behind those of these names
-abbrev pub sizes_faults : Option Wanted → List Name → List SizeText → Faults → Faults
-sizes_faults wanted before [] later = later
-sizes_faults wanted before (size ∷ rest) later =
-    dup_item before size.name ∷ size_unknown wanted size.name ∷ sizes_faults wanted (with_name before size.name.name) rest later
+-- the name of the entry, which is this instance where the file has it
+abbrev pub entered_rules : Scope → Option InstanceText → Word → List SizeText → Rules
+entered_rules s entry name sizes later =
+    no_instance s.instances name ∷ entry_skip (level_at s entry) name ∷ size_missing (required_at s entry) name sizes ∷ later
 
--- the entry, which is this instance where the file has it, and its sizes
-abbrev pub entry_faults : Scope → Option InstanceText → Word → List SizeText → Faults → Faults
-entry_faults s entry name sizes later =
-    no_instance s.instances name ∷ entry_skip (level_at s entry) name ∷ size_missing (wanted_at s entry) name (size_names sizes)
-    ∷ sizes_faults (wanted_at s entry) [] sizes later
+abbrev pub entry_rules : Scope → Option InstanceText → Word → List SizeText → Rules
+entry_rules s entry name sizes later = entered_rules s entry name sizes (sizes_rules (required_at s entry) sizes 0 sizes later)
 
-abbrev pub name_faults : Program → List Level → MappingText → Faults
-name_faults program levels m =
+abbrev pub name_rules : Program → List Level → MappingText → List Rule
+name_rules program levels m =
     let s = scope program levels m in
-    entry_faults s (instance_of m.instances m.entry.name) m.entry m.sizes (instances_faults s [] m.instances)
+    entry_rules s (instance_of m.instances m.entry.name) m.entry m.sizes (instances_rules s 0 m.instances)
 
-abbrev pub HoldsAt : Option Fault → Fault → Type 0
-HoldsAt o f = o ≡ Some f
+-- the breach of each rule is its own
+abbrev pub breach_of : Rule → Option Breach
+breach_of rule = rule
 
 -- this fault of a name holds of the mapping that the text writes
 abbrev pub NameFault : Program → List Level → MappingText → Fault → Type 0
-NameFault program levels m f = HoldsIn HoldsAt (name_faults program levels m) f
+NameFault program levels m f = BreaksIn breach_of phase.Mapping (name_rules program levels m) f

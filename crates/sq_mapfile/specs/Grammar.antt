@@ -2,7 +2,9 @@
 use Rattle.std.specs.Prelude.{ℕ, ℤ, pos, List, [], ◌∷◌, codes}
 use Rattle.std.proofs.Math.IntN.{neg_ℤ}
 use Rattle.sq_text.specs.declared.place.Place.{Place}
-use Rattle.sq_shapes.specs.declared.held.Word.{Word as Placed}
+use Rattle.sq_text.specs.declared.word.Word.{Word as Placed}
+use Rattle.sq_text.specs.declared.spread.SpreadRule.{SpreadRule}
+use Rattle.sq_text.specs.declared.spread.SpreadRule.TheVariants.{Cyclic, Blocked}
 use Rattle.sq_ast.specs.declared.program.VariantKind.{VariantKind}
 use Rattle.sq_ast.specs.declared.program.VariantKind.TheVariants.{Inner, Leaf}
 use Rattle.sq_lexer.specs.declared.token.Token.{Token}
@@ -11,11 +13,13 @@ use Rattle.sq_lexer.specs.declared.token.Sign.TheVariants as sign
 use Rattle.sq_lexer.specs.Tokens.{token}
 use Rattle.sq_mapfile.specs.declared.mapping.Setting.{Setting}
 use Rattle.sq_mapfile.specs.declared.mapping.Setting.TheVariants.{One, Many}
-use Rattle.sq_mapfile.specs.declared.tree.SizeText.{SizeText}
-use Rattle.sq_mapfile.specs.declared.tree.ItemText.{ItemText}
-use Rattle.sq_mapfile.specs.declared.tree.ItemText.TheVariants.{Tunable, Call}
-use Rattle.sq_mapfile.specs.declared.tree.InstanceText.{InstanceText}
-use Rattle.sq_mapfile.specs.declared.tree.MappingText.{MappingText}
+use Rattle.sq_mapfile.specs.declared.text.Version.{Version}
+use Rattle.sq_mapfile.specs.declared.text.Version.TheVariants.{First, Second}
+use Rattle.sq_mapfile.specs.declared.text.SizeText.{SizeText}
+use Rattle.sq_mapfile.specs.declared.text.ItemText.{ItemText}
+use Rattle.sq_mapfile.specs.declared.text.ItemText.TheVariants.{Tunable, Call, Spread}
+use Rattle.sq_mapfile.specs.declared.text.InstanceText.{InstanceText}
+use Rattle.sq_mapfile.specs.declared.text.MappingText.{MappingText}
 
 abbrev pub word : Place → List ℕ → Placed
 word place name = record { place = place; name = name }
@@ -29,6 +33,10 @@ instance name task kind level items = record { name = name; task = task; kind = 
 abbrev pub mapping : Placed → List SizeText → List InstanceText → MappingText
 mapping entry sizes instances = record { entry = entry; sizes = sizes; instances = instances }
 
+abbrev pub number_of : Version → ℕ
+number_of First = 1
+number_of Second = 2
+
 pub data Phrase : Type 0 where
   Sizes : List SizeText → Phrase  -- all sizes
   MoreSizes : List SizeText → Phrase  -- those behind the first
@@ -36,14 +44,15 @@ pub data Phrase : Type 0 where
   Values : List ℤ → Phrase  -- all values of a list
   MoreValues : List ℤ → Phrase  -- those behind the first
   ASetting : Setting → Phrase
-  AnItem : ItemText → Phrase
-  Items : List ItemText → Phrase
+  ARule : SpreadRule → Phrase
+  AnItem : Version → ItemText → Phrase
+  Items : Version → List ItemText → Phrase
   AKind : VariantKind → Phrase
-  AnInstance : InstanceText → Phrase
-  Instances : List InstanceText → Phrase
+  AnInstance : Version → InstanceText → Phrase
+  Instances : Version → List InstanceText → Phrase
   AMapping : MappingText → Phrase
 
--- The first tokens begin with the phrase, and the second are left after it. A number `1` is any number token of that value.
+-- The first tokens begin with the phrase, and the second are left after it. A number `1` or `2` is any number token of that value.
 pub data Derives : Phrase → List Token → List Token → Type 0 where
   no_size : {i : List Token} → Derives (Sizes []) i i
   -- `NAME = NUMBER`
@@ -66,32 +75,39 @@ pub data Derives : Phrase → List Token → List Token → Type 0 where
   many : {p q : Place} {xs : List ℤ} {i j : List Token}
       → Derives (Values xs) i (token (Sign sign.BracketClose) q ∷ j) → Derives (ASetting (Many xs)) (token (Sign sign.BracketOpen) p ∷ i) j
   -- `tunable NAME = VALUE;`
-  a_tunable : {p q r s : Place} {name : List ℕ} {setting : Setting} {i j : List Token}
+  a_tunable : {version : Version} {p q r s : Place} {name : List ℕ} {setting : Setting} {i j : List Token}
       → Derives (ASetting setting) i (token (Sign sign.Semi) s ∷ j)
-      → Derives (AnItem (Tunable (word q name) setting)) (token (Word (codes "tunable")) p ∷ token (Word name) q ∷ token (Sign sign.Set) r ∷ i) j
+      → Derives (AnItem version (Tunable (word q name) setting)) (token (Word (codes "tunable")) p ∷ token (Word name) q ∷ token (Sign sign.Set) r ∷ i) j
   -- `call TASK -> INSTANCE;`
-  a_call : {p q r s t : Place} {task name : List ℕ} {i : List Token}
-      → Derives (AnItem (Call (word q task) (word s name)))
+  a_call : {version : Version} {p q r s t : Place} {task name : List ℕ} {i : List Token}
+      → Derives (AnItem version (Call (word q task) (word s name)))
       (token (Word (codes "call")) p ∷ token (Word task) q ∷ token (Sign sign.Arrow) r ∷ token (Word name) s ∷ token (Sign sign.Semi) t ∷ i) i
-  no_item : {i : List Token} → Derives (Items []) i i
-  an_item : {x : ItemText} {rest : List ItemText} {i j l : List Token} → Derives (AnItem x) i j → Derives (Items rest) j l → Derives (Items (x ∷ rest)) i l
+  cyclic : {p : Place} {i : List Token} → Derives (ARule Cyclic) (token (Word (codes "cyclic")) p ∷ i) i
+  blocked : {p : Place} {i : List Token} → Derives (ARule Blocked) (token (Word (codes "blocked")) p ∷ i) i
+  -- `spread = RULE;`, in version 2 alone
+  a_spread : {p q r : Place} {rule : SpreadRule} {i j : List Token}
+      → Derives (ARule rule) i (token (Sign sign.Semi) r ∷ j)
+      → Derives (AnItem Second (Spread (word p (codes "spread")) rule)) (token (Word (codes "spread")) p ∷ token (Sign sign.Set) q ∷ i) j
+  no_item : {version : Version} {i : List Token} → Derives (Items version []) i i
+  an_item : {version : Version} {x : ItemText} {rest : List ItemText} {i j l : List Token}
+      → Derives (AnItem version x) i j → Derives (Items version rest) j l → Derives (Items version (x ∷ rest)) i l
   inner : {p : Place} {i : List Token} → Derives (AKind Inner) (token (Word (codes "inner")) p ∷ i) i
   leaf : {p : Place} {i : List Token} → Derives (AKind Leaf) (token (Word (codes "leaf")) p ∷ i) i
   -- `instance NAME = TASK::KIND @ LEVEL { ITEMS }`
-  an_instance : {p q r s t u v w x : Place} {name task level : List ℕ} {kind : VariantKind} {items : List ItemText} {i j l : List Token}
+  an_instance : {version : Version} {p q r s t u v w x : Place} {name task level : List ℕ} {kind : VariantKind} {items : List ItemText} {i j l : List Token}
       → Derives (AKind kind) i (token (Sign sign.At) u ∷ token (Word level) v ∷ token (Sign sign.BraceOpen) w ∷ j)
-      → Derives (Items items) j (token (Sign sign.BraceClose) x ∷ l)
-      → Derives (AnInstance (instance (word q name) (word s task) kind (word v level) items))
+      → Derives (Items version items) j (token (Sign sign.BraceClose) x ∷ l)
+      → Derives (AnInstance version (instance (word q name) (word s task) kind (word v level) items))
       (token (Word (codes "instance")) p ∷ token (Word name) q ∷ token (Sign sign.Set) r ∷ token (Word task) s ∷ token (Sign sign.Path) t ∷ i) l
-  no_instance : {i : List Token} → Derives (Instances []) i i
-  one_more_instance : {x : InstanceText} {rest : List InstanceText} {i j l : List Token}
-      → Derives (AnInstance x) i j → Derives (Instances rest) j l → Derives (Instances (x ∷ rest)) i l
-  -- `mapping 1; entry NAME(SIZES);`, and the instances
-  a_mapping : {p q r s t u v w : Place} {name : List ℕ} {sizes : List SizeText} {instances : List InstanceText} {i j l : List Token}
+  no_instance : {version : Version} {i : List Token} → Derives (Instances version []) i i
+  one_more_instance : {version : Version} {x : InstanceText} {rest : List InstanceText} {i j l : List Token}
+      → Derives (AnInstance version x) i j → Derives (Instances version rest) j l → Derives (Instances version (x ∷ rest)) i l
+  -- `mapping VERSION; entry NAME(SIZES);`, and the instances
+  a_mapping : {version : Version} {p q r s t u v w : Place} {name : List ℕ} {sizes : List SizeText} {instances : List InstanceText} {i j l : List Token}
       → Derives (Sizes sizes) i (token (Sign sign.ParenClose) v ∷ token (Sign sign.Semi) w ∷ j)
-      → Derives (Instances instances) j l
+      → Derives (Instances version instances) j l
       → Derives (AMapping (mapping (word t name) sizes instances))
-      (token (Word (codes "mapping")) p ∷ token (Number (pos 1)) q ∷ token (Sign sign.Semi) r ∷ token (Word (codes "entry")) s ∷ token (Word name) t ∷ token (Sign sign.ParenOpen) u ∷ i) l
+      (token (Word (codes "mapping")) p ∷ token (Number (pos (number_of version))) q ∷ token (Sign sign.Semi) r ∷ token (Word (codes "entry")) s ∷ token (Word name) t ∷ token (Sign sign.ParenOpen) u ∷ i) l
 
 -- the tokens are a text of this mapping
 pub record IsText (tokens : List Token) (m : MappingText) : Type 0 where

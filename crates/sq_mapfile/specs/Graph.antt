@@ -1,37 +1,17 @@
 -- The calls of a mapping as they are gathered, the graph that they make, and the search for the first on a cycle.
-use Rattle.std.specs.Prelude.{◌≡◌, ℕ, suc, ◌<◌, ◌≤◌, Bool, false, ◌||◌, List, [], ◌∷◌, ◌++◌, length, nat_eq, nat_lt, if◌then◌else◌, Option, Some, None, slice_index_or}
+use Rattle.std.specs.Prelude.{◌≡◌, ℕ, ◌<◌, ◌≤◌, Bool, false, ◌||◌, List, [], ◌∷◌, ◌++◌, length, nat_eq, nat_lt, if◌then◌else◌, Option, Some, None, slice_index_or}
 use Rattle.std.specs.List.{list_any}
 use Rattle.std.specs.Option.{option_map}
-use Rattle.sq_text.specs.declared.fault.Code.TheVariants as code
-use Rattle.sq_text.specs.declared.fault.Fault.{Fault}
-use Rattle.sq_text.specs.Answers.{fault_place}
-use Rattle.sq_text.specs.First.{IsFirst, HoldsIn}
+use Rattle.sq_text.specs.First.{HoldsIn}
+use Rattle.sq_text.specs.Faults.{IsFirst}
 use Rattle.sq_text.specs.Places.{is_before, is_same}
-use Rattle.sq_mapfile.specs.declared.tree.ItemText.{ItemText}
-use Rattle.sq_mapfile.specs.declared.tree.InstanceText.{InstanceText}
-use Rattle.sq_mapfile.specs.Names.{Name}
-use Rattle.sq_mapfile.specs.Faults.{fault_at, number}
-use Rattle.sq_mapfile.specs.Cycles.{CallText, IsOnCycle, items_calls, calls_from}
+use Rattle.sq_mapfile.specs.Cycles.{CallText, Part, IsOnCycle, cycle_at}
 
 -- ---- gathered
 
 -- the calls of a part come behind those that there were
-abbrev pub Adds : List CallText → List CallText → (List CallText → List CallText) → Type 0
+abbrev pub Adds : List CallText → List CallText → Part → Type 0
 Adds old new part = (later : List CallText) → new ++ later ≡ old ++ part later
-
--- the calls of an item, and the tasks with one behind it
-abbrev pub AddsItem : List InstanceText → ℕ → List CallText → List Name → ItemText → List CallText → List Name → Type 0
-AddsItem instances caller old before item new after =
-    (rest : List ItemText) (later : List CallText) → new ++ items_calls instances caller after rest later ≡ old ++ items_calls instances caller before (item ∷ rest) later
-
--- the calls of an instance, and the names with one behind it
-abbrev pub AddsInstance : List InstanceText → ℕ → List CallText → List Name → InstanceText → List CallText → List Name → Type 0
-AddsInstance instances i old before x new after =
-    (rest : List InstanceText) → new ++ calls_from instances (suc i) after rest ≡ old ++ calls_from instances i before (x ∷ rest)
-
--- all calls of these instances
-abbrev pub calls_among : List InstanceText → List CallText
-calls_among instances = calls_from instances 0 [] instances
 
 -- ---- the graph
 
@@ -78,10 +58,6 @@ falls ranks call = nat_lt (rank_of ranks call.callee) (rank_of ranks call.caller
 
 -- ---- the first call on a cycle
 
--- the fault of a call on a cycle
-abbrev pub cycle_at : CallText → Fault
-cycle_at call = fault_at code.Cycle call.name.place call.name.name
-
 -- what is found is no later in the text than the call
 abbrev pub is_behind : Option CallText → CallText → Bool
 is_behind None call = false
@@ -89,4 +65,4 @@ is_behind (Some first) call = is_before first.name.place call.name.place || is_s
 
 -- of the calls that are looked at, this is the first on a cycle of all calls
 abbrev pub IsFirstOnCycle : List CallText → List CallText → Option CallText → Type 0
-IsFirstOnCycle calls part found = IsFirst fault_place number (HoldsIn (IsOnCycle calls) part) (option_map cycle_at found)
+IsFirstOnCycle calls part found = IsFirst (HoldsIn (IsOnCycle calls) part) (option_map cycle_at found)

@@ -1,13 +1,16 @@
 -- Which mapping a text stands for, and every fault of a mapping file.
-use Rattle.std.specs.Prelude.{◌≡◌, ◌⊎◌, ℕ, List, [], ◌∷◌, map, Some}
-use Rattle.sq_text.specs.declared.fault.Phase.TheVariants as phase
+use Rattle.std.specs.Prelude.{◌≡◌, ◌⊎◌, ℕ, List, [], ◌∷◌, map, Some, slice_get}
+use Rattle.sq_text.specs.declared.code.Phase.TheVariants as phase
 use Rattle.sq_text.specs.declared.fault.Fault.{Fault}
 use Rattle.sq_text.specs.First.{InTurn}
 use Rattle.sq_lexer.specs.declared.token.Token.{Token}
 use Rattle.sq_lexer.specs.Tokens.{AreTokens}
 use Rattle.sq_lexer.specs.Faults.{FitsFile, HasFault}
-use Rattle.sq_shapes.specs.declared.held.Word.{Word}
+use Rattle.sq_text.specs.declared.spread.SpreadRule.{SpreadRule}
+use Rattle.sq_text.specs.declared.spread.SpreadRule.TheVariants.{Cyclic}
+use Rattle.sq_text.specs.declared.word.Word.{Word}
 use Rattle.sq_shapes.specs.Texts as texts
+use Rattle.sq_ast.specs.declared.program.VariantKind.TheVariants.{Inner}
 use Rattle.sq_ast.specs.declared.program.Program.{Program}
 use Rattle.sq_machfile.specs.declared.level.Level.{Level}
 use Rattle.sq_mapfile.specs.declared.mapping.Setting.{Setting}
@@ -16,12 +19,12 @@ use Rattle.sq_mapfile.specs.declared.mapping.Route.{Route}
 use Rattle.sq_mapfile.specs.declared.mapping.Instance.{Instance}
 use Rattle.sq_mapfile.specs.declared.mapping.SizeSet.{SizeSet}
 use Rattle.sq_mapfile.specs.declared.mapping.Mapping.{Mapping}
-use Rattle.sq_mapfile.specs.declared.tree.SizeText.{SizeText}
-use Rattle.sq_mapfile.specs.declared.tree.ItemText.{ItemText}
-use Rattle.sq_mapfile.specs.declared.tree.ItemText.TheVariants.{Tunable, Call}
-use Rattle.sq_mapfile.specs.declared.tree.InstanceText.{InstanceText}
-use Rattle.sq_mapfile.specs.declared.tree.MappingText.{MappingText}
-use Rattle.sq_mapfile.specs.Names.{index_of, level_of}
+use Rattle.sq_mapfile.specs.declared.text.SizeText.{SizeText}
+use Rattle.sq_mapfile.specs.declared.text.ItemText.{ItemText}
+use Rattle.sq_mapfile.specs.declared.text.ItemText.TheVariants.{Tunable, Call, Spread}
+use Rattle.sq_mapfile.specs.declared.text.InstanceText.{InstanceText}
+use Rattle.sq_mapfile.specs.declared.text.MappingText.{MappingText}
+use Rattle.sq_mapfile.specs.Names.{index_of, spread_index, level_of}
 use Rattle.sq_mapfile.specs.Grammar.{IsText}
 use Rattle.sq_mapfile.specs.Faults.{NameFault}
 use Rattle.sq_mapfile.specs.Cycles.{CycleFault}
@@ -31,13 +34,21 @@ use Rattle.sq_mapfile.specs.Cycles.{CycleFault}
 abbrev pub tunings_of : List ItemText → List Tuning
 tunings_of [] = []
 tunings_of (Tunable name setting ∷ rest) = record { name = name.name; setting = setting } ∷ tunings_of rest
-tunings_of (Call task name ∷ rest) = tunings_of rest
+tunings_of (_ ∷ rest) = tunings_of rest
+
+-- the first rule that is chosen; where none is, the iterations go round
+abbrev pub spread_of : List ItemText → SpreadRule
+spread_of [] = Cyclic
+spread_of (Spread word rule ∷ rest) = rule
+spread_of (_ ∷ rest) = spread_of rest
 
 -- the routes of the calls, in the order of the text, each to the instance of the name
 pub data AreRoutes (instances : List InstanceText) : List ItemText → List Route → Type 0 where
   no_route : AreRoutes instances [] []
   no_call : {name : Word} {setting : Setting} {items : List ItemText} {routes : List Route}
       → AreRoutes instances items routes → AreRoutes instances (Tunable name setting ∷ items) routes
+  no_rule : {word : Word} {rule : SpreadRule} {items : List ItemText} {routes : List Route}
+      → AreRoutes instances items routes → AreRoutes instances (Spread word rule ∷ items) routes
   a_route : {task name : Word} {i : ℕ} {items : List ItemText} {routes : List Route}
       → index_of instances name.name ≡ Some i → AreRoutes instances items routes
       → AreRoutes instances (Call task name ∷ items) (record { task = task.name; instance = i } ∷ routes)
@@ -49,6 +60,7 @@ pub record IsInstance (levels : List Level) (instances : List InstanceText) (x :
   pub level : level_of levels x.level.name ≡ Some instance.level
   pub tunings : instance.tunings ≡ tunings_of x.items
   pub routes : AreRoutes instances x.items instance.routes
+  pub spread : instance.spread ≡ spread_of x.items
 
 pub data AreInstances (levels : List Level) (instances : List InstanceText) : List InstanceText → List Instance → Type 0 where
   none_left : AreInstances levels instances [] []
@@ -63,6 +75,11 @@ pub record Resolves (levels : List Level) (m : MappingText) (mapping : Mapping) 
   pub entry : index_of m.instances m.entry.name ≡ Some mapping.entry
   pub sizes : mapping.sizes ≡ map size_set m.sizes
   pub instances : AreInstances levels m.instances m.instances mapping.instances
+
+-- what a mapping doesn't tell of its text: an instance chooses at most once how to spread, and a leaf doesn't
+pub record SpreadsOnce (m : MappingText) : Type 0 where
+  pub once : (i k : ℕ) (x : InstanceText) (word : Word) (rule : SpreadRule) → slice_get m.instances i ≡ Some x → slice_get x.items k ≡ Some (Spread word rule) → spread_index x.items ≡ Some k
+  pub inner : (i k : ℕ) (x : InstanceText) (word : Word) (rule : SpreadRule) → slice_get m.instances i ≡ Some x → slice_get x.items k ≡ Some (Spread word rule) → x.kind ≡ Inner
 
 -- ---- texts
 

@@ -1,27 +1,19 @@
--- What the names of a mapping stand for: instances of the file, variants of the program, levels of the machine.
-use Rattle.std.specs.Prelude.{ℕ, suc, Bool, true, false, ◌&&◌, List, [], ◌∷◌, ◌++◌, Option, Some, None, if◌then◌else◌, slice_get}
+-- What the names of a mapping stand for: instances and items of the file, variants of the program, levels of the machine.
+use Rattle.std.specs.Prelude.{ℕ, suc, Bool, true, false, ◌&&◌, nat_lt, List, [], ◌∷◌, Option, Some, None, if◌then◌else◌, slice_get}
 use Rattle.std.specs.Option.{option_and_then}
 use Rattle.std.specs.List.{list_any}
-use Rattle.std.specs.Str.{bytes_eq}
+use Rattle.sq_text.specs.Names.{Bytes, same_name}
 use Rattle.sq_ast.specs.declared.program.VariantKind.{VariantKind}
 use Rattle.sq_ast.specs.declared.program.VariantKind.TheVariants.{Inner, Leaf}
 use Rattle.sq_ast.specs.declared.program.Variant.{Variant}
 use Rattle.sq_machfile.specs.declared.level.Level.{Level}
-use Rattle.sq_mapfile.specs.declared.tree.InstanceText.{InstanceText}
+use Rattle.sq_mapfile.specs.declared.text.SizeText.{SizeText}
+use Rattle.sq_mapfile.specs.declared.text.ItemText.{ItemText}
+use Rattle.sq_mapfile.specs.declared.text.ItemText.TheVariants.{Tunable, Call, Spread}
+use Rattle.sq_mapfile.specs.declared.text.InstanceText.{InstanceText}
 
--- the bytes of a name
-abbrev pub Name : Type 0
-Name = List ℕ
-
-abbrev pub same_name : Name → Name → Bool
-same_name = bytes_eq
-
-abbrev pub is_among : List Name → Name → Bool
+abbrev pub is_among : List Bytes → Bytes → Bool
 is_among names name = list_any (same_name name) names
-
--- these names and one more, each once
-abbrev pub with_name : List Name → Name → List Name
-with_name names name = if is_among names name then names else names ++ name ∷ []
 
 -- the index of the first item that passes the test; the first item of the list has index i
 abbrev pub first_from : {A : Type 0} → (A → Bool) → ℕ → List A → Option ℕ
@@ -32,14 +24,45 @@ first_from test i (x ∷ rest) = if test x then Some i else first_from test (suc
 abbrev pub at_index : {A : Type 0} → List A → Option ℕ → Option A
 at_index xs i = option_and_then (slice_get xs) i
 
+-- the first of a name stands before this index
+abbrev pub stands_before : Option ℕ → ℕ → Bool
+stands_before None i = false
+stands_before (Some first) i = nat_lt first i
+
 -- ---- instances
 
 -- of two instances of a name the first counts
-abbrev pub index_of : List InstanceText → Name → Option ℕ
+abbrev pub index_of : List InstanceText → Bytes → Option ℕ
 index_of instances name = first_from (λ x. same_name name x.name.name) 0 instances
 
-abbrev pub instance_of : List InstanceText → Name → Option InstanceText
+abbrev pub instance_of : List InstanceText → Bytes → Option InstanceText
 instance_of instances name = at_index instances (index_of instances name)
+
+-- ---- items and sizes
+
+abbrev pub is_tunable : Bytes → ItemText → Bool
+is_tunable name (Tunable word setting) = same_name name word.name
+is_tunable name _ = false
+
+abbrev pub is_call : Bytes → ItemText → Bool
+is_call name (Call task instance) = same_name name task.name
+is_call name _ = false
+
+abbrev pub is_spread : ItemText → Bool
+is_spread (Spread word rule) = true
+is_spread _ = false
+
+abbrev pub tunable_index : List ItemText → Bytes → Option ℕ
+tunable_index items name = first_from (is_tunable name) 0 items
+
+abbrev pub call_index : List ItemText → Bytes → Option ℕ
+call_index items task = first_from (is_call task) 0 items
+
+abbrev pub spread_index : List ItemText → Option ℕ
+spread_index items = first_from is_spread 0 items
+
+abbrev pub size_index : List SizeText → Bytes → Option ℕ
+size_index sizes name = first_from (λ size. same_name name size.name.name) 0 sizes
 
 -- ---- variants
 
@@ -48,19 +71,19 @@ same_kind Inner Inner = true
 same_kind Leaf Leaf = true
 same_kind _ _ = false
 
-abbrev pub has_task : List Variant → Name → Bool
+abbrev pub has_task : List Variant → Bytes → Bool
 has_task variants task = list_any (λ v. same_name task v.task) variants
 
-abbrev pub is_variant : Name → VariantKind → Variant → Bool
+abbrev pub is_variant : Bytes → VariantKind → Variant → Bool
 is_variant task kind v = same_name task v.task && same_kind kind v.kind
 
-abbrev pub variant_index : List Variant → Name → VariantKind → Option ℕ
+abbrev pub variant_index : List Variant → Bytes → VariantKind → Option ℕ
 variant_index variants task kind = first_from (is_variant task kind) 0 variants
 
-abbrev pub variant_of : List Variant → Name → VariantKind → Option Variant
+abbrev pub variant_of : List Variant → Bytes → VariantKind → Option Variant
 variant_of variants task kind = at_index variants (variant_index variants task kind)
 
 -- ---- levels
 
-abbrev pub level_of : List Level → Name → Option ℕ
+abbrev pub level_of : List Level → Bytes → Option ℕ
 level_of levels name = first_from (λ level. same_name name level.name) 0 levels

@@ -6,35 +6,40 @@ use Rattle.sq_ast.specs.declared.program.VariantKind.{VariantKind}
 use Rattle.sq_ast.specs.declared.program.VariantKind.TheVariants.{Inner, Leaf}
 use Rattle.sq_lexer.specs.declared.token.Token.{Token}
 use Rattle.sq_lexer.specs.declared.token.Sign.TheVariants as g
-use Rattle.sq_shapes.specs.declared.shape.Shape.{Shape}
-use Rattle.sq_shapes.specs.declared.shape.Shape.TheVariants as s
-use Rattle.sq_shapes.specs.declared.held.Word.{Word}
+use Rattle.sq_shapes.specs.declared.pattern.Pattern.{Pattern}
+use Rattle.sq_shapes.specs.declared.pattern.Pattern.TheVariants as s
+use Rattle.sq_text.specs.declared.spread.SpreadRule.{SpreadRule}
+use Rattle.sq_text.specs.declared.spread.SpreadRule.TheVariants as spreading
+use Rattle.sq_text.specs.declared.word.Word.{Word}
 use Rattle.sq_shapes.specs.Reading.{Reader, ◌>>=◌, pure, all, choice, until, finish, word_in, number_in}
+use Rattle.sq_mapfile.specs.Grammar.{number_of}
 use Rattle.sq_mapfile.specs.declared.mapping.Setting.{Setting}
 use Rattle.sq_mapfile.specs.declared.mapping.Setting.TheVariants.{One, Many}
-use Rattle.sq_mapfile.specs.declared.tree.SizeText.{SizeText}
-use Rattle.sq_mapfile.specs.declared.tree.ItemText.{ItemText}
-use Rattle.sq_mapfile.specs.declared.tree.ItemText.TheVariants.{Tunable, Call}
-use Rattle.sq_mapfile.specs.declared.tree.InstanceText.{InstanceText}
-use Rattle.sq_mapfile.specs.declared.tree.MappingText.{MappingText}
+use Rattle.sq_mapfile.specs.declared.text.Version.{Version}
+use Rattle.sq_mapfile.specs.declared.text.Version.TheVariants.{First, Second}
+use Rattle.sq_mapfile.specs.declared.text.SizeText.{SizeText}
+use Rattle.sq_mapfile.specs.declared.text.ItemText.{ItemText}
+use Rattle.sq_mapfile.specs.declared.text.ItemText.TheVariants.{Tunable, Call, Spread}
+use Rattle.sq_mapfile.specs.declared.text.InstanceText.{InstanceText}
+use Rattle.sq_mapfile.specs.declared.text.MappingText.{MappingText}
 
-abbrev pub size_shapes : List Shape
-size_shapes = s.AnyWord ∷ s.Sign g.Set ∷ s.AnyNumber ∷ []
+abbrev pub size_patterns : List Pattern
+size_patterns = s.AnyWord ∷ s.Sign g.Set ∷ s.AnyNumber ∷ []
 
-abbrev pub next_size_shapes : List Shape
-next_size_shapes = s.Sign g.Comma ∷ s.AnyWord ∷ s.Sign g.Set ∷ s.AnyNumber ∷ []
+abbrev pub next_size_patterns : List Pattern
+next_size_patterns = s.Sign g.Comma ∷ s.AnyWord ∷ s.Sign g.Set ∷ s.AnyNumber ∷ []
 
 abbrev pub size_at : ℕ → List Token → SizeText
 size_at at read = record { name = word_in (slice_get read at); value = number_in (slice_get read (at + 2)) }
 
 abbrev pub first_size : Reader SizeText
 first_size = do
-  read ← all size_shapes
+  read ← all size_patterns
   pure (size_at 0 read)
 
 abbrev pub next_size : Reader SizeText
 next_size = do
-  read ← all next_size_shapes
+  read ← all next_size_patterns
   pure (size_at 1 read)
 
 unfoldable pub more_sizes : SizeText → Reader (List SizeText)
@@ -48,12 +53,12 @@ some_sizes = do
 abbrev pub sizes : Reader (List SizeText)
 sizes = choice (s.Sign g.ParenClose) (pure []) some_sizes
 
-abbrev pub minus_shapes : List Shape
-minus_shapes = s.Sign g.Minus ∷ s.AnyNumber ∷ []
+abbrev pub minus_patterns : List Pattern
+minus_patterns = s.Sign g.Minus ∷ s.AnyNumber ∷ []
 
 abbrev pub negative : Reader ℤ
 negative = do
-  read ← all minus_shapes
+  read ← all minus_patterns
   pure (neg_ℤ (number_in (slice_get read 1)))
 
 abbrev pub plain : Reader ℤ
@@ -95,29 +100,56 @@ one = do
 abbrev pub setting : Reader Setting
 setting = choice (s.Sign g.BracketOpen) many one
 
-abbrev pub tunable_shapes : List Shape
-tunable_shapes = s.Tunable ∷ s.AnyWord ∷ s.Sign g.Set ∷ []
+abbrev pub tunable_patterns : List Pattern
+tunable_patterns = s.Tunable ∷ s.AnyWord ∷ s.Sign g.Set ∷ []
 
-abbrev pub call_shapes : List Shape
-call_shapes = s.Call ∷ s.AnyWord ∷ s.Sign g.Arrow ∷ s.AnyWord ∷ s.Sign g.Semi ∷ []
+abbrev pub call_patterns : List Pattern
+call_patterns = s.Call ∷ s.AnyWord ∷ s.Sign g.Arrow ∷ s.AnyWord ∷ s.Sign g.Semi ∷ []
 
 abbrev pub tunable : Reader ItemText
 tunable = do
-  read ← all tunable_shapes
+  read ← all tunable_patterns
   setting ← setting
   semi ← all (s.Sign g.Semi ∷ [])
   pure (Tunable (word_in (slice_get read 1)) setting)
 
 abbrev pub call : Reader ItemText
 call = do
-  read ← all call_shapes
+  read ← all call_patterns
   pure (Call (word_in (slice_get read 1)) (word_in (slice_get read 3)))
 
-abbrev pub item : Reader ItemText
-item = choice s.Tunable tunable call
+abbrev pub cyclic : Reader SpreadRule
+cyclic = do
+  read ← all (s.Cyclic ∷ [])
+  pure spreading.Cyclic
 
-unfoldable pub items : Reader (List ItemText)
-items = λ i. until (s.Sign g.BraceClose) item (length i) [] i
+abbrev pub blocked : Reader SpreadRule
+blocked = do
+  read ← all (s.Blocked ∷ [])
+  pure spreading.Blocked
+
+abbrev pub rule : Reader SpreadRule
+rule = choice s.Cyclic cyclic blocked
+
+abbrev pub spread_patterns : List Pattern
+spread_patterns = s.Spread ∷ s.Sign g.Set ∷ []
+
+abbrev pub spread : Reader ItemText
+spread = do
+  read ← all spread_patterns
+  rule ← rule
+  semi ← all (s.Sign g.Semi ∷ [])
+  pure (Spread (word_in (slice_get read 0)) rule)
+
+abbrev pub plain_item : Reader ItemText
+plain_item = choice s.Tunable tunable call
+
+abbrev pub item : Version → Reader ItemText
+item First = plain_item
+item Second = choice s.Spread spread plain_item
+
+unfoldable pub items : Version → Reader (List ItemText)
+items version = λ i. until (s.Sign g.BraceClose) (item version) (length i) [] i
 
 abbrev pub inner : Reader VariantKind
 inner = do
@@ -132,45 +164,54 @@ leaf = do
 abbrev pub kind : Reader VariantKind
 kind = choice s.Inner inner leaf
 
-abbrev pub instance_shapes : List Shape
-instance_shapes = s.Instance ∷ s.AnyWord ∷ s.Sign g.Set ∷ s.AnyWord ∷ s.Sign g.Path ∷ []
+abbrev pub instance_patterns : List Pattern
+instance_patterns = s.Instance ∷ s.AnyWord ∷ s.Sign g.Set ∷ s.AnyWord ∷ s.Sign g.Path ∷ []
 
-abbrev pub level_shapes : List Shape
-level_shapes = s.Sign g.At ∷ s.AnyWord ∷ s.Sign g.BraceOpen ∷ []
+abbrev pub level_patterns : List Pattern
+level_patterns = s.Sign g.At ∷ s.AnyWord ∷ s.Sign g.BraceOpen ∷ []
 
 abbrev pub instance_of : List Token → VariantKind → List Token → List ItemText → InstanceText
 instance_of head kind level items =
     record { name = word_in (slice_get head 1); task = word_in (slice_get head 3); kind = kind; level = word_in (slice_get level 1); items = items }
 
-abbrev pub instance : Reader InstanceText
-instance = do
-  head ← all instance_shapes
+abbrev pub instance : Version → Reader InstanceText
+instance version = do
+  head ← all instance_patterns
   kind ← kind
-  level ← all level_shapes
-  items ← items
+  level ← all level_patterns
+  items ← items version
   closing ← all (s.Sign g.BraceClose ∷ [])
   pure (instance_of head kind level items)
 
-unfoldable pub instances : Reader (List InstanceText)
-instances = λ i. until s.End instance (length i) [] i
+unfoldable pub instances : Version → Reader (List InstanceText)
+instances version = λ i. until s.End (instance version) (length i) [] i
 
-abbrev pub head_shapes : List Shape
-head_shapes = s.Mapping ∷ s.One ∷ s.Sign g.Semi ∷ s.Entry ∷ s.AnyWord ∷ s.Sign g.ParenOpen ∷ []
+abbrev pub head_patterns : List Pattern
+head_patterns = s.Sign g.Semi ∷ s.Entry ∷ s.AnyWord ∷ s.Sign g.ParenOpen ∷ []
 
-abbrev pub sizes_end : List Shape
+abbrev pub sizes_end : List Pattern
 sizes_end = s.Sign g.ParenClose ∷ s.Sign g.Semi ∷ []
 
--- the name of the entry, and its sizes
-abbrev pub entry : Reader (Word × List SizeText)
-entry = do
-  head ← all head_shapes
+abbrev pub head : Version → Reader (List Token)
+head version = all (s.Exactly (number_of version) ∷ head_patterns)
+
+-- the name of the entry, and its sizes, behind the number of the version
+abbrev pub entry : Version → Reader (Word × List SizeText)
+entry version = do
+  head ← head version
   sizes ← sizes
   closing ← all sizes_end
-  pure (word_in (slice_get head 4), sizes)
+  pure (word_in (slice_get head 3), sizes)
 
-unfoldable pub mapping : Reader MappingText
-mapping = do
-  entry ← entry
-  instances ← instances
+unfoldable pub body : Version → Reader MappingText
+body version = do
+  entry ← entry version
+  instances ← instances version
   end ← all (s.End ∷ [])
   finish (record { entry = entry.0; sizes = entry.1; instances = instances })
+
+-- the number of the version decides
+abbrev pub mapping : Reader MappingText
+mapping = do
+  word ← all (s.Mapping ∷ [])
+  choice (s.Exactly 1) (body First) (body Second)

@@ -4,12 +4,12 @@ use Rattle.sq_machfile.specs.declared.level.Level.{Level}
 use Rattle.sq_mapfile.specs.declared.mapping.Route.{Route}
 use Rattle.sq_mapfile.specs.declared.mapping.Instance.{Instance}
 use Rattle.sq_mapfile.specs.declared.mapping.Mapping.{Mapping}
-use Rattle.sq_mapfile.specs.declared.tree.ItemText.{ItemText}
-use Rattle.sq_mapfile.specs.declared.tree.ItemText.TheVariants.{Tunable, Call}
-use Rattle.sq_mapfile.specs.declared.tree.InstanceText.{InstanceText}
-use Rattle.sq_mapfile.specs.declared.tree.MappingText.{MappingText}
+use Rattle.sq_mapfile.specs.declared.text.ItemText.{ItemText}
+use Rattle.sq_mapfile.specs.declared.text.ItemText.TheVariants.{Tunable, Call, Spread}
+use Rattle.sq_mapfile.specs.declared.text.InstanceText.{InstanceText}
+use Rattle.sq_mapfile.specs.declared.text.MappingText.{MappingText}
 use Rattle.sq_mapfile.specs.Names.{index_of, level_of}
-use Rattle.sq_mapfile.specs.Mappings.{tunings_of, size_set}
+use Rattle.sq_mapfile.specs.Mappings.{tunings_of, spread_of, size_set}
 
 abbrev pub or_zero : Option ℕ → ℕ
 or_zero None = 0
@@ -18,6 +18,7 @@ or_zero (Some i) = if ltb i (2 ^ 32) then i else 0
 abbrev pub routes_of : List InstanceText → List ItemText → List Route
 routes_of instances [] = []
 routes_of instances (Tunable name setting ∷ rest) = routes_of instances rest
+routes_of instances (Spread word rule ∷ rest) = routes_of instances rest
 routes_of instances (Call task name ∷ rest) = record { task = task.name; instance = or_zero (index_of instances name.name) } ∷ routes_of instances rest
 
 abbrev pub instance_with : List Level → List InstanceText → InstanceText → Instance
@@ -28,6 +29,7 @@ instance_with levels instances x = record {
   level = or_zero (level_of levels x.level.name);
   tunings = tunings_of x.items;
   routes = routes_of instances x.items;
+  spread = spread_of x.items;
 }
 
 abbrev pub mapping_with : List Level → MappingText → Mapping

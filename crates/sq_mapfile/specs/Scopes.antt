@@ -1,6 +1,6 @@
--- What the rules look names up in.
-use Rattle.sq_mapfile.specs.declared.known.Known.{Known}
+-- What names are looked up in, as the rules know it.
+use Rattle.sq_mapfile.specs.declared.scope.Scope as tables
 use Rattle.sq_mapfile.specs.Faults.{Scope}
 
-abbrev pub scope_of : Known → Scope
-scope_of k = record { variants = k.tasks.now.variants.now; levels = k.levels.now; instances = k.named.now.instances.now }
+abbrev pub scope_of : tables.Scope → Scope
+scope_of s = record { variants = s.tasks.now.variants.now; levels = s.table.now.levels.now; instances = s.table.now.instances.now }

@@ -8,18 +8,21 @@ use Rattle.sq_mapfile.specs.declared.mapping.Tuning.{Tuning}
 use Rattle.sq_mapfile.specs.declared.mapping.Route.{Route}
 use Rattle.sq_mapfile.specs.declared.mapping.Instance.{Instance}
 use Rattle.sq_mapfile.specs.declared.mapping.Mapping.{Mapping}
-use Rattle.sq_mapfile.specs.Names.{Name, same_name, is_among, variant_of}
-use Rattle.sq_mapfile.specs.Wanted.{wanted_by}
+use Rattle.sq_text.specs.Names.{Bytes, same_name}
+use Rattle.sq_text.specs.declared.spread.SpreadRule.TheVariants.{Cyclic}
+use Rattle.sq_ast.specs.declared.program.VariantKind.TheVariants.{Leaf}
+use Rattle.sq_mapfile.specs.Names.{is_among, variant_of}
+use Rattle.sq_mapfile.specs.Required.{required_by}
 use Rattle.sq_mapfile.specs.Faults.{is_list}
 
 -- no name stands at two indices
-abbrev pub EachOnce : List Name → Type 0
-EachOnce names = (i j : ℕ) (name : Name) → slice_get names i ≡ Some name → slice_get names j ≡ Some name → i ≡ j
+abbrev pub EachOnce : List Bytes → Type 0
+EachOnce names = (i j : ℕ) (name : Bytes) → slice_get names i ≡ Some name → slice_get names j ≡ Some name → i ≡ j
 
--- the names that are wanted are given, each once, and no others
-pub record Exactly (wanted given : List Name) : Type 0 where
-  pub all : (name : Name) → is_among wanted name ≡ true → is_among given name ≡ true
-  pub only : (name : Name) → is_among given name ≡ true → is_among wanted name ≡ true
+-- the required names are given, each once, and no others
+pub record Exactly (required given : List Bytes) : Type 0 where
+  pub all : (name : Bytes) → is_among required name ≡ true → is_among given name ≡ true
+  pub only : (name : Bytes) → is_among given name ≡ true → is_among required name ≡ true
   pub once : EachOnce given
 
 -- this is the variant that an instance runs
@@ -38,12 +41,14 @@ pub record InstanceFits (program : Program) (levels : List Level) (mapping : Map
   pub variant : Variant
   pub runs : Runs program x variant
   pub level : x.level < length levels
-  pub calls : Exactly (wanted_by variant).calls (map (λ route. route.task) x.routes)
+  pub calls : Exactly (required_by variant).calls (map (λ route. route.task) x.routes)
   pub routes : (k : ℕ) (route : Route) → slice_get x.routes k ≡ Some route → RouteFits mapping x route
-  pub tunables : Exactly (map (λ t. t.0) (wanted_by variant).tunables) (map (λ tuning. tuning.name) x.tunings)
+  pub tunables : Exactly (map (λ t. t.0) (required_by variant).tunables) (map (λ tuning. tuning.name) x.tunings)
   -- a list for a list, and a number for a number
   pub kinds : (k : ℕ) (tuning : Tuning) → slice_get x.tunings k ≡ Some tuning
-      → lookup (same_name tuning.name) (wanted_by variant).tunables ≡ Some (is_list tuning.setting)
+      → lookup (same_name tuning.name) (required_by variant).tunables ≡ Some (is_list tuning.setting)
+  -- a leaf has no maps to spread
+  pub spread : x.kind ≡ Leaf → x.spread ≡ Cyclic
 
 -- the entry is at the root, and has a value for each of its size names
 pub record EntryFits (program : Program) (mapping : Mapping) : Type 0 where
@@ -52,7 +57,7 @@ pub record EntryFits (program : Program) (mapping : Mapping) : Type 0 where
   pub root : entry.level ≡ 0
   pub variant : Variant
   pub runs : Runs program entry variant
-  pub sizes : Exactly (wanted_by variant).sizes (map (λ size. size.name) mapping.sizes)
+  pub sizes : Exactly (required_by variant).sizes (map (λ size. size.name) mapping.sizes)
 
 -- the instance at the first index has a route to the one at the second
 pub record Calls (instances : List Instance) (a b : ℕ) : Type 0 where

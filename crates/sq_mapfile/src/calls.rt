@@ -1,16 +1,15 @@
 //! The calls of a file's instances.
 
-ghost use Rattle.std.specs.Prelude.{◌≡◌, [], IfOk, OnOk, All};
+ghost use Rattle.std.specs.Prelude.{◌≡◌, ℕ, IfOk, OnOk, All};
 ghost use Rattle.sq_mapfile.specs.Names.{index_of};
-ghost use Rattle.sq_mapfile.specs.Cycles.{call_to, items_calls};
-ghost use Rattle.sq_mapfile.specs.Graph.{Adds, AddsItem, AddsInstance, IsWithin, calls_among};
+ghost use Rattle.sq_mapfile.specs.Cycles.{call_to, item_calls, items_calls, instance_calls, calls_among};
+ghost use Rattle.sq_mapfile.specs.Graph.{Adds, IsWithin};
 
-use crate::found::enter;
-use crate::named::Named;
-use crate::tree::{InstanceText, ItemText};
-use indexmap::IndexSet;
-use sq_shapes::Word;
-use sq_text::Name;
+use crate::given::ItemTable;
+use crate::rules::stands_before;
+use crate::table::InstanceTable;
+use crate::text::{InstanceText, ItemText};
+use sq_text::Word;
 use std::alloc::{AllocError, Global};
 use std::marker::Model;
 
@@ -32,14 +31,14 @@ impl<'a> Model for Call<'a> {
 
 // Notes a call of the instance of this name, where there is one.
 fn push_call<'a>(
-    named: &Named<'_>,
+    table: &InstanceTable<'_>,
     calls: &mut Vec<Call<'a>>,
     caller: usize,
     name: &'a Word,
 ) -> Result<(), AllocError>
-    ensures { OnOk result (Adds calls.old.items calls.new.items (call_to caller (index_of named.now.instances.now name.now.name) name.now)) }
+    ensures { OnOk result (Adds calls.old.items calls.new.items (call_to caller (index_of table.now.instances.now name.now.name) name.now)) }
 {
-    match named.index(&name.name) {
+    match table.index(&name.name) {
         None => Ok(()),
         Some(callee) => {
             calls.push(Call {
@@ -52,70 +51,68 @@ fn push_call<'a>(
     }
 }
 
-// Of two items for one task the first counts.
+// The call of the k-th of these items. Of two items for one task the first counts.
 fn item_calls<'a>(
-    alloc: Global,
-    named: &Named<'_>,
+    table: &InstanceTable<'_>,
     calls: &mut Vec<Call<'a>>,
     caller: usize,
-    before: &mut IndexSet<Name>,
+    items: &ItemTable<'_>,
+    k: usize,
     item: &'a ItemText,
 ) -> Result<(), AllocError>
-    ensures { OnOk result (AddsItem named.now.instances.now caller calls.old.items before.old.keys item.now calls.new.items before.new.keys) }
+    ensures { OnOk result (Adds calls.old.items calls.new.items (item_calls table.now.instances.now caller items.now.items.now k item.now)) }
 {
     match item {
-        ItemText::Tunable { .. } => Ok(()),
         ItemText::Call { task, instance } => {
-            if enter(alloc, before, &task.name)? {
+            if stands_before(items.call(&task.name), k) {
                 return Ok(());
             }
-            push_call(named, calls, caller, instance)?;
+            push_call(table, calls, caller, instance)?;
             Ok(())
         }
+        _ => Ok(()),
     }
 }
 
+// The calls of the items of the instance.
+fn items_calls<'a>(
+    table: &InstanceTable<'_>,
+    calls: &mut Vec<Call<'a>>,
+    caller: usize,
+    items: &ItemTable<'a>,
+) -> Result<(), AllocError>
+    ensures { OnOk result (Adds calls.old.items calls.new.items (items_calls table.now.instances.now caller items.now.items.now 0 items.now.items.now)) }
+{
+    for (k, item) in items.items.iter().enumerate() {
+        item_calls(table, calls, caller, items, k, item)?;
+    }
+    Ok(())
+}
+
+// The calls of the i-th instance. Of two instances of one name the first counts.
 fn instance_calls<'a>(
     alloc: Global,
-    named: &Named<'_>,
+    table: &InstanceTable<'_>,
     calls: &mut Vec<Call<'a>>,
-    caller: usize,
+    i: usize,
     instance: &'a InstanceText,
 ) -> Result<(), AllocError>
-    ensures { OnOk result (Adds calls.old.items calls.new.items (items_calls named.now.instances.now caller [] instance.now.items)) }
+    ensures { OnOk result (Adds calls.old.items calls.new.items (instance_calls table.now.instances.now i instance.now)) }
 {
-    let mut before = IndexSet::new(alloc);
-    for item in instance.items.as_slice() {
-        item_calls(alloc, named, calls, caller, &mut before, item)?;
-    }
-    Ok(())
-}
-
-// Of two instances of one name the first counts.
-fn calls_where_new<'a>(
-    alloc: Global,
-    named: &Named<'_>,
-    calls: &mut Vec<Call<'a>>,
-    caller: usize,
-    before: &mut IndexSet<Name>,
-    instance: &'a InstanceText,
-) -> Result<(), AllocError>
-    ensures { OnOk result (AddsInstance named.now.instances.now caller calls.old.items before.old.keys instance.now calls.new.items before.new.keys) }
-{
-    if enter(alloc, before, &instance.name.name)? {
+    if stands_before(table.index(&instance.name.name), i) {
         return Ok(());
     }
-    instance_calls(alloc, named, calls, caller, instance)?;
+    let items = ItemTable::new(alloc, instance.items.as_slice())?;
+    items_calls(table, calls, i, &items)?;
     Ok(())
 }
 
-fn all_calls<'a>(alloc: Global, named: &Named<'a>) -> Result<Vec<Call<'a>>, AllocError>
-    ensures { IfOk result (λ calls. calls.items ≡ calls_among named.now.instances.now) }
+fn all_calls<'a>(alloc: Global, table: &InstanceTable<'a>) -> Result<Vec<Call<'a>>, AllocError>
+    ensures { IfOk result (λ calls. calls.items ≡ calls_among table.now.instances.now) }
 {
     let mut calls = Vec::new(alloc);
-    let mut before = IndexSet::new(alloc);
-    for (i, instance) in named.instances.iter().enumerate() {
-        calls_where_new(alloc, named, &mut calls, i, &mut before, instance)?;
+    for (i, instance) in table.instances.iter().enumerate() {
+        instance_calls(alloc, table, &mut calls, i, instance)?;
     }
     Ok(calls)
 }
@@ -130,11 +127,11 @@ pub struct CallList<'a> {
 
 impl<'a> CallList<'a> {
     #[tactic(auto, using(crate::proofs::Gathered::all_within))]
-    pub fn new(alloc: Global, named: &Named<'a>) -> Result<CallList<'a>, AllocError>
-        ensures { IfOk result (λ list. list.calls.items ≡ calls_among named.now.instances.now) }
+    pub fn new(alloc: Global, table: &InstanceTable<'a>) -> Result<CallList<'a>, AllocError>
+        ensures { IfOk result (λ list. list.calls.items ≡ calls_among table.now.instances.now) }
     {
-        let calls = all_calls(alloc, named)?;
-        let count = named.instances.len();
+        let calls = all_calls(alloc, table)?;
+        let count = table.instances.len();
         Ok(CallList { calls, count })
     }
 }

@@ -1,50 +1,44 @@
-//! The first call on a cycle of calls, as a fault.
+//! The first call on a cycle of calls.
 
-ghost use Rattle.std.specs.Prelude.{◌≡◌, IfOk};
-ghost use Rattle.std.specs.Option.{option_copied, option_map};
-ghost use Rattle.sq_text.specs.Answers.{fault_place};
-ghost use Rattle.sq_text.specs.First.{IsFirst, HoldsIn};
-ghost use Rattle.sq_mapfile.specs.Faults.{number};
-ghost use Rattle.sq_mapfile.specs.Cycles.{IsOnCycle};
-ghost use Rattle.sq_mapfile.specs.Graph.{cycle_at, calls_among};
+ghost use Rattle.std.specs.Prelude.{◌≡◌, OnOk, option_map};
+ghost use Rattle.std.specs.Option.{option_copied};
+ghost use Rattle.sq_text.specs.First.{HoldsIn};
+ghost use Rattle.sq_mapfile.specs.Cycles.{IsOnCycle, calls_among, cycle_at};
+ghost use Rattle.sq_mapfile.specs.Walk.{Joins, joined};
 
 use crate::calls::{Call, CallList};
 use crate::graph::Graph;
-use crate::named::Named;
 use crate::ranks::Ranked;
-use sq_text::{Arg, Code, Fault, Phase};
-use sqlite_items::Items;
+use crate::table::InstanceTable;
+use sq_text::{Code, FirstFault, Phase};
 use std::alloc::{AllocError, Global};
 
-fn cycle_fault(alloc: Global, call: &Call<'_>) -> Result<Fault, AllocError>
-    ensures { IfOk result (λ fault. fault ≡ cycle_at call.now) }
+fn note_call(found: &mut FirstFault, call: Option<&Call<'_>>) -> Result<(), AllocError>
+    requires { found.old.phase ≡ Phase.Mapping }
+    ensures { OnOk result (found.new ≡ joined found.old (option_map cycle_at (option_copied call.entry))) }
 {
-    let name = call.name.name.copy(alloc)?;
-    let args = Items::from_vec(vec![in alloc; Arg::Word(name)]?);
-    Ok(Fault {
-        phase: Phase::Mapping,
-        code: Code::Cycle,
-        place: Some(call.name.place),
-        args,
-    })
-}
-
-fn fault_of(alloc: Global, found: Option<&Call<'_>>) -> Result<Option<Fault>, AllocError>
-    ensures { IfOk result (λ fault. fault ≡ option_map cycle_at (option_copied found.entry)) }
-{
-    match found {
-        None => Ok(None),
-        Some(call) => Ok(Some(cycle_fault(alloc, call)?)),
+    match call {
+        None => Ok(()),
+        Some(call) => {
+            found.note_word(Code::Cycle, call.name, true)?;
+            Ok(())
+        }
     }
 }
 
 /// The first call that lies on a cycle of calls.
-pub fn first_cycle_fault(alloc: Global, named: &Named<'_>) -> Result<Option<Fault>, AllocError>
-    ensures { IfOk result (IsFirst fault_place number (HoldsIn (IsOnCycle (calls_among named.now.instances.now)) (calls_among named.now.instances.now))) }
+pub fn note_cycle(
+    alloc: Global,
+    found: &mut FirstFault,
+    table: &InstanceTable<'_>,
+) -> Result<(), AllocError>
+    requires { found.old.phase ≡ Phase.Mapping }
+    ensures { OnOk result (Joins (HoldsIn (IsOnCycle (calls_among table.now.instances.now)) (calls_among table.now.instances.now)) found.old found.new) }
 {
-    let list = CallList::new(alloc, named)?;
+    let list = CallList::new(alloc, table)?;
     let graph = Graph::new(alloc, &list)?;
     let ranked = Ranked::new(alloc, graph)?;
-    let found = ranked.first_on_cycle(alloc)?;
-    fault_of(alloc, found)
+    let call = ranked.first_on_cycle(alloc)?;
+    note_call(found, call)?;
+    Ok(())
 }

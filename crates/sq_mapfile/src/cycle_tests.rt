@@ -2,13 +2,12 @@
 
 use crate::calls::CallList;
 use crate::components::component_numbers;
-use crate::cycle::first_cycle_fault;
+use crate::cycle::note_cycle;
 use crate::graph::Graph;
-use crate::named::Named;
-use crate::tree::{InstanceText, ItemText};
+use crate::table::InstanceTable;
+use crate::text::{InstanceText, ItemText};
 use sq_ast::VariantKind;
-use sq_shapes::Word;
-use sq_text::{Name, Place};
+use sq_text::{FirstFault, Name, Phase, Place, Word};
 use sqlite_items::Items;
 use std::alloc::{AllocError, Global};
 use std::test::Fail;
@@ -66,16 +65,18 @@ fn instances(alloc: Global, texts: &[&[u8]]) -> Result<Vec<InstanceText>, AllocE
 
 fn numbers(alloc: Global, texts: &[&[u8]]) -> Result<Vec<usize>, AllocError> {
     let instances = instances(alloc, texts)?;
-    let named = Named::new(alloc, &instances)?;
-    let list = CallList::new(alloc, &named)?;
+    let table = InstanceTable::new(alloc, &[], &instances)?;
+    let list = CallList::new(alloc, &table)?;
     let graph = Graph::new(alloc, &list)?;
     component_numbers(alloc, &graph)
 }
 
 fn first_place(alloc: Global, texts: &[&[u8]]) -> Result<Option<Place>, AllocError> {
     let instances = instances(alloc, texts)?;
-    let named = Named::new(alloc, &instances)?;
-    match first_cycle_fault(alloc, &named)? {
+    let table = InstanceTable::new(alloc, &[], &instances)?;
+    let mut found = FirstFault::new(alloc, Phase::Mapping);
+    note_cycle(alloc, &mut found, &table)?;
+    match found.finish() {
         None => Ok(None),
         Some(fault) => Ok(fault.place),
     }

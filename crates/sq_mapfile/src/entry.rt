@@ -1,84 +1,84 @@
 //! The rules of the entry and its sizes.
 
-ghost use Rattle.std.specs.Prelude.{◌≡◌, [], OnOk};
+ghost use Rattle.std.specs.Prelude.{◌≡◌, OnOk};
 ghost use Rattle.std.specs.Option.{option_copied};
-ghost use Rattle.sq_mapfile.specs.Names.{with_name};
+ghost use Rattle.sq_text.specs.Found.{Finds};
+ghost use Rattle.sq_mapfile.specs.Names.{instance_of};
 ghost use Rattle.sq_mapfile.specs.Faults as spec;
-ghost use Rattle.sq_mapfile.specs.Wants.{wanted_in};
+ghost use Rattle.sq_mapfile.specs.Faults.{breach_of};
 ghost use Rattle.sq_mapfile.specs.Scopes.{scope_of};
-ghost use Rattle.sq_mapfile.specs.Parts.{size_faults, entered_faults};
-ghost use Rattle.sq_mapfile.specs.Finding.{Finds};
 
-use crate::found::note_again;
-use crate::known::Known;
-use crate::rules::{entry_skip, no_instance, size_missing, size_unknown};
-use crate::tree::{InstanceText, SizeText};
-use crate::wants::Wants;
-use indexmap::IndexSet;
-use sq_shapes::Word;
-use sq_text::{Code, Fault, Name};
+use crate::given::SizeTable;
+use crate::required::Required;
+use crate::rules::{is_below_root, is_no_size, missing_size, stands_before};
+use crate::scope::Scope;
+use crate::text::SizeText;
+use sq_text::{Code, FirstFault, Word};
 use std::alloc::{AllocError, Global};
 
+// The i-th of these sizes.
 fn size(
-    alloc: Global,
-    found: &mut Option<Fault>,
-    wants: Option<&Wants>,
-    before: &mut IndexSet<Name>,
+    found: &mut FirstFault,
+    required: Option<&Required>,
+    sizes: &SizeTable<'_>,
+    i: usize,
     size: &SizeText,
 ) -> Result<(), AllocError>
-    ensures found { OnOk result (Finds found.old found.new (size_faults (wanted_in (option_copied wants.entry)) before.old.keys size.now)) }
-    ensures before { OnOk result (before.new.keys ≡ with_name before.old.keys size.now.name.name) }
+    ensures { OnOk result (Finds breach_of found.old found.new (spec.size_rules (option_copied required.entry) sizes.now.sizes.now i size.now)) }
 {
-    note_again(alloc, found, before, Code::DupItem, &size.name)?;
-    size_unknown(alloc, found, wants, &size.name)?;
+    let is_again = stands_before(sizes.get(&size.name.name), i);
+    let is_unknown = is_no_size(required, &size.name.name);
+    found.note_word(Code::DupItem, &size.name, is_again)?;
+    found.note_word(Code::SizeUnknown, &size.name, is_unknown)?;
     Ok(())
 }
 
 fn sizes(
-    alloc: Global,
-    found: &mut Option<Fault>,
-    wants: Option<&Wants>,
-    list: &[SizeText],
+    found: &mut FirstFault,
+    required: Option<&Required>,
+    table: &SizeTable<'_>,
 ) -> Result<(), AllocError>
-    ensures { OnOk result (Finds found.old found.new (spec.sizes_faults (wanted_in (option_copied wants.entry)) [] list.now)) }
+    ensures { OnOk result (Finds breach_of found.old found.new (spec.sizes_rules (option_copied required.entry) table.now.sizes.now 0 table.now.sizes.now)) }
 {
-    let mut before = IndexSet::new(alloc);
-    for x in list {
-        size(alloc, found, wants, &mut before, x)?;
+    for (i, x) in table.sizes.iter().enumerate() {
+        size(found, required, table, i, x)?;
     }
     Ok(())
 }
 
-// The faults at the name of the entry, which is this instance where the file has it.
+// The name of the entry, which is this instance where the file has it.
 fn entered(
-    alloc: Global,
-    found: &mut Option<Fault>,
-    known: &Known<'_>,
-    instance: Option<&InstanceText>,
+    found: &mut FirstFault,
+    scope: &Scope<'_>,
+    required: Option<&Required>,
     name: &Word,
-    list: &[SizeText],
+    sizes: &SizeTable<'_>,
 ) -> Result<(), AllocError>
-    ensures { OnOk result (Finds found.old found.new (entered_faults (scope_of known.now) (option_copied instance.entry) name.now list.now)) }
+    requires { option_copied required ≡ spec.required_at (scope_of scope.now) (instance_of (scope_of scope.now).instances name.now.name) }
+    ensures { OnOk result (Finds breach_of found.old found.new (spec.entered_rules (scope_of scope.now) (instance_of (scope_of scope.now).instances name.now.name) name.now sizes.now.sizes.now)) }
 {
-    no_instance(alloc, found, known.named, name)?;
-    entry_skip(alloc, found, known.level_at(instance), name)?;
-    size_missing(alloc, found, known.wants_at(instance), name, list)?;
+    let is_unknown = scope.index(&name.name).is_none();
+    let is_below = is_below_root(scope.level_of_instance(&name.name));
+    let missing = missing_size(required, sizes);
+    found.note_word(Code::NoInstance, name, is_unknown)?;
+    found.note_word(Code::LevelSkip, name, is_below)?;
+    found.note_lack(Code::SizeMissing, name, missing)?;
     Ok(())
 }
 
 /// The entry and its sizes.
 pub fn entry(
     alloc: Global,
-    found: &mut Option<Fault>,
-    known: &Known<'_>,
-    instance: Option<&InstanceText>,
+    found: &mut FirstFault,
+    scope: &Scope<'_>,
     name: &Word,
     list: &[SizeText],
 ) -> Result<(), AllocError>
-    ensures { OnOk result (Finds found.old found.new (spec.entry_faults (scope_of known.now) (option_copied instance.entry) name.now list.now)) }
+    ensures { OnOk result (Finds breach_of found.old found.new (spec.entry_rules (scope_of scope.now) (instance_of (scope_of scope.now).instances name.now.name) name.now list.now)) }
 {
-    entered(alloc, found, known, instance, name, list)?;
-    let wants = known.wants_at(instance);
-    sizes(alloc, found, wants, list)?;
+    let required = scope.required_at(scope.instance(&name.name));
+    let table = SizeTable::new(alloc, list)?;
+    entered(found, scope, required, name, &table)?;
+    sizes(found, required, &table)?;
     Ok(())
 }

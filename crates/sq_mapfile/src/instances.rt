@@ -1,101 +1,92 @@
 //! The rules of the instances.
 
-ghost use Rattle.std.specs.Prelude.{◌≡◌, [], OnOk};
+ghost use Rattle.std.specs.Prelude.{◌≡◌, OnOk};
 ghost use Rattle.std.specs.Option.{option_copied};
-ghost use Rattle.sq_mapfile.specs.Names.{with_name};
+ghost use Rattle.sq_text.specs.Found.{firsts, Finds};
 ghost use Rattle.sq_mapfile.specs.Faults as spec;
-ghost use Rattle.sq_mapfile.specs.Wants.{wanted_in};
+ghost use Rattle.sq_mapfile.specs.Faults.{breach_of};
 ghost use Rattle.sq_mapfile.specs.Scopes.{scope_of};
-ghost use Rattle.sq_mapfile.specs.Parts.{named_faults, head_faults, inner_faults};
-ghost use Rattle.sq_mapfile.specs.Finding.{firsts, Finds};
+ghost use Rattle.sq_mapfile.specs.Walk.{name_of_rules, place_of_rules};
 
-use crate::found::note_again;
-use crate::items::items;
-use crate::known::{Known, level_of};
-use crate::rules::{call_missing, no_level, no_task, no_variant, tunable_missing};
-use crate::tree::InstanceText;
-use crate::wants::Wants;
-use indexmap::IndexSet;
-use sq_text::{Code, Fault, Name};
+use crate::given::ItemTable;
+use crate::items::Inside;
+use crate::required::Required;
+use crate::rules::{missing_call, missing_tunable, stands_before};
+use crate::scope::Scope;
+use crate::text::InstanceText;
+use sq_text::{Code, FirstFault};
 use std::alloc::{AllocError, Global};
 
-// The faults at the name of an instance.
-fn named(
-    alloc: Global,
-    found: &mut Option<Fault>,
-    wants: Option<&Wants>,
-    before: &mut IndexSet<Name>,
+// The name of the i-th instance.
+fn name(
+    found: &mut FirstFault,
+    scope: &Scope<'_>,
+    required: Option<&Required>,
+    i: usize,
     x: &InstanceText,
+    items: &ItemTable<'_>,
 ) -> Result<(), AllocError>
-    ensures found { OnOk result (Finds found.old found.new (named_faults (wanted_in (option_copied wants.entry)) before.old.keys x.now)) }
-    ensures before { OnOk result (before.new.keys ≡ with_name before.old.keys x.now.name.name) }
+    requires { items.now.items.now ≡ x.now.items }
+    ensures { OnOk result (Finds breach_of found.old found.new (name_of_rules (scope_of scope.now) (option_copied required.entry) i x.now)) }
 {
-    let items = x.items.as_slice();
-    note_again(alloc, found, before, Code::DupInstance, &x.name)?;
-    call_missing(alloc, found, wants, &x.name, items)?;
-    tunable_missing(alloc, found, wants, &x.name, items)?;
+    let is_again = stands_before(scope.index(&x.name.name), i);
+    let call = missing_call(required, items);
+    let tunable = missing_tunable(required, items);
+    found.note_word(Code::DupInstance, &x.name, is_again)?;
+    found.note_lack(Code::CallMissing, &x.name, call)?;
+    found.note_lack(Code::TunableMissing, &x.name, tunable)?;
     Ok(())
 }
 
-// The faults at its task and its level.
-fn head(
-    alloc: Global,
-    found: &mut Option<Fault>,
-    known: &Known<'_>,
-    x: &InstanceText,
-) -> Result<(), AllocError>
-    ensures { OnOk result (Finds found.old found.new (head_faults (scope_of known.now) x.now)) }
+// Its task and its level.
+fn place(found: &mut FirstFault, scope: &Scope<'_>, x: &InstanceText) -> Result<(), AllocError>
+    ensures { OnOk result (Finds breach_of found.old found.new (place_of_rules (scope_of scope.now) x.now)) }
 {
-    no_task(alloc, found, known.tasks, &x.task)?;
-    no_variant(alloc, found, known.tasks, &x.task, x.kind)?;
-    no_level(alloc, found, known.levels, &x.level)?;
+    let is_no_task = scope.lacks_task(&x.task.name);
+    let is_no_variant = scope.lacks_variant(&x.task.name, x.kind);
+    let is_no_level = scope.level(&x.level.name).is_none();
+    found.note_word(Code::NoTask, &x.task, is_no_task)?;
+    found.note_word(Code::NoVariant, &x.task, is_no_variant)?;
+    found.note_word(Code::NoLevel, &x.level, is_no_level)?;
     Ok(())
 }
 
-// The faults of its head and its items.
-fn inner(
-    alloc: Global,
-    found: &mut Option<Fault>,
-    known: &Known<'_>,
-    wants: Option<&Wants>,
-    x: &InstanceText,
-) -> Result<(), AllocError>
-    ensures { OnOk result (Finds found.old found.new (inner_faults (scope_of known.now) (wanted_in (option_copied wants.entry)) x.now)) }
-{
-    head(alloc, found, known, x)?;
-    let level = level_of(known.levels, &x.level.name);
-    items(alloc, found, known, wants, level, x.items.as_slice())?;
-    Ok(())
-}
-
+// The i-th instance.
 fn instance(
     alloc: Global,
-    found: &mut Option<Fault>,
-    known: &Known<'_>,
-    before: &mut IndexSet<Name>,
+    found: &mut FirstFault,
+    scope: &Scope<'_>,
+    i: usize,
     x: &InstanceText,
 ) -> Result<(), AllocError>
-    ensures found { OnOk result (Finds found.old found.new (spec.instance_faults (scope_of known.now) before.old.keys x.now)) }
-    ensures before { OnOk result (before.new.keys ≡ with_name before.old.keys x.now.name.name) }
+    ensures { OnOk result (Finds breach_of found.old found.new (spec.instance_rules (scope_of scope.now) i x.now)) }
 {
-    let wants = known.wants_of(x);
-    named(alloc, found, wants, before, x)?;
-    inner(alloc, found, known, wants, x)?;
+    let required = scope.required_of(x);
+    let items = ItemTable::new(alloc, x.items.as_slice())?;
+    let inside = Inside {
+        scope,
+        required,
+        level: scope.level(&x.level.name),
+        kind: x.kind,
+        items: &items,
+    };
+    name(found, scope, required, i, x, &items)?;
+    place(found, scope, x)?;
+    inside.items(found)?;
     Ok(())
 }
 
 /// All instances.
 pub fn instances(
     alloc: Global,
-    found: &mut Option<Fault>,
-    known: &Known<'_>,
+    found: &mut FirstFault,
+    scope: &Scope<'_>,
     list: &[InstanceText],
 ) -> Result<(), AllocError>
-    ensures { OnOk result (found.new ≡ firsts found.old (spec.instances_faults (scope_of known.now) [] list.now)) }
+    ensures { OnOk result (found.new ≡ firsts breach_of found.old (spec.instances_rules (scope_of scope.now) 0 list.now)) }
 {
-    let mut before = IndexSet::new(alloc);
-    for x in list {
-        instance(alloc, found, known, &mut before, x)?;
+    for (i, x) in list.iter().enumerate() {
+        instance(alloc, found, scope, i, x)?;
     }
     Ok(())
 }

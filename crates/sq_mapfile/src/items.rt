@@ -1,127 +1,115 @@
 //! The rules of the items of an instance.
 
-ghost use Rattle.std.specs.Prelude.{◌≡◌, [], OnOk};
+ghost use Rattle.std.specs.Prelude.{◌≡◌, OnOk};
 ghost use Rattle.std.specs.Option.{option_copied};
-ghost use Rattle.sq_mapfile.specs.Names.{with_name};
+ghost use Rattle.sq_text.specs.Found.{Finds};
 ghost use Rattle.sq_mapfile.specs.Faults as spec;
-ghost use Rattle.sq_mapfile.specs.Wants.{wanted_in};
-ghost use Rattle.sq_mapfile.specs.Scopes.{scope_of};
-ghost use Rattle.sq_mapfile.specs.Parts.{tunable_faults, call_faults, callee_faults};
-ghost use Rattle.sq_mapfile.specs.Finding.{Finds};
+ghost use Rattle.sq_mapfile.specs.Faults.{breach_of};
+ghost use Rattle.sq_mapfile.specs.Walk.{inside_of, tunable_rules, called_rules, callee_rules, spread_rules};
 
-use crate::found::note_again;
-use crate::known::Known;
+use crate::given::ItemTable;
 use crate::mapping::Setting;
+use crate::required::Required;
 use crate::rules::{
-    call_task, call_unknown, level_skip, no_instance, tunable_kind, tunable_unknown,
+    is_leaf, is_no_tunable, is_of_other_task, is_other_kind, is_skip, is_uncalled, stands_before,
 };
-use crate::tree::ItemText;
-use crate::wants::Wants;
-use indexmap::IndexSet;
-use sq_shapes::Word;
-use sq_text::{Code, Fault, Name};
-use std::alloc::{AllocError, Global};
+use crate::scope::Scope;
+use crate::text::ItemText;
+use sq_ast::VariantKind;
+use sq_text::{Code, FirstFault, Word};
+use std::alloc::AllocError;
 
-// The names of the items before one.
+/// What is known where the items of an instance stand.
 #[derive(Drop)]
-struct Seen {
-    tunables: IndexSet<Name>,
-    calls: IndexSet<Name>,
+pub struct Inside<'a> {
+    pub scope: &'a Scope<'a>,
+    pub required: Option<&'a Required>,
+    pub level: Option<usize>,
+    pub kind: VariantKind,
+    pub items: &'a ItemTable<'a>,
 }
 
-fn tunable(
-    alloc: Global,
-    found: &mut Option<Fault>,
-    wants: Option<&Wants>,
-    seen: &mut IndexSet<Name>,
-    name: &Word,
-    setting: &Setting,
-) -> Result<(), AllocError>
-    ensures found { OnOk result (Finds found.old found.new (tunable_faults (wanted_in (option_copied wants.entry)) seen.old.keys name.now setting.now)) }
-    ensures seen { OnOk result (seen.new.keys ≡ with_name seen.old.keys name.now.name) }
-{
-    note_again(alloc, found, seen, Code::DupItem, name)?;
-    tunable_unknown(alloc, found, wants, name)?;
-    tunable_kind(alloc, found, wants, name, setting)?;
-    Ok(())
-}
+impl<'a> Inside<'a> {
+    // The i-th item, which is for a tunable.
+    fn tunable(
+        &self,
+        found: &mut FirstFault,
+        i: usize,
+        name: &Word,
+        setting: &Setting,
+    ) -> Result<(), AllocError>
+        ensures { OnOk result (Finds breach_of found.old found.new (tunable_rules (inside_of self.now) i name.now setting.now)) }
+    {
+        let is_again = stands_before(self.items.tunable(&name.name), i);
+        let is_unknown = is_no_tunable(self.required, &name.name);
+        let is_other = is_other_kind(self.required, &name.name, setting);
+        found.note_word(Code::DupItem, name, is_again)?;
+        found.note_word(Code::TunableUnknown, name, is_unknown)?;
+        found.note_word(Code::TunableKind, name, is_other)?;
+        Ok(())
+    }
 
-// The instance that is named for a task, beside the caller's level.
-fn callee(
-    alloc: Global,
-    found: &mut Option<Fault>,
-    known: &Known<'_>,
-    level: Option<usize>,
-    task: &Word,
-    name: &Word,
-) -> Result<(), AllocError>
-    ensures { OnOk result (Finds found.old found.new (callee_faults (scope_of known.now) level task.now name.now)) }
-{
-    let callee = known.named.get(&name.name);
-    no_instance(alloc, found, known.named, name)?;
-    call_task(alloc, found, callee, task, name)?;
-    level_skip(alloc, found, level, known.level_at(callee), name)?;
-    Ok(())
-}
+    // The task for which the i-th item names an instance.
+    fn called(&self, found: &mut FirstFault, i: usize, task: &Word) -> Result<(), AllocError>
+        ensures { OnOk result (Finds breach_of found.old found.new (called_rules (inside_of self.now) i task.now)) }
+    {
+        let is_again = stands_before(self.items.call(&task.name), i);
+        let is_unknown = is_uncalled(self.required, &task.name);
+        found.note_word(Code::DupItem, task, is_again)?;
+        found.note_word(Code::CallUnknown, task, is_unknown)?;
+        Ok(())
+    }
 
-fn call(
-    alloc: Global,
-    found: &mut Option<Fault>,
-    wants: Option<&Wants>,
-    seen: &mut IndexSet<Name>,
-    task: &Word,
-) -> Result<(), AllocError>
-    ensures found { OnOk result (Finds found.old found.new (call_faults (wanted_in (option_copied wants.entry)) seen.old.keys task.now)) }
-    ensures seen { OnOk result (seen.new.keys ≡ with_name seen.old.keys task.now.name) }
-{
-    note_again(alloc, found, seen, Code::DupItem, task)?;
-    call_unknown(alloc, found, wants, task)?;
-    Ok(())
-}
+    // The instance that is named for a task.
+    fn callee(&self, found: &mut FirstFault, task: &Word, name: &Word) -> Result<(), AllocError>
+        ensures { OnOk result (Finds breach_of found.old found.new (callee_rules (inside_of self.now) task.now name.now)) }
+    {
+        let is_unknown = self.scope.index(&name.name).is_none();
+        let is_other = is_of_other_task(self.scope.instance(&name.name), &task.name);
+        let is_far = is_skip(self.level, self.scope.level_of_instance(&name.name));
+        found.note_word(Code::NoInstance, name, is_unknown)?;
+        found.note_word(Code::CallTask, name, is_other)?;
+        found.note_word(Code::LevelSkip, name, is_far)?;
+        Ok(())
+    }
 
-fn item(
-    alloc: Global,
-    found: &mut Option<Fault>,
-    known: &Known<'_>,
-    wants: Option<&Wants>,
-    level: Option<usize>,
-    seen: &mut Seen,
-    item: &ItemText,
-) -> Result<(), AllocError>
-    ensures found { OnOk result (Finds found.old found.new (spec.item_faults (scope_of known.now) (wanted_in (option_copied wants.entry)) level seen.old.tunables.keys seen.old.calls.keys item.now)) }
-    ensures tunables { OnOk result (seen.new.tunables.keys ≡ spec.after_tunable seen.old.tunables.keys item.now) }
-    ensures calls { OnOk result (seen.new.calls.keys ≡ spec.after_call seen.old.calls.keys item.now) }
-{
-    match item {
-        ItemText::Tunable { name, setting } => {
-            tunable(alloc, found, wants, &mut seen.tunables, name, setting)?;
-            Ok(())
-        }
-        ItemText::Call { task, instance } => {
-            call(alloc, found, wants, &mut seen.calls, task)?;
-            callee(alloc, found, known, level, task, instance)?;
-            Ok(())
+    // The i-th item, which chooses how to spread.
+    fn spread(&self, found: &mut FirstFault, i: usize, word: &Word) -> Result<(), AllocError>
+        ensures { OnOk result (Finds breach_of found.old found.new (spread_rules (inside_of self.now) i word.now)) }
+    {
+        let is_again = stands_before(self.items.spread(), i);
+        found.note_word(Code::DupItem, word, is_again)?;
+        found.note_place(Code::SpreadLeaf, word.place, is_leaf(self.kind));
+        Ok(())
+    }
+
+    fn item(&self, found: &mut FirstFault, i: usize, item: &ItemText) -> Result<(), AllocError>
+        ensures { OnOk result (Finds breach_of found.old found.new (spec.item_rules (inside_of self.now) i item.now)) }
+    {
+        match item {
+            ItemText::Tunable { name, setting } => {
+                self.tunable(found, i, name, setting)?;
+                Ok(())
+            }
+            ItemText::Call { task, instance } => {
+                self.called(found, i, task)?;
+                self.callee(found, task, instance)?;
+                Ok(())
+            }
+            ItemText::Spread { word, .. } => {
+                self.spread(found, i, word)?;
+                Ok(())
+            }
         }
     }
-}
 
-/// The items of an instance at this level.
-pub fn items(
-    alloc: Global,
-    found: &mut Option<Fault>,
-    known: &Known<'_>,
-    wants: Option<&Wants>,
-    level: Option<usize>,
-    list: &[ItemText],
-) -> Result<(), AllocError>
-    ensures { OnOk result (Finds found.old found.new (spec.items_faults (scope_of known.now) (wanted_in (option_copied wants.entry)) level [] [] list.now)) }
-{
-    let mut seen = Seen {
-        tunables: IndexSet::new(alloc),
-        calls: IndexSet::new(alloc),
-    };
-    for x in list {
-        item(alloc, found, known, wants, level, &mut seen, x)?;
+    /// All items.
+    pub fn items(&self, found: &mut FirstFault) -> Result<(), AllocError>
+        ensures { OnOk result (Finds breach_of found.old found.new (spec.items_rules (inside_of self.now) 0 self.now.items.now.items.now)) }
+    {
+        for (i, item) in self.items.items.iter().enumerate() {
+            self.item(found, i, item)?;
+        }
+        Ok(())
     }
-    Ok(())
 }

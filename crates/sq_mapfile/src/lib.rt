@@ -5,23 +5,22 @@ mod calls;
 mod components;
 mod cycle;
 mod entry;
-mod first;
-mod found;
 mod given;
 mod graph;
 mod instances;
 mod items;
-mod known;
 mod mapping;
-mod named;
 mod ranks;
 mod reader;
 mod reading;
+mod required;
 mod resolve;
 mod rules;
+mod scope;
+mod table;
 mod tasks;
-mod tree;
-mod wants;
+mod text;
+mod walk;
 
 pub use mapping::{
     Instance, Instances, Mapping, Numbers, Route, Routes, Setting, SizeSet, SizeSets, Tuning,
@@ -31,5 +30,3 @@ pub use reader::read_mapping;
 
 #[cfg(test)]
 mod cycle_tests;
-#[cfg(test)]
-mod tests;

@@ -1,7 +1,7 @@
 //! What a mapping file stands for, with the names of instances and levels resolved.
 
 use sq_ast::VariantKind;
-use sq_text::Name;
+use sq_text::{Name, SpreadRule};
 use sqlite_items::Items;
 
 /// The value of a tunable.
@@ -36,6 +36,8 @@ pub struct Instance {
     pub level: u32,
     pub tunings: Tunings,
     pub routes: Routes,
+    /// How the maps of an inner instance go to the children of a node. A leaf has none.
+    pub spread: SpreadRule,
 }
 
 /// The value of one of the entry's size names.

@@ -6,61 +6,75 @@ ghost use Rattle.sq_lexer.specs.Tokens.{HasEnd};
 ghost use Rattle.sq_mapfile.specs.Grammar.{IsText};
 ghost use Rattle.sq_mapfile.specs.Mappings.{IsSyntaxFault};
 ghost use Rattle.sq_mapfile.specs.Reading as spec;
-ghost use Rattle.sq_shapes.specs.Reading.{Reads};
+ghost use Rattle.sq_shapes.specs.Reading.{Reads, ReadsFront};
 
 use crate::mapping::{Numbers, Setting};
-use crate::tree::{InstanceText, ItemText, MappingText, SizeText};
+use crate::text::{InstanceText, ItemText, MappingText, SizeText, Version};
 use sq_ast::VariantKind;
 use sq_lexer::{Sign, Token};
-use sq_shapes::{ReadError, Shape, Tokens, Word, number_at, syntax_fault, word_at};
-use sq_text::{Phase, Stop};
+use sq_shapes::{Pattern, ReadError, Tokens, number_at, syntax_fault, word_at};
+use sq_text::{Phase, SpreadRule, Stop, Word};
 use sqlite_items::Items;
 use std::alloc::{AllocError, Global};
 
-const HEAD: [Shape; 6] = [
-    Shape::Mapping,
-    Shape::One,
-    Shape::Sign(Sign::Semi),
-    Shape::Entry,
-    Shape::AnyWord,
-    Shape::Sign(Sign::ParenOpen),
+// Behind the word `mapping`.
+const FIRST_HEAD: [Pattern; 5] = [
+    Pattern::Exactly(1),
+    Pattern::Sign(Sign::Semi),
+    Pattern::Entry,
+    Pattern::AnyWord,
+    Pattern::Sign(Sign::ParenOpen),
 ];
 
-const SIZE: [Shape; 3] = [Shape::AnyWord, Shape::Sign(Sign::Set), Shape::AnyNumber];
-
-const NEXT_SIZE: [Shape; 4] = [
-    Shape::Sign(Sign::Comma),
-    Shape::AnyWord,
-    Shape::Sign(Sign::Set),
-    Shape::AnyNumber,
+const SECOND_HEAD: [Pattern; 5] = [
+    Pattern::Exactly(2),
+    Pattern::Sign(Sign::Semi),
+    Pattern::Entry,
+    Pattern::AnyWord,
+    Pattern::Sign(Sign::ParenOpen),
 ];
 
-const SIZES_END: [Shape; 2] = [Shape::Sign(Sign::ParenClose), Shape::Sign(Sign::Semi)];
-
-const MINUS: [Shape; 2] = [Shape::Sign(Sign::Minus), Shape::AnyNumber];
-
-const TUNABLE: [Shape; 3] = [Shape::Tunable, Shape::AnyWord, Shape::Sign(Sign::Set)];
-
-const CALL: [Shape; 5] = [
-    Shape::Call,
-    Shape::AnyWord,
-    Shape::Sign(Sign::Arrow),
-    Shape::AnyWord,
-    Shape::Sign(Sign::Semi),
+const SIZE: [Pattern; 3] = [
+    Pattern::AnyWord,
+    Pattern::Sign(Sign::Set),
+    Pattern::AnyNumber,
 ];
 
-const INSTANCE: [Shape; 5] = [
-    Shape::Instance,
-    Shape::AnyWord,
-    Shape::Sign(Sign::Set),
-    Shape::AnyWord,
-    Shape::Sign(Sign::Path),
+const NEXT_SIZE: [Pattern; 4] = [
+    Pattern::Sign(Sign::Comma),
+    Pattern::AnyWord,
+    Pattern::Sign(Sign::Set),
+    Pattern::AnyNumber,
 ];
 
-const LEVEL: [Shape; 3] = [
-    Shape::Sign(Sign::At),
-    Shape::AnyWord,
-    Shape::Sign(Sign::BraceOpen),
+const SIZES_END: [Pattern; 2] = [Pattern::Sign(Sign::ParenClose), Pattern::Sign(Sign::Semi)];
+
+const MINUS: [Pattern; 2] = [Pattern::Sign(Sign::Minus), Pattern::AnyNumber];
+
+const TUNABLE: [Pattern; 3] = [Pattern::Tunable, Pattern::AnyWord, Pattern::Sign(Sign::Set)];
+
+const CALL: [Pattern; 5] = [
+    Pattern::Call,
+    Pattern::AnyWord,
+    Pattern::Sign(Sign::Arrow),
+    Pattern::AnyWord,
+    Pattern::Sign(Sign::Semi),
+];
+
+const SPREAD: [Pattern; 2] = [Pattern::Spread, Pattern::Sign(Sign::Set)];
+
+const INSTANCE: [Pattern; 5] = [
+    Pattern::Instance,
+    Pattern::AnyWord,
+    Pattern::Sign(Sign::Set),
+    Pattern::AnyWord,
+    Pattern::Sign(Sign::Path),
+];
+
+const LEVEL: [Pattern; 3] = [
+    Pattern::Sign(Sign::At),
+    Pattern::AnyWord,
+    Pattern::Sign(Sign::BraceOpen),
 ];
 
 // ---- sizes
@@ -102,7 +116,7 @@ fn more_sizes(
     let mut found = Items::new(alloc);
     found.push(first)?;
     for _turn in 0..tokens.len() {
-        if tokens.sees(Shape::Sign(Sign::ParenClose)) {
+        if tokens.sees(Pattern::Sign(Sign::ParenClose)) {
             return Ok(found);
         }
         let next = next_size(alloc, tokens)?;
@@ -114,7 +128,7 @@ fn more_sizes(
 fn sizes(alloc: Global, tokens: &mut Tokens<'_>) -> Result<Items<SizeText>, ReadError>
     ensures { Reads (spec.sizes tokens.old) result tokens.new }
 {
-    if tokens.sees(Shape::Sign(Sign::ParenClose)) {
+    if tokens.sees(Pattern::Sign(Sign::ParenClose)) {
         return Ok(Items::new(alloc));
     }
     let first = first_size(alloc, tokens)?;
@@ -133,14 +147,14 @@ fn negative(tokens: &mut Tokens<'_>) -> Result<i64, ReadError>
 fn plain(tokens: &mut Tokens<'_>) -> Result<i64, ReadError>
     ensures { Reads (spec.plain tokens.old) result tokens.new }
 {
-    let read = tokens.all(&[Shape::AnyNumber])?;
+    let read = tokens.all(&[Pattern::AnyNumber])?;
     Ok(number_at(read, 0))
 }
 
 fn value(tokens: &mut Tokens<'_>) -> Result<i64, ReadError>
     ensures { Reads (spec.value tokens.old) result tokens.new }
 {
-    if tokens.sees(Shape::Sign(Sign::Minus)) {
+    if tokens.sees(Pattern::Sign(Sign::Minus)) {
         return negative(tokens);
     }
     plain(tokens)
@@ -149,7 +163,7 @@ fn value(tokens: &mut Tokens<'_>) -> Result<i64, ReadError>
 fn next_value(tokens: &mut Tokens<'_>) -> Result<i64, ReadError>
     ensures { Reads (spec.next_value tokens.old) result tokens.new }
 {
-    let _comma = tokens.all(&[Shape::Sign(Sign::Comma)])?;
+    let _comma = tokens.all(&[Pattern::Sign(Sign::Comma)])?;
     value(tokens)
 }
 
@@ -161,7 +175,7 @@ fn more_values(alloc: Global, tokens: &mut Tokens<'_>, first: i64) -> Result<Num
     let mut found = Items::new(alloc);
     found.push(first)?;
     for _turn in 0..tokens.len() {
-        if tokens.sees(Shape::Sign(Sign::BracketClose)) {
+        if tokens.sees(Pattern::Sign(Sign::BracketClose)) {
             return Ok(found);
         }
         let next = next_value(tokens)?;
@@ -173,7 +187,7 @@ fn more_values(alloc: Global, tokens: &mut Tokens<'_>, first: i64) -> Result<Num
 fn values(alloc: Global, tokens: &mut Tokens<'_>) -> Result<Numbers, ReadError>
     ensures { Reads (spec.values tokens.old) result tokens.new }
 {
-    if tokens.sees(Shape::Sign(Sign::BracketClose)) {
+    if tokens.sees(Pattern::Sign(Sign::BracketClose)) {
         return Ok(Items::new(alloc));
     }
     let first = value(tokens)?;
@@ -183,16 +197,16 @@ fn values(alloc: Global, tokens: &mut Tokens<'_>) -> Result<Numbers, ReadError>
 fn many(alloc: Global, tokens: &mut Tokens<'_>) -> Result<Setting, ReadError>
     ensures { Reads (spec.many tokens.old) result tokens.new }
 {
-    let _open = tokens.all(&[Shape::Sign(Sign::BracketOpen)])?;
+    let _open = tokens.all(&[Pattern::Sign(Sign::BracketOpen)])?;
     let numbers = values(alloc, tokens)?;
-    let _close = tokens.all(&[Shape::Sign(Sign::BracketClose)])?;
+    let _close = tokens.all(&[Pattern::Sign(Sign::BracketClose)])?;
     Ok(Setting::Many(numbers))
 }
 
 fn setting(alloc: Global, tokens: &mut Tokens<'_>) -> Result<Setting, ReadError>
     ensures { Reads (spec.setting tokens.old) result tokens.new }
 {
-    if tokens.sees(Shape::Sign(Sign::BracketOpen)) {
+    if tokens.sees(Pattern::Sign(Sign::BracketOpen)) {
         return many(alloc, tokens);
     }
     let number = value(tokens)?;
@@ -206,7 +220,7 @@ fn tunable(alloc: Global, tokens: &mut Tokens<'_>) -> Result<ItemText, ReadError
 {
     let read = tokens.all(&TUNABLE)?;
     let setting = setting(alloc, tokens)?;
-    let _semi = tokens.all(&[Shape::Sign(Sign::Semi)])?;
+    let _semi = tokens.all(&[Pattern::Sign(Sign::Semi)])?;
     let name = word_at(alloc, read, 1)?;
     Ok(ItemText::Tunable { name, setting })
 }
@@ -220,25 +234,65 @@ fn call(alloc: Global, tokens: &mut Tokens<'_>) -> Result<ItemText, ReadError>
     Ok(ItemText::Call { task, instance })
 }
 
-fn item(alloc: Global, tokens: &mut Tokens<'_>) -> Result<ItemText, ReadError>
-    ensures { Reads (spec.item tokens.old) result tokens.new }
+fn rule(tokens: &mut Tokens<'_>) -> Result<SpreadRule, ReadError>
+    ensures { Reads (spec.rule tokens.old) result tokens.new }
 {
-    if tokens.sees(Shape::Tunable) {
+    if tokens.sees(Pattern::Cyclic) {
+        let _cyclic = tokens.all(&[Pattern::Cyclic])?;
+        return Ok(SpreadRule::Cyclic);
+    }
+    let _blocked = tokens.all(&[Pattern::Blocked])?;
+    Ok(SpreadRule::Blocked)
+}
+
+fn spread(alloc: Global, tokens: &mut Tokens<'_>) -> Result<ItemText, ReadError>
+    ensures { Reads (spec.spread tokens.old) result tokens.new }
+{
+    let read = tokens.all(&SPREAD)?;
+    let rule = rule(tokens)?;
+    let _semi = tokens.all(&[Pattern::Sign(Sign::Semi)])?;
+    let word = word_at(alloc, read, 0)?;
+    Ok(ItemText::Spread { word, rule })
+}
+
+// An item of either version.
+fn plain_item(alloc: Global, tokens: &mut Tokens<'_>) -> Result<ItemText, ReadError>
+    ensures { Reads (spec.plain_item tokens.old) result tokens.new }
+{
+    if tokens.sees(Pattern::Tunable) {
         return tunable(alloc, tokens);
     }
     call(alloc, tokens)
 }
 
+fn item(alloc: Global, tokens: &mut Tokens<'_>, version: Version) -> Result<ItemText, ReadError>
+    ensures { Reads (spec.item version tokens.old) result tokens.new }
+{
+    match version {
+        Version::First => plain_item(alloc, tokens),
+        Version::Second => {
+            if tokens.sees(Pattern::Spread) {
+                return spread(alloc, tokens);
+            }
+            plain_item(alloc, tokens)
+        }
+    }
+}
+
 #[tactic(auto, unfolding(crate::specs::Reading::items, sq_shapes::specs::Reading::until))]
-fn items(alloc: Global, tokens: &mut Tokens<'_>) -> Result<Items<ItemText>, ReadError>
-    ensures { Reads (spec.items tokens.old) result tokens.new }
+fn items(
+    alloc: Global,
+    tokens: &mut Tokens<'_>,
+    version: Version,
+) -> Result<Items<ItemText>, ReadError>
+    ensures { Reads (spec.items version tokens.old) result tokens.new }
 {
     let mut found = Items::new(alloc);
     for _turn in 0..tokens.len() {
-        if tokens.sees(Shape::Sign(Sign::BraceClose)) {
+        if tokens.sees(Pattern::Sign(Sign::BraceClose)) {
             return Ok(found);
         }
-        let next = item(alloc, tokens)?;
+        let next = item(alloc, tokens, version)?;
         found.push(next)?;
     }
     Ok(found)
@@ -247,11 +301,11 @@ fn items(alloc: Global, tokens: &mut Tokens<'_>) -> Result<Items<ItemText>, Read
 fn kind(tokens: &mut Tokens<'_>) -> Result<VariantKind, ReadError>
     ensures { Reads (spec.kind tokens.old) result tokens.new }
 {
-    if tokens.sees(Shape::Inner) {
-        let _inner = tokens.all(&[Shape::Inner])?;
+    if tokens.sees(Pattern::Inner) {
+        let _inner = tokens.all(&[Pattern::Inner])?;
         return Ok(VariantKind::Inner);
     }
-    let _leaf = tokens.all(&[Shape::Leaf])?;
+    let _leaf = tokens.all(&[Pattern::Leaf])?;
     Ok(VariantKind::Leaf)
 }
 
@@ -277,28 +331,36 @@ fn instance_of(
     })
 }
 
-fn instance(alloc: Global, tokens: &mut Tokens<'_>) -> Result<InstanceText, ReadError>
-    ensures { Reads (spec.instance tokens.old) result tokens.new }
+fn instance(
+    alloc: Global,
+    tokens: &mut Tokens<'_>,
+    version: Version,
+) -> Result<InstanceText, ReadError>
+    ensures { Reads (spec.instance version tokens.old) result tokens.new }
 {
     let head = tokens.all(&INSTANCE)?;
     let kind = kind(tokens)?;
     let level = tokens.all(&LEVEL)?;
-    let items = items(alloc, tokens)?;
-    let _close = tokens.all(&[Shape::Sign(Sign::BraceClose)])?;
+    let items = items(alloc, tokens, version)?;
+    let _close = tokens.all(&[Pattern::Sign(Sign::BraceClose)])?;
     let instance = instance_of(alloc, head, kind, level, items)?;
     Ok(instance)
 }
 
 #[tactic(auto, unfolding(crate::specs::Reading::instances, sq_shapes::specs::Reading::until))]
-fn instances(alloc: Global, tokens: &mut Tokens<'_>) -> Result<Items<InstanceText>, ReadError>
-    ensures { Reads (spec.instances tokens.old) result tokens.new }
+fn instances(
+    alloc: Global,
+    tokens: &mut Tokens<'_>,
+    version: Version,
+) -> Result<Items<InstanceText>, ReadError>
+    ensures { Reads (spec.instances version tokens.old) result tokens.new }
 {
     let mut found = Items::new(alloc);
     for _turn in 0..tokens.len() {
-        if tokens.sees(Shape::End) {
+        if tokens.sees(Pattern::End) {
             return Ok(found);
         }
-        let next = instance(alloc, tokens)?;
+        let next = instance(alloc, tokens, version)?;
         found.push(next)?;
     }
     Ok(found)
@@ -306,24 +368,39 @@ fn instances(alloc: Global, tokens: &mut Tokens<'_>) -> Result<Items<InstanceTex
 
 // ---- the whole
 
-// The name of the entry, and its sizes.
-fn entry(alloc: Global, tokens: &mut Tokens<'_>) -> Result<(Word, Items<SizeText>), ReadError>
-    ensures { Reads (spec.entry tokens.old) result tokens.new }
+// The number of the version and what stands before the sizes.
+fn head<'t>(tokens: &mut Tokens<'t>, version: Version) -> Result<&'t [Token], ReadError>
+    ensures { ReadsFront (spec.head version tokens.old) result tokens.new }
 {
-    let head = tokens.all(&HEAD)?;
+    match version {
+        Version::First => tokens.all(&FIRST_HEAD),
+        Version::Second => tokens.all(&SECOND_HEAD),
+    }
+}
+
+// The name of the entry, and its sizes.
+fn entry(
+    alloc: Global,
+    tokens: &mut Tokens<'_>,
+    version: Version,
+) -> Result<(Word, Items<SizeText>), ReadError>
+    ensures { Reads (spec.entry version tokens.old) result tokens.new }
+{
+    let head = head(tokens, version)?;
     let sizes = sizes(alloc, tokens)?;
     let _close = tokens.all(&SIZES_END)?;
-    let entry = word_at(alloc, head, 4)?;
+    let entry = word_at(alloc, head, 3)?;
     Ok((entry, sizes))
 }
 
-#[tactic(auto, unfolding(crate::specs::Reading::mapping))]
-fn mapping(alloc: Global, tokens: &mut Tokens<'_>) -> Result<MappingText, ReadError>
-    ensures { Reads (spec.mapping tokens.old) result tokens.new }
+// What stands behind the word `mapping`.
+#[tactic(auto, unfolding(crate::specs::Reading::body))]
+fn body(alloc: Global, tokens: &mut Tokens<'_>, version: Version) -> Result<MappingText, ReadError>
+    ensures { Reads (spec.body version tokens.old) result tokens.new }
 {
-    let (entry, sizes) = entry(alloc, tokens)?;
-    let instances = instances(alloc, tokens)?;
-    let _end = tokens.all(&[Shape::End])?;
+    let (entry, sizes) = entry(alloc, tokens, version)?;
+    let instances = instances(alloc, tokens, version)?;
+    let _end = tokens.all(&[Pattern::End])?;
     if tokens.len() > 0 {
         return Err(ReadError::Syntax(tokens.len()));
     }
@@ -332,6 +409,16 @@ fn mapping(alloc: Global, tokens: &mut Tokens<'_>) -> Result<MappingText, ReadEr
         sizes,
         instances,
     })
+}
+
+fn mapping(alloc: Global, tokens: &mut Tokens<'_>) -> Result<MappingText, ReadError>
+    ensures { Reads (spec.mapping tokens.old) result tokens.new }
+{
+    let _word = tokens.all(&[Pattern::Mapping])?;
+    if tokens.sees(Pattern::Exactly(1)) {
+        return body(alloc, tokens, Version::First);
+    }
+    body(alloc, tokens, Version::Second)
 }
 
 /// What the tokens write, or the first token with which no text of the grammar begins.

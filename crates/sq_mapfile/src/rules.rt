@@ -1,142 +1,54 @@
-//! The rules of a mapping, each for one name.
+//! The rules of a mapping that need what is required or known, as tests.
 
-ghost use Rattle.std.specs.Prelude.{◌≡◌, ◌==◌, suc, OnOk};
+ghost use Rattle.std.specs.Prelude.{◌≡◌, ◌==◌, suc};
 ghost use Rattle.std.specs.Option.{option_copied};
+ghost use Rattle.sq_mapfile.specs.Names.{stands_before};
 ghost use Rattle.sq_mapfile.specs.Faults as spec;
-ghost use Rattle.sq_mapfile.specs.Wants.{wanted_in};
-ghost use Rattle.sq_mapfile.specs.Finding.{least};
 
-use crate::found::{note_broken, note_lack};
-use crate::given::{call_names, missing_name, missing_tunable, size_names, tunable_names};
-use crate::known::level_of;
+use crate::given::{ItemTable, SizeTable};
 use crate::mapping::Setting;
-use crate::named::Named;
-use crate::tasks::Tasks;
-use crate::tree::{InstanceText, ItemText, SizeText};
-use crate::wants::Wants;
+use crate::required::Required;
+use crate::text::InstanceText;
 use sq_ast::VariantKind;
-use sq_machfile::Level;
-use sq_shapes::Word;
-use sq_text::{Code, Fault};
-use std::alloc::{AllocError, Global};
+use sq_text::Name;
 
-/// The entry or a call names no instance.
-pub fn no_instance(
-    alloc: Global,
-    found: &mut Option<Fault>,
-    named: &Named<'_>,
-    name: &Word,
-) -> Result<(), AllocError>
-    ensures { OnOk result (found.new ≡ least found.old (spec.no_instance named.now.instances.now name.now)) }
+/// Whether the first item of a name stands before an index.
+pub fn stands_before(first: Option<usize>, i: usize) -> bool
+    ensures { result ≡ stands_before first i }
 {
-    let is_unknown = named.index(&name.name).is_none();
-    note_broken(alloc, found, Code::NoInstance, name, is_unknown)?;
-    Ok(())
-}
-
-/// The task of an instance isn't in the program.
-pub fn no_task(
-    alloc: Global,
-    found: &mut Option<Fault>,
-    tasks: &Tasks<'_>,
-    task: &Word,
-) -> Result<(), AllocError>
-    ensures { OnOk result (found.new ≡ least found.old (spec.no_task tasks.now.variants.now task.now)) }
-{
-    let is_unknown = !tasks.has(&task.name);
-    note_broken(alloc, found, Code::NoTask, task, is_unknown)?;
-    Ok(())
-}
-
-/// The task of an instance hasn't that variant.
-pub fn no_variant(
-    alloc: Global,
-    found: &mut Option<Fault>,
-    tasks: &Tasks<'_>,
-    task: &Word,
-    kind: VariantKind,
-) -> Result<(), AllocError>
-    ensures { OnOk result (found.new ≡ least found.old (spec.no_variant tasks.now.variants.now task.now kind)) }
-{
-    let is_unknown = tasks.has(&task.name) && tasks.lacks(&task.name, kind);
-    note_broken(alloc, found, Code::NoVariant, task, is_unknown)?;
-    Ok(())
-}
-
-/// The machine hasn't that level.
-pub fn no_level(
-    alloc: Global,
-    found: &mut Option<Fault>,
-    levels: &[Level],
-    level: &Word,
-) -> Result<(), AllocError>
-    ensures { OnOk result (found.new ≡ least found.old (spec.no_level levels.now level.now)) }
-{
-    let is_unknown = level_of(levels, &level.name).is_none();
-    note_broken(alloc, found, Code::NoLevel, level, is_unknown)?;
-    Ok(())
-}
-
-/// The variant calls a task for which the instance has no item.
-#[tactic(auto, using(crate::proofs::Least::least_none, crate::proofs::Among::missing_once))]
-pub fn call_missing(
-    alloc: Global,
-    found: &mut Option<Fault>,
-    wants: Option<&Wants>,
-    name: &Word,
-    items: &[ItemText],
-) -> Result<(), AllocError>
-    ensures { OnOk result (found.new ≡ least found.old (spec.call_missing (wanted_in (option_copied wants.entry)) name.now (spec.call_names items.now))) }
-{
-    match wants {
-        None => Ok(()),
-        Some(wants) => {
-            let given = call_names(alloc, items)?;
-            let missing = missing_name(wants.calls.as_slice(), &given);
-            note_lack(alloc, found, Code::CallMissing, name, missing)?;
-            Ok(())
-        }
+    match first {
+        None => false,
+        Some(first) => first < i,
     }
 }
 
-/// An item for a task that the variant doesn't call.
-#[tactic(auto, using(crate::proofs::Least::least_none))]
-pub fn call_unknown(
-    alloc: Global,
-    found: &mut Option<Fault>,
-    wants: Option<&Wants>,
-    task: &Word,
-) -> Result<(), AllocError>
-    ensures { OnOk result (found.new ≡ least found.old (spec.call_unknown (wanted_in (option_copied wants.entry)) task.now)) }
+/// The first task that the variant calls for which the instance has no item.
+pub fn missing_call<'r>(required: Option<&'r Required>, items: &ItemTable<'_>) -> Option<&'r Name>
+    ensures { option_copied result ≡ spec.missing_call (option_copied required.entry) items.now.items.now }
 {
-    match wants {
-        None => Ok(()),
-        Some(wants) => {
-            let is_unknown = !wants.calls.contains(&task.name);
-            note_broken(alloc, found, Code::CallUnknown, task, is_unknown)?;
-            Ok(())
-        }
+    match required {
+        None => None,
+        Some(required) => items.missing_call(required.calls()),
     }
 }
 
-/// The instance that is named for a task is one of another task.
-#[tactic(auto, using(crate::proofs::Least::least_none))]
-pub fn call_task(
-    alloc: Global,
-    found: &mut Option<Fault>,
-    callee: Option<&InstanceText>,
-    task: &Word,
-    name: &Word,
-) -> Result<(), AllocError>
-    ensures { OnOk result (found.new ≡ least found.old (spec.call_task (option_copied callee.entry) task.now name.now)) }
+/// Whether the variant doesn't call this task.
+pub fn is_uncalled(required: Option<&Required>, task: &Name) -> bool
+    ensures { result ≡ spec.is_uncalled (option_copied required.entry) task.now }
 {
-    match callee {
-        None => Ok(()),
-        Some(callee) => {
-            let is_other = !(task.name == callee.task.name);
-            note_broken(alloc, found, Code::CallTask, name, is_other)?;
-            Ok(())
-        }
+    match required {
+        None => false,
+        Some(required) => !required.is_called(task),
+    }
+}
+
+/// Whether the instance is one of another task.
+pub fn is_of_other_task(instance: Option<&InstanceText>, task: &Name) -> bool
+    ensures { result ≡ spec.is_of_other_task (option_copied instance.entry) task.now }
+{
+    match instance {
+        None => false,
+        Some(instance) => !(*task == instance.task.name),
     }
 }
 
@@ -147,85 +59,45 @@ fn is_next(level: usize, above: usize) -> bool
     level > above && level - above == 1
 }
 
-/// The callee's level is neither the caller's nor the next.
-#[tactic(auto, using(crate::proofs::Least::least_none))]
-pub fn level_skip(
-    alloc: Global,
-    found: &mut Option<Fault>,
-    caller: Option<usize>,
-    callee: Option<usize>,
-    name: &Word,
-) -> Result<(), AllocError>
-    ensures { OnOk result (found.new ≡ least found.old (spec.level_skip caller callee name.now)) }
+/// Whether the callee's level is neither the caller's nor the next.
+pub fn is_skip(caller: Option<usize>, callee: Option<usize>) -> bool
+    ensures { result ≡ spec.is_skip caller callee }
 {
     match (caller, callee) {
-        (Some(caller), Some(callee)) => {
-            let is_skip = !(callee == caller || is_next(callee, caller));
-            note_broken(alloc, found, Code::LevelSkip, name, is_skip)?;
-            Ok(())
-        }
-        _ => Ok(()),
+        (Some(caller), Some(callee)) => !(callee == caller || is_next(callee, caller)),
+        _ => false,
     }
 }
 
-/// The entry isn't at the root.
-#[tactic(auto, using(crate::proofs::Least::least_none))]
-pub fn entry_skip(
-    alloc: Global,
-    found: &mut Option<Fault>,
-    level: Option<usize>,
-    name: &Word,
-) -> Result<(), AllocError>
-    ensures { OnOk result (found.new ≡ least found.old (spec.entry_skip level name.now)) }
+pub fn is_below_root(level: Option<usize>) -> bool
+    ensures { result ≡ spec.is_below_root level }
 {
     match level {
-        None => Ok(()),
-        Some(level) => {
-            note_broken(alloc, found, Code::LevelSkip, name, level != 0)?;
-            Ok(())
-        }
+        None => false,
+        Some(level) => level != 0,
     }
 }
 
-/// A tunable of the variant has no item.
-#[tactic(auto, using(crate::proofs::Least::least_none, crate::proofs::Among::missing_once))]
-pub fn tunable_missing(
-    alloc: Global,
-    found: &mut Option<Fault>,
-    wants: Option<&Wants>,
-    name: &Word,
-    items: &[ItemText],
-) -> Result<(), AllocError>
-    ensures { OnOk result (found.new ≡ least found.old (spec.tunable_missing (wanted_in (option_copied wants.entry)) name.now (spec.tunable_names items.now))) }
+/// The first tunable of the variant for which the instance has no item.
+pub fn missing_tunable<'r>(
+    required: Option<&'r Required>,
+    items: &ItemTable<'_>,
+) -> Option<&'r Name>
+    ensures { option_copied result ≡ spec.missing_tunable (option_copied required.entry) items.now.items.now }
 {
-    match wants {
-        None => Ok(()),
-        Some(wants) => {
-            let given = tunable_names(alloc, items)?;
-            let missing = missing_tunable(&wants.tunables, &given);
-            note_lack(alloc, found, Code::TunableMissing, name, missing)?;
-            Ok(())
-        }
+    match required {
+        None => None,
+        Some(required) => required.missing_tunable(items),
     }
 }
 
-/// The variant has no such tunable.
-#[tactic(auto, using(crate::proofs::Least::least_none))]
-pub fn tunable_unknown(
-    alloc: Global,
-    found: &mut Option<Fault>,
-    wants: Option<&Wants>,
-    name: &Word,
-) -> Result<(), AllocError>
-    ensures { OnOk result (found.new ≡ least found.old (spec.tunable_unknown (wanted_in (option_copied wants.entry)) name.now)) }
+/// Whether the variant has no such tunable.
+pub fn is_no_tunable(required: Option<&Required>, name: &Name) -> bool
+    ensures { result ≡ spec.is_no_tunable (option_copied required.entry) name.now }
 {
-    match wants {
-        None => Ok(()),
-        Some(wants) => {
-            let is_unknown = wants.tunables.get(&name.name).copied().is_none();
-            note_broken(alloc, found, Code::TunableUnknown, name, is_unknown)?;
-            Ok(())
-        }
+    match required {
+        None => false,
+        Some(required) => required.tunable(name).is_none(),
     }
 }
 
@@ -247,65 +119,41 @@ fn is_other(wants_list: Option<bool>, setting: &Setting) -> bool
     }
 }
 
-/// A list for a number, or a number for a list.
-#[tactic(auto, using(crate::proofs::Least::least_none))]
-pub fn tunable_kind(
-    alloc: Global,
-    found: &mut Option<Fault>,
-    wants: Option<&Wants>,
-    name: &Word,
-    setting: &Setting,
-) -> Result<(), AllocError>
-    ensures { OnOk result (found.new ≡ least found.old (spec.tunable_kind (wanted_in (option_copied wants.entry)) name.now setting.now)) }
+/// Whether there is a list for a number, or a number for a list.
+pub fn is_other_kind(required: Option<&Required>, name: &Name, setting: &Setting) -> bool
+    ensures { result ≡ spec.is_other_kind (option_copied required.entry) name.now setting.now }
 {
-    match wants {
-        None => Ok(()),
-        Some(wants) => {
-            let is_other = is_other(wants.tunables.get(&name.name).copied(), setting);
-            note_broken(alloc, found, Code::TunableKind, name, is_other)?;
-            Ok(())
-        }
+    match required {
+        None => false,
+        Some(required) => is_other(required.tunable(name), setting),
     }
 }
 
-/// A size name of the entry has no value.
-#[tactic(auto, using(crate::proofs::Least::least_none, crate::proofs::Among::missing_once))]
-pub fn size_missing(
-    alloc: Global,
-    found: &mut Option<Fault>,
-    wants: Option<&Wants>,
-    name: &Word,
-    sizes: &[SizeText],
-) -> Result<(), AllocError>
-    ensures { OnOk result (found.new ≡ least found.old (spec.size_missing (wanted_in (option_copied wants.entry)) name.now (spec.size_names sizes.now))) }
+/// The first size name of the entry that has no value.
+pub fn missing_size<'r>(required: Option<&'r Required>, sizes: &SizeTable<'_>) -> Option<&'r Name>
+    ensures { option_copied result ≡ spec.missing_size (option_copied required.entry) sizes.now.sizes.now }
 {
-    match wants {
-        None => Ok(()),
-        Some(wants) => {
-            let given = size_names(alloc, sizes)?;
-            let missing = missing_name(wants.sizes.as_slice(), &given);
-            note_lack(alloc, found, Code::SizeMissing, name, missing)?;
-            Ok(())
-        }
+    match required {
+        None => None,
+        Some(required) => sizes.missing(required.sizes()),
     }
 }
 
-/// The entry has no such size name.
-#[tactic(auto, using(crate::proofs::Least::least_none))]
-pub fn size_unknown(
-    alloc: Global,
-    found: &mut Option<Fault>,
-    wants: Option<&Wants>,
-    name: &Word,
-) -> Result<(), AllocError>
-    ensures { OnOk result (found.new ≡ least found.old (spec.size_unknown (wanted_in (option_copied wants.entry)) name.now)) }
+/// Whether the entry has no such size name.
+pub fn is_no_size(required: Option<&Required>, name: &Name) -> bool
+    ensures { result ≡ spec.is_no_size (option_copied required.entry) name.now }
 {
-    match wants {
-        None => Ok(()),
-        Some(wants) => {
-            let is_unknown = !wants.sizes.contains(&name.name);
-            note_broken(alloc, found, Code::SizeUnknown, name, is_unknown)?;
-            Ok(())
-        }
+    match required {
+        None => false,
+        Some(required) => !required.has_size(name),
+    }
+}
+
+pub fn is_leaf(kind: VariantKind) -> bool
+    ensures { result ≡ spec.is_leaf kind }
+{
+    match kind {
+        VariantKind::Inner => false,
+        VariantKind::Leaf => true,
     }
 }

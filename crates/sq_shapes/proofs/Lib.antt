@@ -3,5 +3,5 @@ pub mod Owing
 pub mod Places
 pub mod Readings
 pub mod Ready
-pub mod Shaped
+pub mod Matching
 pub mod Turns

@@ -3,33 +3,33 @@ use Rattle.std.proofs.Common.{◌≡◌, ℕ, suc, ◌-◌, nat_lt, Bool, true, 
 use Rattle.std.proofs.lemmas.Bool.Decides.{leb_tells}
 use Rattle.sq_lexer.specs.declared.token.Token.{Token}
 use Rattle.sq_lexer.specs.declared.token.Kind.{Kind}
-use Rattle.sq_shapes.specs.declared.shape.Shape.{Shape}
-use Rattle.sq_shapes.specs.declared.shape.Shape.TheVariants as s
+use Rattle.sq_shapes.specs.declared.pattern.Pattern.{Pattern}
+use Rattle.sq_shapes.specs.declared.pattern.Pattern.TheVariants as s
 use Rattle.sq_shapes.specs.declared.cursor.ReadError.{ReadError}
 use Rattle.sq_shapes.specs.declared.cursor.ReadError.TheVariants.{Syntax}
-use Rattle.sq_shapes.specs.Shapes.{fits}
+use Rattle.sq_shapes.specs.Patterns.{fits}
 use Rattle.sq_shapes.specs.Reading.{Outcome, front, fitting, all}
 
 -- What is owed: a token, or what the next token decides at a point of the grammar. A list that ends with a token owes it in its point.
 pub data Owed (P : Type 0) : Type 0 where
-  Want : Shape → Owed P
+  Want : Pattern → Owed P
   At : P → Owed P
 
--- The ways on from a point: the first whose shape fits is taken, and behind its token this is owed.
+-- The ways on from a point: the first whose pattern fits is taken, and behind its token this is owed.
 pub data Ways (P : Type 0) : Type 0 where
-  By : Shape → List (Owed P) → Ways P
-  Or : Shape → List (Owed P) → Ways P → Ways P
+  By : Pattern → List (Owed P) → Ways P
+  Or : Pattern → List (Owed P) → Ways P → Ways P
 
-abbrev pub wants : {P : Type 0} → List Shape → List (Owed P) → List (Owed P)
+abbrev pub wants : {P : Type 0} → List Pattern → List (Owed P) → List (Owed P)
 wants [] K = K
-wants (s ∷ ss) K = Want s ∷ wants ss K
+wants (s ∷ patterns) K = Want s ∷ wants patterns K
 
 -- after the end nothing is owed
-abbrev pub behind : {P : Type 0} → Shape → List (Owed P) → List (Owed P)
+abbrev pub behind : {P : Type 0} → Pattern → List (Owed P) → List (Owed P)
 behind s.End K = []
 behind _ K = K
 
-abbrev pub token_of : {P : Type 0} → Shape → List (Owed P) → Kind → Option (List (Owed P))
+abbrev pub token_of : {P : Type 0} → Pattern → List (Owed P) → Kind → Option (List (Owed P))
 token_of s K t = if fits s t then Some (behind s K) else None
 
 abbrev pub way_of : {P : Type 0} → Ways P → List (Owed P) → Kind → Option (List (Owed P))
@@ -64,7 +64,7 @@ module _ {P : Type 0} (ways : P → Ways P) where
   resume (Ok p) K = run p.1 K
   resume (Err e) K = Err e
 
--- ---- tokens of given shapes
+-- ---- tokens of given patterns
 
 abbrev pub with_token : Token → Outcome (List Token) → Outcome (List Token)
 with_token t (Ok p) = Ok (t ∷ p.0, p.1)
@@ -82,19 +82,19 @@ front_suc : (w c : ℕ) (t : Token) (i : List Token) → front (suc w) (suc c) (
 front_suc w c t i =
     ap (λ b. if b then Err (Syntax (length (t ∷ i) - suc c)) else Ok (take (suc c) (t ∷ i), drop (suc c) (t ∷ i))) (lt_suc c w) ∙ front_or (nat_lt c w) c t i
 
-pub all_fits : (sh : Shape) (ss : List Shape) (t : Token) (ts : List Token) → fits sh t.kind ≡ true → all (sh ∷ ss) (t ∷ ts) ≡ with_token t (all ss ts)
-all_fits sh ss t ts e =
-    ap (λ b. front (length (sh ∷ ss)) (if b then suc (fitting ss ts) else 0) (t ∷ ts)) e ∙ front_suc (length ss) (fitting ss ts) t ts
+pub all_fits : (pattern : Pattern) (patterns : List Pattern) (t : Token) (ts : List Token) → fits pattern t.kind ≡ true → all (pattern ∷ patterns) (t ∷ ts) ≡ with_token t (all patterns ts)
+all_fits pattern patterns t ts e =
+    ap (λ b. front (length (pattern ∷ patterns)) (if b then suc (fitting patterns ts) else 0) (t ∷ ts)) e ∙ front_suc (length patterns) (fitting patterns ts) t ts
 
-pub all_fails : (sh : Shape) (ss : List Shape) (t : Token) (ts : List Token) → fits sh t.kind ≡ false → all (sh ∷ ss) (t ∷ ts) ≡ Err (Syntax (length (t ∷ ts)))
-all_fails sh ss t ts e =
-    let none : nat_lt 0 (length (sh ∷ ss)) ≡ true = grind (arith, leb_tells) in
+pub all_fails : (pattern : Pattern) (patterns : List Pattern) (t : Token) (ts : List Token) → fits pattern t.kind ≡ false → all (pattern ∷ patterns) (t ∷ ts) ≡ Err (Syntax (length (t ∷ ts)))
+all_fails pattern patterns t ts e =
+    let none : nat_lt 0 (length (pattern ∷ patterns)) ≡ true = grind (arith, leb_tells) in
     let whole : length (t ∷ ts) - 0 ≡ length (t ∷ ts) = omega arith in
-    ap (λ b. front (length (sh ∷ ss)) (if b then suc (fitting ss ts) else 0) (t ∷ ts)) e
+    ap (λ b. front (length (pattern ∷ patterns)) (if b then suc (fitting patterns ts) else 0) (t ∷ ts)) e
     ∙ ap (λ b. if b then Err (Syntax (length (t ∷ ts) - 0)) else Ok (take 0 (t ∷ ts), drop 0 (t ∷ ts))) none ∙ ap (λ n. Err (Syntax n)) whole
 
-pub all_ended : (sh : Shape) (ss : List Shape) → all (sh ∷ ss) [] ≡ Err (Syntax 0)
-all_ended sh ss =
-    let none : nat_lt 0 (length (sh ∷ ss)) ≡ true = grind (arith, leb_tells) in
+pub all_ended : (pattern : Pattern) (patterns : List Pattern) → all (pattern ∷ patterns) [] ≡ Err (Syntax 0)
+all_ended pattern patterns =
+    let none : nat_lt 0 (length (pattern ∷ patterns)) ≡ true = grind (arith, leb_tells) in
     let whole : length {A = Token} [] - 0 ≡ 0 = omega arith in
     ap (λ b. if b then Err (Syntax (length {A = Token} [] - 0)) else Ok (take 0 [], drop 0 [])) none ∙ ap (λ n. Err (Syntax n)) whole

@@ -5,13 +5,13 @@ use Rattle.sq_lexer.specs.declared.token.Token.{Token}
 use Rattle.sq_lexer.specs.declared.token.Kind.{Kind}
 use Rattle.sq_lexer.specs.declared.token.Kind.TheVariants as k
 use Rattle.sq_lexer.specs.Tokens.{token}
-use Rattle.sq_shapes.specs.declared.shape.Shape.{Shape}
-use Rattle.sq_shapes.specs.declared.shape.Shape.TheVariants as s
+use Rattle.sq_shapes.specs.declared.pattern.Pattern.{Pattern}
+use Rattle.sq_shapes.specs.declared.pattern.Pattern.TheVariants as s
 use Rattle.sq_shapes.specs.declared.cursor.ReadError.TheVariants.{Syntax}
-use Rattle.sq_shapes.specs.Shapes.{fits}
+use Rattle.sq_shapes.specs.Patterns.{fits}
 use Rattle.sq_shapes.specs.Reading.{Outcome, Reader, and_then, all, choice, until, finish}
 use Rattle.sq_shapes.proofs.Owing.{Owed, Ways, wants, behind, settle, moved, ended, run, resume, with_token, all_fits, all_fails, all_ended}
-use Rattle.sq_shapes.proofs.Shaped.{shaped, Front, none, next, end}
+use Rattle.sq_shapes.proofs.Matching.{matching, Front, none, next, end}
 
 -- `ways` is the grammar.
 module _ {G : Type 0} (ways : G → Ways G) where
@@ -59,64 +59,64 @@ module _ {G : Type 0} {ways : G → Ways G} where
   gives (Ok p) h = h.is.2
   gives (Err z) h = tt
 
--- ---- tokens of given shapes
+-- ---- tokens of given patterns
 
 -- each token leaves the stack that the others lead to
-abbrev pub Kept : {G : Type 0} → List Shape → List (Owed G) → Type 0
+abbrev pub Kept : {G : Type 0} → List Pattern → List (Owed G) → Type 0
 Kept [] K = Unit {0}
-Kept (sh ∷ ss) K = (behind sh (wants ss K) ≡ wants ss K) × Kept ss K
+Kept (pattern ∷ patterns) K = (behind pattern (wants patterns K) ≡ wants patterns K) × Kept patterns K
 
-abbrev pub no_end : List Shape → Bool
+abbrev pub no_end : List Pattern → Bool
 no_end [] = true
-no_end (s.End ∷ ss) = false
-no_end (_ ∷ ss) = no_end ss
+no_end (s.End ∷ patterns) = false
+no_end (_ ∷ patterns) = no_end patterns
 
-kept_first : {G : Type 0} (sh : Shape) (ss : List Shape) (K : List (Owed G)) → no_end (sh ∷ ss) ≡ true → (behind sh (wants ss K) ≡ wants ss K) × (no_end ss ≡ true)
-kept_first s.End ss K e = absurd (cc)
-kept_first _ ss K e = (refl, e)
+kept_first : {G : Type 0} (pattern : Pattern) (patterns : List Pattern) (K : List (Owed G)) → no_end (pattern ∷ patterns) ≡ true → (behind pattern (wants patterns K) ≡ wants patterns K) × (no_end patterns ≡ true)
+kept_first s.End patterns K e = absurd (cc)
+kept_first _ patterns K e = (refl, e)
 
-kept : {G : Type 0} (ss : List Shape) (K : List (Owed G)) → no_end ss ≡ true → Kept ss K
+kept : {G : Type 0} (patterns : List Pattern) (K : List (Owed G)) → no_end patterns ≡ true → Kept patterns K
 kept [] K e = tt
-kept (sh ∷ ss) K e = let h = kept_first sh ss K e in (h.0, kept ss K h.1)
+kept (pattern ∷ patterns) K e = let h = kept_first pattern patterns K e in (h.0, kept patterns K h.1)
 
 module _ {G : Type 0} {ways : G → Ways G} where
-  taken : {n : ℕ} (sh : Shape) (ss : List Shape) (K : List (Owed G)) (t : Token) (ts : List Token) (r : Outcome (List Token)) → fits sh t.kind ≡ true → behind sh (wants ss K) ≡ wants ss K
-      → Reading ways n (wants ss K) K (Front ss ts) ts r → Reading ways n (wants (sh ∷ ss) K) K (Front (sh ∷ ss) (t ∷ ts)) (t ∷ ts) (with_token t r)
-  taken sh ss K t ts (Ok p) e b h =
-      let step : run ways (t ∷ ts) (wants (sh ∷ ss) K) ≡ run ways ts (wants ss K) =
-      ap (λ b. moved (if b then Some (behind sh (wants ss K)) else None) (length (t ∷ ts)) (run ways ts)) e ∙ ap (run ways ts) b in
-      record { is = (h.is.0, step ∙ h.is.1, next (shaped sh t.kind e) h.is.2) }
-  taken sh ss K t ts (Err z) e b h =
-      let step : run ways (t ∷ ts) (wants (sh ∷ ss) K) ≡ run ways ts (wants ss K) =
-      ap (λ b. moved (if b then Some (behind sh (wants ss K)) else None) (length (t ∷ ts)) (run ways ts)) e ∙ ap (run ways ts) b in
+  taken : {n : ℕ} (pattern : Pattern) (patterns : List Pattern) (K : List (Owed G)) (t : Token) (ts : List Token) (r : Outcome (List Token)) → fits pattern t.kind ≡ true → behind pattern (wants patterns K) ≡ wants patterns K
+      → Reading ways n (wants patterns K) K (Front patterns ts) ts r → Reading ways n (wants (pattern ∷ patterns) K) K (Front (pattern ∷ patterns) (t ∷ ts)) (t ∷ ts) (with_token t r)
+  taken pattern patterns K t ts (Ok p) e b h =
+      let step : run ways (t ∷ ts) (wants (pattern ∷ patterns) K) ≡ run ways ts (wants patterns K) =
+      ap (λ b. moved (if b then Some (behind pattern (wants patterns K)) else None) (length (t ∷ ts)) (run ways ts)) e ∙ ap (run ways ts) b in
+      record { is = (h.is.0, step ∙ h.is.1, next (matching pattern t.kind e) h.is.2) }
+  taken pattern patterns K t ts (Err z) e b h =
+      let step : run ways (t ∷ ts) (wants (pattern ∷ patterns) K) ≡ run ways ts (wants patterns K) =
+      ap (λ b. moved (if b then Some (behind pattern (wants patterns K)) else None) (length (t ∷ ts)) (run ways ts)) e ∙ ap (run ways ts) b in
       record { is = step ∙ h.is }
 
-  all_case : {n : ℕ} (b : Bool) (sh : Shape) (ss : List Shape) (K : List (Owed G)) (t : Token) (ts : List Token) → fits sh t.kind ≡ b → behind sh (wants ss K) ≡ wants ss K
-      → Reading ways n (wants ss K) K (Front ss ts) ts (all ss ts) → Reading ways n (wants (sh ∷ ss) K) K (Front (sh ∷ ss) (t ∷ ts)) (t ∷ ts) (all (sh ∷ ss) (t ∷ ts))
-  all_case {n} true sh ss K t ts e b h = subst (Reading ways n (wants (sh ∷ ss) K) K (Front (sh ∷ ss) (t ∷ ts)) (t ∷ ts)) (sym (all_fits sh ss t ts e)) (taken sh ss K t ts (all ss ts) e b h)
-  all_case {n} false sh ss K t ts e b h =
-      let stuck : run ways (t ∷ ts) (wants (sh ∷ ss) K) ≡ Err (Syntax (length (t ∷ ts))) =
-      ap (λ b. moved (if b then Some (behind sh (wants ss K)) else None) (length (t ∷ ts)) (run ways ts)) e in
-      subst (Reading ways n (wants (sh ∷ ss) K) K (Front (sh ∷ ss) (t ∷ ts)) (t ∷ ts)) (sym (all_fails sh ss t ts e)) (record { is = stuck })
+  all_case : {n : ℕ} (b : Bool) (pattern : Pattern) (patterns : List Pattern) (K : List (Owed G)) (t : Token) (ts : List Token) → fits pattern t.kind ≡ b → behind pattern (wants patterns K) ≡ wants patterns K
+      → Reading ways n (wants patterns K) K (Front patterns ts) ts (all patterns ts) → Reading ways n (wants (pattern ∷ patterns) K) K (Front (pattern ∷ patterns) (t ∷ ts)) (t ∷ ts) (all (pattern ∷ patterns) (t ∷ ts))
+  all_case {n} true pattern patterns K t ts e b h = subst (Reading ways n (wants (pattern ∷ patterns) K) K (Front (pattern ∷ patterns) (t ∷ ts)) (t ∷ ts)) (sym (all_fits pattern patterns t ts e)) (taken pattern patterns K t ts (all patterns ts) e b h)
+  all_case {n} false pattern patterns K t ts e b h =
+      let stuck : run ways (t ∷ ts) (wants (pattern ∷ patterns) K) ≡ Err (Syntax (length (t ∷ ts))) =
+      ap (λ b. moved (if b then Some (behind pattern (wants patterns K)) else None) (length (t ∷ ts)) (run ways ts)) e in
+      subst (Reading ways n (wants (pattern ∷ patterns) K) K (Front (pattern ∷ patterns) (t ∷ ts)) (t ∷ ts)) (sym (all_fails pattern patterns t ts e)) (record { is = stuck })
 
-  pub all_reads : (ss : List Shape) (n : ℕ) (i : List Token) (K : List (Owed G)) → Kept ss K → length i ≤ length ss + n → Reading ways n (wants ss K) K (Front ss i) i (all ss i)
+  pub all_reads : (patterns : List Pattern) (n : ℕ) (i : List Token) (K : List (Owed G)) → Kept patterns K → length i ≤ length patterns + n → Reading ways n (wants patterns K) K (Front patterns i) i (all patterns i)
   all_reads [] n i K k le = given [] i (omega (arith, le)) none
-  all_reads (sh ∷ ss) n [] K k le = subst (Reading ways n (wants (sh ∷ ss) K) K (Front (sh ∷ ss) []) []) (sym (all_ended sh ss)) (record { is = refl })
-  all_reads (sh ∷ ss) n (t ∷ ts) K k le = all_case (fits sh t.kind) sh ss K t ts refl k.0 (all_reads ss n ts K k.1 (omega (arith, le)))
+  all_reads (pattern ∷ patterns) n [] K k le = subst (Reading ways n (wants (pattern ∷ patterns) K) K (Front (pattern ∷ patterns) []) []) (sym (all_ended pattern patterns)) (record { is = refl })
+  all_reads (pattern ∷ patterns) n (t ∷ ts) K k le = all_case (fits pattern t.kind) pattern patterns K t ts refl k.0 (all_reads patterns n ts K k.1 (omega (arith, le)))
 
   -- the same where the end isn't among them
-  pub shapes_read : (ss : List Shape) (n : ℕ) (i : List Token) (K : List (Owed G)) → no_end ss ≡ true → length i ≤ length ss + n → Reading ways n (wants ss K) K (Front ss i) i (all ss i)
-  shapes_read ss n i K e le = all_reads ss n i K (kept ss K e) le
+  pub patterns_read : (patterns : List Pattern) (n : ℕ) (i : List Token) (K : List (Owed G)) → no_end patterns ≡ true → length i ≤ length patterns + n → Reading ways n (wants patterns K) K (Front patterns i) i (all patterns i)
+  patterns_read patterns n i K e le = all_reads patterns n i K (kept patterns K e) le
 
   -- ---- what the next token decides
 
-  pub choice_reads : {A : Type 0} {n : ℕ} {K : List (Owed G)} {P : A → List Token → Type 0} (S T U : List (Owed G)) (sh : Shape) (p q : Reader A) (i : List Token)
-      → ((t : Kind) → settle ways S t ≡ (if fits sh t then settle ways T t else settle ways U t)) → ended S ≡ ended U
-      → Reading ways n T K P i (p i) → Reading ways n U K P i (q i) → Reading ways n S K P i (choice sh p q i)
-  choice_reads S T U sh p q [] step ends h g = after (q []) ends g
-  choice_reads {n = n} {K = K} {P = P} S T U sh p q (t ∷ ts) step ends h g = by_case (fits sh t.kind) refl
+  pub choice_reads : {A : Type 0} {n : ℕ} {K : List (Owed G)} {P : A → List Token → Type 0} (S T U : List (Owed G)) (pattern : Pattern) (p q : Reader A) (i : List Token)
+      → ((t : Kind) → settle ways S t ≡ (if fits pattern t then settle ways T t else settle ways U t)) → ended S ≡ ended U
+      → Reading ways n T K P i (p i) → Reading ways n U K P i (q i) → Reading ways n S K P i (choice pattern p q i)
+  choice_reads S T U pattern p q [] step ends h g = after (q []) ends g
+  choice_reads {n = n} {K = K} {P = P} S T U pattern p q (t ∷ ts) step ends h g = by_case (fits pattern t.kind) refl
     where
-      by_case : (b : Bool) → fits sh t.kind ≡ b → Reading ways n S K P (t ∷ ts) (if b then p (t ∷ ts) else q (t ∷ ts))
+      by_case : (b : Bool) → fits pattern t.kind ≡ b → Reading ways n S K P (t ∷ ts) (if b then p (t ∷ ts) else q (t ∷ ts))
       by_case true e = after (p (t ∷ ts)) (ap (λ o. moved o (length (t ∷ ts)) (run ways ts)) (step t.kind ∙ ap (λ b. if b then settle ways T t.kind else settle ways U t.kind) e)) h
       by_case false e = after (q (t ∷ ts)) (ap (λ o. moved o (length (t ∷ ts)) (run ways ts)) (step t.kind ∙ ap (λ b. if b then settle ways T t.kind else settle ways U t.kind) e)) g
 
@@ -125,7 +125,7 @@ module _ {G : Type 0} {ways : G → Ways G} where
 abbrev pub Adds : {A : Type 0} → (List A → List Token → List Token → Type 0) → List A → List Token → List A → List Token → Type 0
 Adds D found i every j = (xs : _) × (every ≡ found ++ xs) × D xs i j
 
-module _ {G A : Type 0} {ways : G → Ways G} (D : List A → List Token → List Token → Type 0) (none_more : (i : List Token) → D [] i i) (close : Shape) (p : Reader A) (S T U : List (Owed G))
+module _ {G A : Type 0} {ways : G → Ways G} (D : List A → List Token → List Token → Type 0) (none_more : (i : List Token) → D [] i i) (close : Pattern) (p : Reader A) (S T U : List (Owed G))
     (step : (t : Kind) → settle ways S t ≡ (if fits close t then settle ways T t else settle ways U t)) (ends : ended S ≡ ended U) (closes : ended S ≡ ended T)
     (reads : (n : ℕ) (i : List Token) → length i ≤ suc n → Reading ways n U S (λ x j. (rest : List A) (l : List Token) → D rest j l → D (x ∷ rest) i l) i (p i)) where
   one_added : (found : List A) (x : A) (i j l : List Token) (every : List A) → ((rest : List A) (l : List Token) → D rest j l → D (x ∷ rest) i l)

@@ -1,14 +1,14 @@
 -- What is read up to a token, one after another, and the turns of a loop that reads it.
 use Rattle.std.proofs.Common.{◌≡◌, ℕ, zero, suc, ◌+◌, ◌-◌, ◌<◌, ◌≤◌, true, false, if◌then◌else◌, List, [], ◌∷◌, ◌++◌, length, Ok, sym, ◌∙◌, ap, append_assoc, append-nil, arith}
 use Rattle.sq_lexer.specs.declared.token.Token.{Token}
-use Rattle.sq_shapes.specs.declared.shape.Shape.{Shape}
+use Rattle.sq_shapes.specs.declared.pattern.Pattern.{Pattern}
 use Rattle.sq_shapes.specs.Reading.{Outcome, Reader, and_then, sees, until}
 
 -- a recursion on a count of turns, beside a loop that counts up
 pub one_more : {X : Type 0} {x : X} (f : ℕ → X) (n at : ℕ) → at < n → x ≡ f (n - at) → x ≡ f (suc (n - (at + 1)))
 one_more f n at below e = let turn : n - at ≡ suc (n - (at + 1)) = omega arith in e ∙ ap f turn
 
-pub stops : {A : Type 0} {x : Outcome (List A)} (close : Shape) (p : Reader A) (n at : ℕ) (found : List A) (i : List Token) → at < n
+pub stops : {A : Type 0} {x : Outcome (List A)} (close : Pattern) (p : Reader A) (n at : ℕ) (found : List A) (i : List Token) → at < n
     → x ≡ until close p (n - at) found i → sees close i ≡ true → x ≡ Ok (found, i)
 unfolding until
 stops close p n at found i below e seen =
@@ -21,10 +21,10 @@ pub then_ok : {A B : Type 0} (r : Outcome A) (f : A → Reader B) (a : A) (j : L
 then_ok r f a j e = ap (λ r. and_then r f) e
 
 -- what is read up to a token
-abbrev pub Until : {A : Type 0} → Shape → Reader A → List A → List Token → List Token → Type 0
+abbrev pub Until : {A : Type 0} → Pattern → Reader A → List A → List Token → List Token → Type 0
 Until close p xs i j = (turns : ℕ) (found : List _) → length i ≤ turns → until close p turns found i ≡ Ok (found ++ xs, j)
 
-module _ {A : Type 0} (close : Shape) (p : Reader A) where
+module _ {A : Type 0} (close : Pattern) (p : Reader A) where
   pub until_none : (i : List Token) → sees close i ≡ true → Until close p [] i i
   unfolding until
   until_none i e zero found le = ap (λ x. Ok (x, i)) (sym (append-nil found))

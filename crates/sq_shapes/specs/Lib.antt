@@ -1,3 +1,3 @@
 pub mod Reading
-pub mod Shapes
+pub mod Patterns
 pub mod Texts

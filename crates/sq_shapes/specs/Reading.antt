@@ -5,12 +5,12 @@ use Rattle.sq_text.specs.declared.place.Place.{Place}
 use Rattle.sq_lexer.specs.declared.token.Token.{Token}
 use Rattle.sq_lexer.specs.declared.token.Kind.{Kind}
 use Rattle.sq_lexer.specs.declared.token.Kind.TheVariants as k
-use Rattle.sq_shapes.specs.declared.shape.Shape.{Shape}
+use Rattle.sq_shapes.specs.declared.pattern.Pattern.{Pattern}
 use Rattle.sq_shapes.specs.declared.cursor.ReadError.{ReadError}
 use Rattle.sq_shapes.specs.declared.cursor.ReadError.TheVariants.{NoMemory, Syntax}
-use Rattle.sq_shapes.specs.declared.held.Word.{Word}
-use Rattle.sq_shapes.specs.declared.held.Numeral.{Numeral}
-use Rattle.sq_shapes.specs.Shapes.{fits}
+use Rattle.sq_text.specs.declared.word.Word.{Word}
+use Rattle.sq_text.specs.declared.word.Numeral.{Numeral}
+use Rattle.sq_shapes.specs.Patterns.{fits}
 
 -- ---- readers
 
@@ -40,31 +40,31 @@ abbrev pub ReadsFront : Outcome (List Token) → Result (Bor (List Token)) ReadE
 ReadsFront outcome (Ok a) new = outcome ≡ Ok (a.now, new)
 ReadsFront outcome (Err e) new = outcome ≡ Err e
 
--- ---- tokens of given shapes
+-- ---- tokens of given patterns
 
-abbrev pub sees : Shape → List Token → Bool
-sees shape [] = false
-sees shape (t ∷ ts) = fits shape t.kind
+abbrev pub sees : Pattern → List Token → Bool
+sees pattern [] = false
+sees pattern (t ∷ ts) = fits pattern t.kind
 
--- how many of the first tokens are of these shapes, one by one
-abbrev pub fitting : List Shape → List Token → ℕ
+-- how many of the first tokens are of these patterns, one by one
+abbrev pub fitting : List Pattern → List Token → ℕ
 fitting [] ts = 0
-fitting (shape ∷ shapes) [] = 0
-fitting (shape ∷ shapes) (t ∷ ts) = if fits shape t.kind then suc (fitting shapes ts) else 0
+fitting (pattern ∷ patterns) [] = 0
+fitting (pattern ∷ patterns) (t ∷ ts) = if fits pattern t.kind then suc (fitting patterns ts) else 0
 
 abbrev pub front : ℕ → ℕ → Reader (List Token)
 front wanted count = λ i. if nat_lt count wanted then Err (Syntax (length i - count)) else Ok (take count i, drop count i)
 
--- the next tokens, which have to be of these shapes
-abbrev pub all : List Shape → Reader (List Token)
-all shapes = λ i. front (length shapes) (fitting shapes i) i
+-- the next tokens, which have to be of these patterns
+abbrev pub all : List Pattern → Reader (List Token)
+all patterns = λ i. front (length patterns) (fitting patterns i) i
 
 -- the next token decides
-abbrev pub choice : {A : Type 0} → Shape → Reader A → Reader A → Reader A
-choice shape p q = λ i. if sees shape i then p i else q i
+abbrev pub choice : {A : Type 0} → Pattern → Reader A → Reader A → Reader A
+choice pattern p q = λ i. if sees pattern i then p i else q i
 
--- Up to a token of this shape, one after another. The number bounds the turns, and each turn takes a token, so the count of tokens is enough.
-unfoldable pub until : {A : Type 0} → Shape → Reader A → ℕ → List A → Reader (List A)
+-- Up to a token of this pattern, one after another. The number bounds the turns, and each turn takes a token, so the count of tokens is enough.
+unfoldable pub until : {A : Type 0} → Pattern → Reader A → ℕ → List A → Reader (List A)
 until close p zero found = pure found
 until close p (suc n) found = λ i. if sees close i then Ok (found, i)
     else (do

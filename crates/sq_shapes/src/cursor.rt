@@ -1,10 +1,10 @@
 //! A cursor over tokens, which contracts see as the list of those that are left.
 
-ghost use Rattle.std.specs.Prelude.{◌≡◌, ◌≤◌, drop, length};
+ghost use Rattle.std.specs.Prelude.{◌≡◌, ◌≤◌, drop, length, OnErr};
 ghost use Rattle.sq_shapes.specs.Reading as spec;
 ghost use Rattle.sq_shapes.specs.Reading.{ReadsFront};
 
-use crate::shape::{Shape, fits};
+use crate::pattern::{Pattern, fits};
 use sq_lexer::Token;
 use std::alloc::AllocError;
 use std::marker::Model;
@@ -41,28 +41,28 @@ impl<'a> Model for Tokens<'a> {
     ghost view = { λ t. t.rest.now };
 }
 
-// Whether the token at this index is of the shape.
-fn fits_at(shape: Shape, tokens: &[Token], at: usize) -> bool
-    ensures { result ≡ spec.sees shape (drop at tokens.now) }
+// Whether the token at this index is of the pattern.
+fn fits_at(pattern: Pattern, tokens: &[Token], at: usize) -> bool
+    ensures { result ≡ spec.sees pattern (drop at tokens.now) }
 {
     match tokens.get(at) {
-        Some(token) => fits(shape, &token.kind),
+        Some(token) => fits(pattern, &token.kind),
         None => false,
     }
 }
 
-// How many of the first tokens are of these shapes, one by one.
+// How many of the first tokens are of these patterns, one by one.
 #[tactic(auto, using(crate::proofs::Fitting::fitting_there))]
-fn count_fitting(shapes: &[Shape], tokens: &[Token]) -> usize
-    ensures count { result ≡ spec.fitting shapes.now tokens.now }
+fn count_fitting(patterns: &[Pattern], tokens: &[Token]) -> usize
+    ensures count { result ≡ spec.fitting patterns.now tokens.now }
     ensures within { result ≤ length tokens.now }
 {
-    for (i, shape) in shapes.iter().enumerate() {
-        if !fits_at(*shape, tokens, i) {
+    for (i, pattern) in patterns.iter().enumerate() {
+        if !fits_at(*pattern, tokens, i) {
             return i;
         }
     }
-    shapes.len()
+    patterns.len()
 }
 
 impl<'a> Tokens<'a> {
@@ -78,22 +78,23 @@ impl<'a> Tokens<'a> {
         self.rest.len()
     }
 
-    /// Whether the next token is of this shape.
-    pub fn sees(&self, shape: Shape) -> bool
-        ensures { result ≡ spec.sees shape self.now }
+    /// Whether the next token is of this pattern.
+    pub fn sees(&self, pattern: Pattern) -> bool
+        ensures { result ≡ spec.sees pattern self.now }
     {
         match self.rest {
             [] => false,
-            [first, ..] => fits(shape, &first.kind),
+            [first, ..] => fits(pattern, &first.kind),
         }
     }
 
-    /// The next tokens, which have to be of these shapes.
-    pub fn all(&mut self, shapes: &[Shape]) -> Result<&'a [Token], ReadError>
-        ensures { ReadsFront (spec.all shapes.now self.old) result self.new }
+    /// The next tokens, which have to be of these patterns. Where they aren't, none is taken.
+    pub fn all(&mut self, patterns: &[Pattern]) -> Result<&'a [Token], ReadError>
+        ensures front { ReadsFront (spec.all patterns.now self.old) result self.new }
+        ensures kept { OnErr result (self.new ≡ self.old) }
     {
-        let count = count_fitting(shapes, self.rest);
-        if count < shapes.len() {
+        let count = count_fitting(patterns, self.rest);
+        if count < patterns.len() {
             return Err(ReadError::Syntax(self.rest.len() - count));
         }
         let (front, rest) = self.rest.split_at(count);

@@ -1,13 +1,15 @@
-//! Tokens of given shapes: the base of the readers of files without nesting.
+//! Tokens of given patterns: the base of the readers of flat files.
 #![tactic(auto)]
 
+mod contents;
 mod cursor;
-mod held;
-mod shape;
+mod pattern;
+mod syntax;
 
+pub use contents::{number_at, numeral_at, place_at, word_at};
 pub use cursor::{ReadError, Tokens};
-pub use held::{Numeral, Word, number_at, numeral_at, place_at, syntax_fault, word_at};
-pub use shape::{Shape, fits};
+pub use pattern::{Pattern, fits};
+pub use syntax::syntax_fault;
 
 #[cfg(test)]
 mod tests;

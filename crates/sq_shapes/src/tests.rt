@@ -1,35 +1,42 @@
-//! Each shape once, and what read tokens hold.
+//! Each pattern once, and what read tokens hold.
 
-use crate::{ReadError, Shape, Tokens, number_at, numeral_at, place_at, syntax_fault, word_at};
+use crate::{Pattern, ReadError, Tokens, number_at, numeral_at, place_at, syntax_fault, word_at};
 use sq_lexer::{Sign, tokens};
 use sq_text::{Code, Phase, Place};
 use std::test::Fail;
 
+const EVERY_PATTERN: [Pattern; 22] = [
+    Pattern::Machine,
+    Pattern::Level,
+    Pattern::Levels,
+    Pattern::Node,
+    Pattern::Capacity,
+    Pattern::Children,
+    Pattern::Mapping,
+    Pattern::Entry,
+    Pattern::Instance,
+    Pattern::Tunable,
+    Pattern::Call,
+    Pattern::Spread,
+    Pattern::Cyclic,
+    Pattern::Blocked,
+    Pattern::Inner,
+    Pattern::Leaf,
+    Pattern::AnyWord,
+    Pattern::AnyNumber,
+    Pattern::Exactly(1),
+    Pattern::Exactly(2),
+    Pattern::Sign(Sign::Arrow),
+    Pattern::End,
+];
+
 #[test]
-fn every_shape(rt: HostRuntime) -> Result<(), Fail> {
+fn every_pattern(rt: HostRuntime) -> Result<(), Fail> {
     let text =
-        b"machine level capacity children mapping entry instance tunable call inner leaf x 7 1 ->";
+        b"machine level levels node capacity children mapping entry instance tunable call spread cyclic blocked inner leaf x 7 1 2 ->";
     let read = tokens(rt.alloc(), Phase::Machine, text).expect(&rt, "tokens");
     let mut rest = Tokens::new(read.as_slice());
-    let shapes = [
-        Shape::Machine,
-        Shape::Level,
-        Shape::Capacity,
-        Shape::Children,
-        Shape::Mapping,
-        Shape::Entry,
-        Shape::Instance,
-        Shape::Tunable,
-        Shape::Call,
-        Shape::Inner,
-        Shape::Leaf,
-        Shape::AnyWord,
-        Shape::AnyNumber,
-        Shape::One,
-        Shape::Sign(Sign::Arrow),
-        Shape::End,
-    ];
-    assert!(rt; rest.all(&shapes).is_ok());
+    assert!(rt; rest.all(&EVERY_PATTERN).is_ok());
     assert_eq!(rt; rest.len(), 0);
     Ok(())
 }
@@ -38,9 +45,9 @@ fn every_shape(rt: HostRuntime) -> Result<(), Fail> {
 fn the_first_token_that_does_not_fit(rt: HostRuntime) -> Result<(), Fail> {
     let read = tokens(rt.alloc(), Phase::Machine, b"level a 2 ;").expect(&rt, "tokens");
     let mut rest = Tokens::new(read.as_slice());
-    assert!(rt; rest.sees(Shape::Level));
-    assert!(rt; !rest.sees(Shape::Machine));
-    let wanted = [Shape::Level, Shape::AnyWord, Shape::One];
+    assert!(rt; rest.sees(Pattern::Level));
+    assert!(rt; !rest.sees(Pattern::Machine));
+    let wanted = [Pattern::Level, Pattern::AnyWord, Pattern::Exactly(1)];
     assert!(rt; matches!(rest.all(&wanted), Err(ReadError::Syntax(3))));
     assert_eq!(rt; rest.len(), 5);
     Ok(())

@@ -1,6 +1,6 @@
 use Rattle.std.proofs.Common.{rules, arith, sym, ◌∙◌}
 use Rattle.std.proofs.lemmas.Grind.{common_steps}
-use Rattle.sq_shapes.specs.declared.shape.Shape.TheVariants as s
+use Rattle.sq_shapes.specs.declared.pattern.Pattern.TheVariants as s
 use Rattle.sq_shapes.specs.Reading.{until}
 use Rattle.sq_machfile.specs.Reading.{below}
 use Rattle.sq_shapes.proofs.Turns.{one_more, stops}

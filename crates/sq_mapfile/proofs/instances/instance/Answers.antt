@@ -1,15 +1,11 @@
-use Rattle.std.proofs.Common.{◌∙◌, ap}
 use Rattle.std.specs.Option.{option_copied}
-use Rattle.sq_mapfile.specs.Wants.{wanted_in}
 use Rattle.sq_mapfile.specs.Scopes.{scope_of}
-use Rattle.sq_mapfile.specs.Parts.{named_faults, inner_faults}
-use Rattle.sq_mapfile.specs.Finding.{firsts}
+use Rattle.sq_mapfile.proofs.Walks.{one_instance}
+use Rattle.std.proofs.Common.{◌∙◌}
 use Rattle.sq_mapfile.proofs.instances.instance.Goals as goal
 
-pub returns-clause-found : goal.returns-clause-found
-returns-clause-found c = λ later.
-    let s = scope_of c.args.known.now in
-    let before = c.args.before.now.keys in
-    c.in_ok-inner.ensures later
-    ∙ (c.in_ok-named.ensures.found (inner_faults s (wanted_in (option_copied c.wants_of-wants.result)) c.args.x.now later)
-    ∙ ap (λ w. firsts c.args.found.now (named_faults w before c.args.x.now (inner_faults s w c.args.x.now later))) c.wants_of-wants.ensures)
+pub returns : goal.returns
+returns c =
+    one_instance (scope_of c.args.scope.now) c.args.i c.args.x.now c.args.found.now c.name.new.found c.place.new.found c.items.new.found
+    (option_copied c.required_of-required.result) c.level.result c.in_ok-items.items.items.now c.required_of-required.ensures c.level.ensures
+    (c.in_ok-items.ensures ∙ c.as_slice.ensures) c.in_ok-name.ensures c.in_ok-place.ensures c.in_ok-items-2.ensures

@@ -1,9 +1,8 @@
-use Rattle.std.proofs.Common.{◌≡◌, [], drop}
-use Rattle.sq_mapfile.specs.Faults.{instances_faults}
+use Rattle.std.proofs.Common.{◌≡◌, drop}
+use Rattle.sq_text.specs.Found.{firsts}
+use Rattle.sq_mapfile.specs.Faults.{breach_of, instances_rules}
 use Rattle.sq_mapfile.specs.Scopes.{scope_of}
-use Rattle.sq_mapfile.specs.Finding.{firsts}
 use Rattle.sq_mapfile.proofs.instances.instances.Given as goal
 
-abbrev pub invariant-loop-x : goal.invariant-loop-x
-invariant-loop-x l =
-    firsts l.found (instances_faults (scope_of l.known) l.before.keys (drop l.x-index l.list)) ≡ firsts l.fn.found (instances_faults (scope_of l.known) [] l.list)
+abbrev pub invariant-loop-i : goal.invariant-loop-i
+invariant-loop-i l = firsts breach_of l.found (instances_rules (scope_of l.scope) l.i (drop l.i l.list)) ≡ firsts breach_of l.fn.found (instances_rules (scope_of l.scope) 0 l.list)

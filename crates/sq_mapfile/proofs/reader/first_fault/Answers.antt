@@ -1,17 +1,26 @@
-use Rattle.std.proofs.Common.{[], sym, subst}
-use Rattle.sq_text.specs.First.{IsFirst, HoldsIn}
-use Rattle.sq_text.specs.Answers.{fault_place}
-use Rattle.sq_text.proofs.Firsts.{first_either}
-use Rattle.sq_mapfile.specs.Faults.{number, NameFault}
-use Rattle.sq_mapfile.specs.Cycles.{IsOnCycle, calls_from, CycleFault}
+use Rattle.std.proofs.Common.{◌≡◌, ◌∙◌, sym, ap, subst}
+use Rattle.sq_text.specs.declared.code.Phase.TheVariants.{Mapping}
+use Rattle.sq_text.specs.First.{HoldsIn}
+use Rattle.sq_text.specs.Faults.{IsFirst}
+use Rattle.sq_text.specs.Found.{Found, nothing_found, firsts}
+use Rattle.sq_mapfile.specs.Faults.{breach_of, name_rules}
+use Rattle.sq_mapfile.specs.Cycles.{IsOnCycle, calls_among}
 use Rattle.sq_mapfile.specs.Mappings.{BreaksRule}
+use Rattle.sq_mapfile.specs.Walk.{Joins}
+use Rattle.sq_mapfile.proofs.Walks.{same_phase, first_rule}
 use Rattle.sq_mapfile.proofs.reader.first_fault.Goals as goal
+
+pub note_cycle-requires : goal.note_cycle-requires
+note_cycle-requires c =
+    let rules = name_rules c.args.program.now c.args.table.now.levels.now c.args.mapping.now in
+    ap (λ (f : Found). f.phase) (c.in_ok-note_names.ensures ∙ ap (λ (f : Found). firsts breach_of f rules) c.new-found.ensures) ∙ same_phase rules (nothing_found Mapping)
 
 pub returns : goal.returns
 returns c =
     let program = c.args.program.now in
-    let levels = c.args.levels.now in
+    let levels = c.args.table.now.levels.now in
     let m = c.args.mapping.now in
-    let calls = subst (λ xs. IsFirst fault_place number (HoldsIn (IsOnCycle (calls_from xs 0 [] xs)) (calls_from xs 0 [] xs)) c.in_ok-of_calls.of_calls) c.requires c.in_ok-of_calls.ensures in
-    subst (IsFirst fault_place number (BreaksRule program levels m)) (sym c.least.ensures)
-    (first_either fault_place number (NameFault program levels m) (CycleFault m) c.in_ok-of_names.of_names c.in_ok-of_calls.of_calls c.in_ok-of_names.ensures calls)
+    let rules = name_rules program levels m in
+    let names = c.in_ok-note_names.ensures ∙ ap (λ (f : Found). firsts breach_of f rules) c.new-found.ensures in
+    let joins = subst (λ xs. Joins (HoldsIn (IsOnCycle (calls_among xs)) (calls_among xs)) c.note_names.new.found c.note_cycle.new.found) c.requires c.in_ok-note_cycle.ensures in
+    subst (IsFirst (BreaksRule program levels m)) (sym c.finish.ensures) (first_rule program levels m c.note_names.new.found c.note_cycle.new.found names joins)

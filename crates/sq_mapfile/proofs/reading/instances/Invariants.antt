@@ -1,8 +1,8 @@
 use Rattle.std.proofs.Common.{◌≡◌, ◌-◌}
-use Rattle.sq_shapes.specs.declared.shape.Shape.TheVariants as s
+use Rattle.sq_shapes.specs.declared.pattern.Pattern.TheVariants as s
 use Rattle.sq_shapes.specs.Reading.{until}
 use Rattle.sq_mapfile.specs.Reading as spec
 use Rattle.sq_mapfile.proofs.reading.instances.Given as goal
 
 abbrev pub invariant-loop-turn : goal.invariant-loop-turn
-invariant-loop-turn l = spec.instances l.fn.tokens ≡ until s.End spec.instance (l._turn-end - l._turn) l.found l.tokens
+invariant-loop-turn l = spec.instances l.version l.fn.tokens ≡ until s.End (spec.instance l.version) (l._turn-end - l._turn) l.found l.tokens

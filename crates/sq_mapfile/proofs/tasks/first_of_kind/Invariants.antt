@@ -1,8 +1,7 @@
-use Rattle.std.proofs.Common.{◌≡◌, ℕ, List, drop}
-use Rattle.std.specs.Map.{lookup}
-use Rattle.sq_mapfile.specs.Names.{same_name, first_from, is_variant, variant_index}
-use Rattle.sq_mapfile.specs.Tables.{kept}
+use Rattle.std.proofs.Common.{◌≡◌, drop}
+use Rattle.sq_text.specs.Names.{Bytes, item_of, kept}
+use Rattle.sq_mapfile.specs.Names.{first_from, is_variant, variant_index}
 use Rattle.sq_mapfile.proofs.tasks.first_of_kind.Given as goal
 
 abbrev pub invariant-loop-i : goal.invariant-loop-i
-invariant-loop-i l = (n : List ℕ) → kept (lookup (same_name n) l.first.entries) (first_from (is_variant n l.kind) l.i (drop l.i l.variants)) ≡ variant_index l.variants n l.kind
+invariant-loop-i l = (n : Bytes) → kept (item_of l.first n) (first_from (is_variant n l.kind) l.i (drop l.i l.variants)) ≡ variant_index l.variants n l.kind

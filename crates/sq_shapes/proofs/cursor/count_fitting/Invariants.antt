@@ -3,4 +3,4 @@ use Rattle.sq_shapes.specs.Reading.{fitting}
 use Rattle.sq_shapes.proofs.cursor.count_fitting.Given as goal
 
 abbrev pub invariant-loop-i : goal.invariant-loop-i
-invariant-loop-i l = fitting l.shapes l.tokens ≡ l.i + fitting (drop l.i l.shapes) (drop l.i l.tokens)
+invariant-loop-i l = fitting l.patterns l.tokens ≡ l.i + fitting (drop l.i l.patterns) (drop l.i l.tokens)

@@ -1,0 +1,9 @@
+use Rattle.std.proofs.Common.{◌≡◌, ◌-◌}
+use Rattle.sq_lexer.specs.declared.token.Sign.TheVariants as g
+use Rattle.sq_shapes.specs.declared.pattern.Pattern.TheVariants as s
+use Rattle.sq_shapes.specs.Reading.{until}
+use Rattle.sq_machfile.specs.Reading as spec
+use Rattle.sq_machfile.proofs.reading.names_from.Given as goal
+
+abbrev pub invariant-loop-turn : goal.invariant-loop-turn
+invariant-loop-turn l = spec.names_from l.fn.first l.fn.tokens ≡ until (s.Sign g.Semi) spec.name (l._turn-end - l._turn) l.found l.tokens

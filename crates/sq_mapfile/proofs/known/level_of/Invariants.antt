@@ -1,6 +1,0 @@
-use Rattle.std.proofs.Common.{◌≡◌, drop}
-use Rattle.sq_mapfile.specs.Names.{same_name, first_from, level_of}
-use Rattle.sq_mapfile.proofs.known.level_of.Given as goal
-
-abbrev pub invariant-loop-i : goal.invariant-loop-i
-invariant-loop-i l = first_from (λ level. same_name l.name level.name) l.i (drop l.i l.levels) ≡ level_of l.levels l.name

@@ -1,6 +1,0 @@
-use Rattle.std.proofs.Common.{◌≡◌, [], drop}
-use Rattle.sq_mapfile.specs.Wanted as spec
-use Rattle.sq_mapfile.proofs.wants.sizes.Given as goal
-
-abbrev pub invariant-loop-p : goal.invariant-loop-p
-invariant-loop-p l = spec.params_sizes (drop l.p-index l.params) l.names.keys ≡ spec.params_sizes l.params []

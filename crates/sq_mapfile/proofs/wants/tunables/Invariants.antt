@@ -1,6 +1,0 @@
-use Rattle.std.proofs.Common.{◌≡◌, [], drop}
-use Rattle.sq_mapfile.specs.Wanted as spec
-use Rattle.sq_mapfile.proofs.wants.tunables.Given as goal
-
-abbrev pub invariant-loop-decl : goal.invariant-loop-decl
-invariant-loop-decl l = spec.decls_tunables (drop l.decl-index l.decls) l.known.entries ≡ spec.decls_tunables l.decls []
