@@ -6,7 +6,7 @@ use Rattle.std.proofs.lemmas.List.{take-append-le, drop-append-le, take_at, drop
 use Rattle.std.proofs.Math.Seq.{drop_at, drop-drop, take-take}
 use Rattle.sq_num.specs.declared.Elem.{Elem}
 use Rattle.sq_num.specs.Elements.{width, value, cell, cut, values_in}
-use Rattle.sq_num.proofs.Laws.{length-cell, value-cell}
+use Rattle.sq_num.proofs.Cutting.{length-cell, value-cell}
 use Rattle.sq_tree.specs.Source.{Numbers}
 use Rattle.sq_tree.specs.Bytes.{put_at, array_at, array_bytes}
 use Rattle.sq_tree.proofs.Arrays.{length-array_bytes, part-apart}

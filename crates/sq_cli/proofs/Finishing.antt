@@ -1,105 +1,171 @@
--- The line that names an answer, and what follows for the call.
-use Rattle.std.proofs.Common.{◌≡◌, ◌≢◌, ◌⊎◌, inl, inr, ℕ, List, [], Option, Err, refl, sym, ◌∙◌, subst, arith}
-use Rattle.sq_port.specs.Ports.{Gains, GainsPrefix, Rose}
-use Rattle.sq_port.proofs.Gained.{gains_both, gains_none, gains_whole, prefix_ends, prefix_behind}
+-- The line that names an answer.
+use Rattle.std.proofs.Common.{◌≡◌, ℕ, List, [], Bool, true, false, Option, Some, None, Result, Ok, Err, refl, sym, ◌∙◌, subst}
+use Rattle.sq_port.specs.Ports.{Content, Gains, GainsPrefix, Rose}
+use Rattle.std.proofs.lemmas.List.{append-nil}
+use Rattle.sq_port.proofs.Gained.{gains_both, prefix_behind, prefix_grows}
+use Rattle.sq_tree.specs.Bank.{BankSeen}
 use Rattle.sq_cli.specs.declared.status.Status.{Status}
-use Rattle.sq_cli.specs.declared.status.Status.TheVariants.{Done, Refused, Trapped, Usage, FileFault, SinkFault, NoMemory, Absent}
+use Rattle.sq_cli.specs.declared.status.Status.TheVariants.{Done, SinkFault}
 use Rattle.sq_cli.specs.declared.end.End.{End}
 use Rattle.sq_cli.specs.declared.end.End.TheVariants.{Usage as UsageEnd, Absent as AbsentEnd, FileFault as FileFaultEnd, NotYet as NotYetEnd, Refused as RefusedEnd, NoMemory as NoMemoryEnd, SinkFault as SinkFaultEnd}
-use Rattle.sq_cli.specs.Ends.{status_of, end_text, SinkCauses}
-use Rattle.sq_cli.specs.Meaning.{Answer, not_yet, fault, refused, usage, file_fault, no_memory, absent}
-use Rattle.sq_cli.specs.Outcome.{status_for, out_text, trace_for, line_for, err_text, Wrote, IsEndOf}
-use Rattle.sq_cli.specs.Top.{Writes}
+use Rattle.sq_cli.specs.Words.{Command}
+use Rattle.sq_cli.specs.Phases.{opens}
+use Rattle.sq_cli.specs.Ends.{status_of, end_text}
+use Rattle.sq_cli.specs.Small.{not_yet, fault}
+use Rattle.sq_cli.specs.Meaning.{Answer, done, refused, trapped, usage, file_fault, no_memory, absent}
+use Rattle.sq_cli.specs.Banks.{Writing, whole, cut_out, cut_err, AfterTrap}
+use Rattle.sq_cli.specs.Outcome.{status_for, out_text, trace_for, line_for, err_text, IsDone, IsEndOf, Outside, IsWhole, Puts, ResultFor}
+use Rattle.sq_cli.specs.Top.{BankOf, Finished}
 
--- the count of a sink rises at SinkFault alone
-pub sink_or_other : (status : Status) → (status ≡ SinkFault) ⊎ (status ≢ SinkFault)
-sink_or_other Done = inr (λ e. cc)
-sink_or_other Refused = inr (λ e. cc)
-sink_or_other Trapped = inr (λ e. cc)
-sink_or_other Usage = inr (λ e. cc)
-sink_or_other FileFault = inr (λ e. cc)
-sink_or_other SinkFault = inl refl
-sink_or_other NoMemory = inr (λ e. cc)
-sink_or_other Absent = inr (λ e. cc)
-
--- an end has its answer's status and line, and nothing is written to `out` for it
+-- an end has its answer's status and line, and the answer isn't Done
 pub record SameEnd (answer : Answer) (end : End) : Type 0 where
   pub status : status_of end ≡ status_for answer
   pub text : end_text end ≡ line_for answer
   pub out : out_text answer ≡ []
+  pub not_done : IsDone answer → ⊥
 
-at_answer : (answer that : Answer) (end : End) → answer ≡ that → SameEnd that end → SameEnd answer end
-at_answer answer that end is same = subst (λ (a : Answer). SameEnd a end) (sym is) same
+same_at : (answer that : Answer) (end : End) → answer ≡ that → SameEnd that end → SameEnd answer end
+same_at answer that end is same = subst (λ (a : Answer). SameEnd a end) (sym is) same
 
 same_end : (answer : Answer) (end : End) → IsEndOf answer end → SameEnd answer end
-same_end answer UsageEnd is = at_answer answer usage UsageEnd is (record { status = refl; text = refl; out = refl })
-same_end answer (AbsentEnd name) is = at_answer answer (absent is.0 name.now) (AbsentEnd name) is.1 (record { status = refl; text = refl; out = refl })
-same_end answer (FileFaultEnd name) is = at_answer answer (file_fault is.0 name.now) (FileFaultEnd name) is.1 (record { status = refl; text = refl; out = refl })
-same_end answer (NotYetEnd phase) is = at_answer answer (refused phase not_yet) (NotYetEnd phase) is (record { status = refl; text = refl; out = refl })
-same_end answer (RefusedEnd its) is = at_answer answer (refused is.0 (fault its)) (RefusedEnd its) is.1 (record { status = refl; text = refl; out = refl })
-same_end answer NoMemoryEnd is = at_answer answer no_memory NoMemoryEnd is (record { status = refl; text = refl; out = refl })
+same_end answer UsageEnd is = same_at answer usage UsageEnd is (record { status = refl; text = refl; out = refl; not_done = λ no. no })
+same_end answer (AbsentEnd name) is = same_at answer (absent is.0 name.now) (AbsentEnd name) is.1 (record { status = refl; text = refl; out = refl; not_done = λ no. no })
+same_end answer (FileFaultEnd name) is = same_at answer (file_fault is.0 name.now) (FileFaultEnd name) is.1 (record { status = refl; text = refl; out = refl; not_done = λ no. no })
+same_end answer (NotYetEnd phase) is = same_at answer (refused phase not_yet) (NotYetEnd phase) is (record { status = refl; text = refl; out = refl; not_done = λ no. no })
+same_end answer (RefusedEnd its) is = same_at answer (refused is.0 (fault its)) (RefusedEnd its) is.1 (record { status = refl; text = refl; out = refl; not_done = λ no. no })
+same_end answer NoMemoryEnd is = same_at answer no_memory NoMemoryEnd is (record { status = refl; text = refl; out = refl; not_done = λ no. no })
 same_end answer SinkFaultEnd is = absurd is
 
-module _ (answer : Answer) (out now_out start mid now : Option (List ℕ)) (end : End) where
-  named : (status : Status) → status ≡ status_of end → status ≢ SinkFault → SameEnd answer end → Gains out now_out [] → Gains start mid (trace_for answer) → Gains mid now (end_text end) → Writes answer out now_out start now status
-  named status is other same nothing trace text = record {
-    names = λ not_sink. is ∙ same.status;
-    whole = λ not_sink. (
-      subst (λ (l : List ℕ). Gains out now_out l) (sym same.out) nothing,
-      gains_both trace (subst (λ (l : List ℕ). Gains mid now l) same.text text),
-    );
-    cut = λ sink. absurd (other sink);
+-- a whole run is a beginning of itself
+trap_cut : (is_open : Bool) (command : Command) (told : Option Content) (trace : List ℕ) (bank now_bank : BankSeen) → AfterTrap is_open command told whole trace bank now_bank → AfterTrap is_open command told cut_err trace bank now_bank
+trap_cut false command told trace bank now_bank after = after
+trap_cut true command told trace bank now_bank after = ([], after)
+
+-- the bank where the line of an answer is cut
+line_cut : (answer : Answer) → (IsDone answer → ⊥) → (command : Option Command) (told : Option Content) (bank now_bank : BankSeen) → BankOf command told answer whole bank now_bank → BankOf command told answer cut_err bank now_bank
+line_cut answer not_done None told bank now_bank after = after
+line_cut (done out trace) not_done (Some command) told bank now_bank after = absurd (not_done tt)
+line_cut (refused phase refusal) not_done (Some command) told bank now_bank after = after
+line_cut (trapped trap trace) not_done (Some command) told bank now_bank after = trap_cut (opens command.kind) command told trace bank now_bank after
+line_cut usage not_done (Some command) told bank now_bank after = after
+line_cut (file_fault phase name) not_done (Some command) told bank now_bank after = after
+line_cut no_memory not_done (Some command) told bank now_bank after = after
+line_cut (absent phase name) not_done (Some command) told bank now_bank after = after
+
+-- the outside once the line was put
+abbrev with_err : Outside → Option (List ℕ) → ℕ → Outside
+with_err mid err faults = record mid { err = err; err_faults = faults }
+
+module _ (answer : Answer) (old mid : Outside) (err : Option (List ℕ)) (faults : ℕ) where
+  -- the line was put whole
+  named : (end : End) (status : Status) → SameEnd answer end → status ≡ status_of end → IsWhole answer (trace_for answer) old mid → Gains mid.err err (end_text end) → faults ≡ mid.err_faults → Finished answer whole old (with_err mid err faults) status
+  named end status same is puts text counts = record {
+    last = whole;
+    later = λ command told bank now_bank after. after;
+    status_is = is ∙ same.status;
+    puts = record {
+      out = puts.out;
+      err = gains_both puts.err (subst (λ (l : List ℕ). Gains mid.err err l) same.text text);
+      out_faults = puts.out_faults;
+      err_faults = counts ∙ puts.err_faults;
+    };
   }
 
-  cut_short : SameEnd answer end → Gains out now_out [] → Gains start mid (trace_for answer) → GainsPrefix mid now (end_text end) → Writes answer out now_out start now SinkFault
-  cut_short same nothing trace text = record {
-    names = λ not_sink. absurd (not_sink refl);
-    whole = λ not_sink. absurd (not_sink refl);
-    cut = λ sink. (gains_none (out_text answer) nothing, prefix_behind trace (subst (λ (l : List ℕ). GainsPrefix mid now l) same.text text));
+  -- it was cut
+  cut : (end : End) → SameEnd answer end → IsWhole answer (trace_for answer) old mid → GainsPrefix mid.err err (end_text end) → Rose mid.err_faults faults → Finished answer whole old (with_err mid err faults) SinkFault
+  cut end same puts text rose = record {
+    last = cut_err;
+    later = line_cut answer same.not_done;
+    status_is = refl;
+    puts = record {
+      out = subst (λ (l : List ℕ). Gains old.out mid.out l) same.out puts.out;
+      err = prefix_behind puts.err (subst (λ (l : List ℕ). GainsPrefix mid.err err l) same.text text);
+      out_faults = puts.out_faults;
+      err_faults = subst (λ (n : ℕ). Rose n faults) puts.err_faults rose;
+    };
   }
 
-  still_cut : (status : Status) → status ≡ SinkFault → GainsPrefix out now_out (out_text answer) → GainsPrefix start mid (err_text answer) → GainsPrefix mid now [] → Writes answer out now_out start now status
-  still_cut status is out_cut err_cut nothing = record {
-    names = λ not_sink. absurd (not_sink is);
-    whole = λ not_sink. absurd (not_sink is);
-    cut = λ sink. (out_cut, prefix_ends err_cut nothing);
+-- no line is put behind Done
+no_line : (answer : Answer) → IsDone answer → trace_for answer ≡ err_text answer
+no_line (done out trace) its = sym (append-nil trace)
+no_line (refused phase refusal) its = absurd its
+no_line (trapped trap trace) its = absurd its
+no_line usage its = absurd its
+no_line (file_fault phase name) its = absurd its
+no_line no_memory its = absurd its
+no_line (absent phase name) its = absurd its
+
+done_status : (answer : Answer) → IsDone answer → Done ≡ status_for answer
+done_status (done out trace) its = refl
+done_status (refused phase refusal) its = absurd its
+done_status (trapped trap trace) its = absurd its
+done_status usage its = absurd its
+done_status (file_fault phase name) its = absurd its
+done_status no_memory its = absurd its
+done_status (absent phase name) its = absurd its
+
+module _ (answer : Answer) (old mid : Outside) (err : Option (List ℕ)) (faults : ℕ) (same : mid.err ≡ err) (counts : mid.err_faults ≡ faults) where
+  -- nothing is put behind Done
+  pub done_ends : (writing : Writing) → ResultFor answer writing (Ok tt) → Puts writing answer (trace_for answer) old mid → Finished answer writing old (with_err mid err faults) Done
+  done_ends whole its puts = record {
+    last = whole;
+    later = λ command told bank now_bank after. after;
+    status_is = done_status answer its;
+    puts = record {
+      out = puts.out;
+      err = subst (λ (o : Option (List ℕ)). Gains old.err o (err_text answer)) same (subst (λ (l : List ℕ). Gains old.err mid.err l) (no_line answer its) puts.err);
+      out_faults = puts.out_faults;
+      err_faults = sym counts ∙ puts.err_faults;
+    };
+  }
+  done_ends cut_out its puts = absurd its
+  done_ends cut_err its puts = absurd its
+
+  -- nor behind a text that was cut
+  pub sink_ends : (writing : Writing) → ResultFor answer writing (Err SinkFaultEnd) → Puts writing answer (trace_for answer) old mid → Finished answer writing old (with_err mid err faults) SinkFault
+  sink_ends whole its puts = absurd its
+  sink_ends cut_out its puts = record {
+    last = cut_out;
+    later = λ command told bank now_bank after. after;
+    status_is = refl;
+    puts = record {
+      done = puts.done;
+      out = puts.out;
+      err = subst (λ (o : Option (List ℕ)). Gains old.err o (err_text answer)) same (subst (λ (l : List ℕ). Gains old.err mid.err l) (no_line answer puts.done) puts.err);
+      out_faults = puts.out_faults;
+      err_faults = sym counts ∙ puts.err_faults;
+    };
+  }
+  sink_ends cut_err its puts = record {
+    last = cut_err;
+    later = λ command told bank now_bank after. after;
+    status_is = refl;
+    puts = record {
+      out = puts.out;
+      err = subst (λ (o : Option (List ℕ)). GainsPrefix old.err o (err_text answer)) same (prefix_grows (line_for answer) puts.err);
+      out_faults = puts.out_faults;
+      err_faults = subst (λ (n : ℕ). Rose old.err_faults n) counts puts.err_faults;
+    };
   }
 
--- the line was put
-pub named_ends : (answer : Answer) (out now_out start mid now : Option (List ℕ)) (end : End) (status : Status) → status ≡ status_of end → Gains mid now (end_text end) → Wrote answer out now_out start mid (Err end) → Writes answer out now_out start now status
-named_ends answer out now_out start mid now UsageEnd status is text wrote = named answer out now_out start mid now UsageEnd status is (λ e. let c = sym is ∙ e in cc) (same_end answer UsageEnd wrote.0) wrote.1 wrote.2 text
-named_ends answer out now_out start mid now (AbsentEnd name) status is text wrote = named answer out now_out start mid now (AbsentEnd name) status is (λ e. let c = sym is ∙ e in cc) (same_end answer (AbsentEnd name) wrote.0) wrote.1 wrote.2 text
-named_ends answer out now_out start mid now (FileFaultEnd name) status is text wrote = named answer out now_out start mid now (FileFaultEnd name) status is (λ e. let c = sym is ∙ e in cc) (same_end answer (FileFaultEnd name) wrote.0) wrote.1 wrote.2 text
-named_ends answer out now_out start mid now (NotYetEnd phase) status is text wrote = named answer out now_out start mid now (NotYetEnd phase) status is (λ e. let c = sym is ∙ e in cc) (same_end answer (NotYetEnd phase) wrote.0) wrote.1 wrote.2 text
-named_ends answer out now_out start mid now (RefusedEnd its) status is text wrote = named answer out now_out start mid now (RefusedEnd its) status is (λ e. let c = sym is ∙ e in cc) (same_end answer (RefusedEnd its) wrote.0) wrote.1 wrote.2 text
-named_ends answer out now_out start mid now NoMemoryEnd status is text wrote = named answer out now_out start mid now NoMemoryEnd status is (λ e. let c = sym is ∙ e in cc) (same_end answer NoMemoryEnd wrote.0) wrote.1 wrote.2 text
-named_ends answer out now_out start mid now SinkFaultEnd status is text wrote = still_cut answer out now_out start mid now SinkFaultEnd status is wrote.0 wrote.1 (gains_whole text)
+-- the line of any other end is put, whole or not
+module _ (answer : Answer) (old mid : Outside) (start err : Option (List ℕ)) (start_faults faults : ℕ) (same : mid.err ≡ start) (counts : mid.err_faults ≡ start_faults) (end : End) (other : end ≡ SinkFaultEnd → ⊥) where
+  pub line_ends : (writing : Writing) (status : Status) → status ≡ status_of end → Gains start err (end_text end) × (faults ≡ start_faults) → ResultFor answer writing (Err end) → Puts writing answer (trace_for answer) old mid
+      → Finished answer writing old (with_err mid err faults) status
+  line_ends whole status is text its puts = named answer old mid err faults end status (same_end answer end its) is puts (subst (λ (o : Option (List ℕ)). Gains o err (end_text end)) (sym same) text.0) (text.1 ∙ sym counts)
+  line_ends cut_out status is text its puts = absurd (other its)
+  line_ends cut_err status is text its puts = absurd (other its.0)
 
--- the line was not put whole
-pub cut_ends : (answer : Answer) (out now_out start mid now : Option (List ℕ)) (end : End) → GainsPrefix mid now (end_text end) → Wrote answer out now_out start mid (Err end) → Writes answer out now_out start now SinkFault
-cut_ends answer out now_out start mid now UsageEnd text wrote = cut_short answer out now_out start mid now UsageEnd (same_end answer UsageEnd wrote.0) wrote.1 wrote.2 text
-cut_ends answer out now_out start mid now (AbsentEnd name) text wrote = cut_short answer out now_out start mid now (AbsentEnd name) (same_end answer (AbsentEnd name) wrote.0) wrote.1 wrote.2 text
-cut_ends answer out now_out start mid now (FileFaultEnd name) text wrote = cut_short answer out now_out start mid now (FileFaultEnd name) (same_end answer (FileFaultEnd name) wrote.0) wrote.1 wrote.2 text
-cut_ends answer out now_out start mid now (NotYetEnd phase) text wrote = cut_short answer out now_out start mid now (NotYetEnd phase) (same_end answer (NotYetEnd phase) wrote.0) wrote.1 wrote.2 text
-cut_ends answer out now_out start mid now (RefusedEnd its) text wrote = cut_short answer out now_out start mid now (RefusedEnd its) (same_end answer (RefusedEnd its) wrote.0) wrote.1 wrote.2 text
-cut_ends answer out now_out start mid now NoMemoryEnd text wrote = cut_short answer out now_out start mid now NoMemoryEnd (same_end answer NoMemoryEnd wrote.0) wrote.1 wrote.2 text
-cut_ends answer out now_out start mid now SinkFaultEnd text wrote = still_cut answer out now_out start mid now SinkFaultEnd SinkFault refl wrote.0 wrote.1 text
+  pub line_fails : (writing : Writing) → GainsPrefix start err (end_text end) × Rose start_faults faults → ResultFor answer writing (Err end) → Puts writing answer (trace_for answer) old mid → Finished answer writing old (with_err mid err faults) SinkFault
+  line_fails whole text its puts = cut answer old mid err faults end (same_end answer end its) puts (subst (λ (o : Option (List ℕ)). GainsPrefix o err (end_text end)) (sym same) text.0) (subst (λ (n : ℕ). Rose n faults) (sym counts) text.1)
+  line_fails cut_out text its puts = absurd (other its)
+  line_fails cut_err text its puts = absurd (other its.0)
 
--- what the counts of the sinks allow after the line was put, and after it was cut
-pub sinks_kept : (o o2 start mid now : ℕ) (status that : Status) → that ≡ status → now ≡ mid → SinkCauses o o2 start mid status → SinkCauses o o2 start now that
-sinks_kept o o2 start mid now status that same kept causes = subst (λ (s : Status). SinkCauses o o2 start now s) (sym same) (subst (λ (n : ℕ). SinkCauses o o2 start n status) (sym kept) causes)
+-- the same of another spelling of the end
+pub sink_at : (answer : Answer) (old mid : Outside) (err : Option (List ℕ)) (faults : ℕ) → mid.err ≡ err → mid.err_faults ≡ faults → (end : End) → end ≡ SinkFaultEnd → (writing : Writing) → ResultFor answer writing (Err end) → Puts writing answer (trace_for answer) old mid
+    → Finished answer writing old (with_err mid err faults) SinkFault
+sink_at answer old mid err faults same counts end is writing its puts = sink_ends answer old mid err faults same counts writing (subst (λ (e : End). ResultFor answer writing (Err e)) is its) puts
 
-rose_later : (a b c : ℕ) → Rose a b → Rose b c → Rose a c
-rose_later a b c first second = omega arith
-
-rose_from_same : (a b c : ℕ) → b ≡ a → Rose b c → Rose a c
-rose_from_same a b c same rose = subst (λ (n : ℕ). Rose n c) same rose
-
-pub sinks_cut : (o o2 start mid now : ℕ) (status : Status) → Rose mid now → SinkCauses o o2 start mid status → SinkCauses o o2 start now SinkFault
-sinks_cut o o2 start mid now status rose causes = record {
-  fault = λ is. elim (sink_or_other status) [
-    | inl sink ↦ elim (causes.fault sink) [ inl first ↦ inl first | inr second ↦ inr (rose_later start mid now second rose) ]
-    | inr other ↦ inr (rose_from_same start mid now (causes.others other).1 rose)
-  ];
-  others = λ not. absurd (not refl);
-}
+pub done_at : (answer : Answer) (old mid : Outside) (err : Option (List ℕ)) (faults : ℕ) → mid.err ≡ err → mid.err_faults ≡ faults → (ended : Result (Unit {0}) End) → ended ≡ Ok tt → (writing : Writing) → ResultFor answer writing ended → Puts writing answer (trace_for answer) old mid
+    → Finished answer writing old (with_err mid err faults) Done
+done_at answer old mid err faults same counts ended is writing its puts = done_ends answer old mid err faults same counts writing (subst (λ (r : Result (Unit {0}) End). ResultFor answer writing r) is its) puts

@@ -1,10 +1,15 @@
 -- What the files say is one status.
-use Rattle.std.proofs.Common.{◌≡◌, ◌⊎◌, inl, inr, ⊎_elim, ℕ, List, [], ◌∷◌, ◌++◌, Some, None, refl, sym, ◌∙◌, ap, subst}
+use Rattle.std.proofs.Common.{◌≡◌, ◌⊎◌, inl, inr, ⊎_elim, ℕ, List, [], ◌∷◌, ◌++◌, Option, Some, None, refl, sym, ◌∙◌, ap, subst}
 use Rattle.sq_port.specs.Ports.{Content}
-use Rattle.sq_text.specs.declared.fault.Phase.{Phase}
-use Rattle.sq_text.specs.declared.fault.Phase.TheVariants.{Program, Types, Machine, Mapping, Resolve, Race, Capacity, Order, Input}
-use Rattle.sq_cli.specs.Words.{Command, check, fmt, run}
-use Rattle.sq_cli.specs.Meaning.{Refusal, phases, file_of, IsFault, Passed, AllPassed, Reached, Answer, done, refused, usage, file_fault, no_memory, absent, Means}
+use Rattle.sq_text.specs.declared.code.Phase.{Phase}
+use Rattle.sq_text.specs.declared.code.Phase.TheVariants.{Program, Types, Machine, Mapping, Resolve, Race, Capacity, Order, Input}
+use Rattle.sq_cli.specs.declared.words.Kind.{Kind}
+use Rattle.sq_cli.specs.declared.words.Kind.TheVariants.{Check, Fmt, Run}
+use Rattle.sq_cli.specs.Words.{Role, program, mapping, machine, input, Command}
+use Rattle.sq_cli.specs.Phases.{phases, role_of, file_for, file_of, Inputs, text_of, inputs_of}
+use Rattle.sq_cli.specs.Small.{Refusal, not_yet, fault, IsSmallFault}
+use Rattle.sq_cli.specs.Faults.{IsRefusal, IsFault}
+use Rattle.sq_cli.specs.Meaning.{Passed, AllPassed, Reached, Answer, done, refused, trapped, usage, file_fault, no_memory, absent, IsCause}
 use Rattle.sq_cli.specs.Outcome.{status_for}
 use Rattle.sq_cli.specs.Top.{IsSaid}
 
@@ -32,8 +37,8 @@ module _ (command : Command) (c : Content) where
   passed_in (first ∷ rest) phase all (inr later) = passed_in rest phase all.1 later
 
   -- a phase that is reached and stops isn't passed, so not every phase is
-  reached_passed : (phase : Phase) → Reached command c phase → AllPassed command c (phases command) → Passed command c phase
-  reached_passed phase reached all = passed_in (phases command) phase all (subst (λ (l : List Phase). IsIn phase l) (sym reached.split) (in_split reached.before reached.after phase))
+  reached_passed : (phase : Phase) → Reached command c phase → AllPassed command c (phases command.kind) → Passed command c phase
+  reached_passed phase reached all = passed_in (phases command.kind) phase all (subst (λ (l : List Phase). IsIn phase l) (sym reached.split) (in_split reached.before reached.after phase))
 
   absent_not_passed : (phase : Phase) (name : List ℕ) → file_of command phase ≡ Some name → c name ≡ None → Passed command c phase → ⊥
   absent_not_passed phase name file none passed = let there = passed.there name file in let same : c name ≡ Some there.0 = there.1 in cc
@@ -45,69 +50,92 @@ module _ (command : Command) (c : Content) where
       (λ other. absurd (⊎_elim (λ before. stops_p (passed_in at_q.before p at_q.passed before)) (λ before. stops_q (passed_in at_p.before q at_p.passed before)) other))
       (first_of_two at_p.before at_q.before at_p.after at_q.after p q (sym at_p.split ∙ at_q.split))
 
+no_name : {A : Type 0} (x : A) → None ≡ Some x → ⊥
+no_name x is = cc
+
 some_same : {A : Type 0} (x y : A) → Some x ≡ Some y → x ≡ y
 some_same x y is = cc
 
-no_file : (name : List ℕ) → None ≡ Some name → ⊥
-no_file name is = cc
+-- a phase's file is what the file of its role holds
+role_absent : (c : Content) (command : Command) (role : Option Role) (name : List ℕ) → file_for command.files role ≡ Some name → c name ≡ None → (its : Role) × (role ≡ Some its) × (inputs_of c command its ≡ None)
+role_absent c command None name file none = absurd (no_name name file)
+role_absent c command (Some its) name file none = (its, refl, ap (text_of c) file ∙ none)
 
-both : (c : Content) (name that text : List ℕ) → Some name ≡ Some that → c name ≡ Some text → c that ≡ None → ⊥
-both c name that text is there none = let same : name ≡ that = some_same name that is in let here : c name ≡ None = ap c same ∙ none in no_file text (sym here ∙ there)
+-- a text that a fault speaks of is there
+not_there : (inputs : Inputs) (its role : Role) (text : List ℕ) → Some its ≡ Some role → inputs its ≡ Some text → inputs role ≡ None → ⊥
+not_there inputs its role text same there none = no_name text (sym none ∙ (ap inputs (sym (some_same its role same)) ∙ there))
+
+refusal_there : (phase : Phase) (inputs : Inputs) (refusal : Refusal) (role : Role) → IsRefusal phase inputs refusal → role_of phase ≡ Some role → inputs role ≡ None → ⊥
+refusal_there phase inputs not_yet role is reads none = is
+refusal_there Program inputs (fault its) role is reads none = not_there inputs program role is.0 reads is.1 none
+refusal_there Types inputs (fault its) role is reads none = no_name role reads
+refusal_there Machine inputs (fault its) role is reads none = is
+refusal_there Mapping inputs (fault its) role is reads none = is
+refusal_there Resolve inputs (fault its) role is reads none = is
+refusal_there Race inputs (fault its) role is reads none = is
+refusal_there Capacity inputs (fault its) role is reads none = is
+refusal_there Order inputs (fault its) role is reads none = is
+refusal_there Input inputs (fault its) role is reads none = is
+
+small_there : (phase : Phase) (inputs : Inputs) (refusal : Refusal) (role : Role) → IsSmallFault phase inputs refusal → role_of phase ≡ Some role → inputs role ≡ None → ⊥
+small_there Program inputs not_yet role is reads none = not_there inputs program role is.0 reads is.1 none
+small_there Machine inputs not_yet role is reads none = not_there inputs machine role is.0 reads is.1 none
+small_there Mapping inputs not_yet role is reads none = not_there inputs mapping role is.none.0 reads is.none.1 none
+small_there Input inputs (fault its) role is reads none = not_there inputs input role is.bytes reads is.there none
+small_there Capacity inputs (fault its) role is reads none = no_name role reads
+small_there Program inputs (fault its) role is reads none = is
+small_there Machine inputs (fault its) role is reads none = is
+small_there Mapping inputs (fault its) role is reads none = is
+small_there Capacity inputs not_yet role is reads none = is
+small_there Input inputs not_yet role is reads none = is
+small_there Types inputs refusal role is reads none = is
+small_there Resolve inputs refusal role is reads none = is
+small_there Race inputs refusal role is reads none = is
+small_there Order inputs refusal role is reads none = is
 
 -- a phase with a fault has its file
-fault_there : (command : Command) (c : Content) (phase : Phase) (refusal : Refusal) (name : List ℕ) → IsFault command c phase refusal → file_of command phase ≡ Some name → c name ≡ None → ⊥
-fault_there (check program) c Program refusal name is file none = both c program name is.first.0 file is.first.1 none
-fault_there (check program) c Types refusal name is file none = no_file name file
-fault_there (check program) c Machine refusal name is file none = is
-fault_there (check program) c Mapping refusal name is file none = is
-fault_there (check program) c Resolve refusal name is file none = is
-fault_there (check program) c Race refusal name is file none = is
-fault_there (check program) c Capacity refusal name is file none = is
-fault_there (check program) c Order refusal name is file none = is
-fault_there (check program) c Input refusal name is file none = is
-fault_there (fmt program) c Program refusal name is file none = both c program name is.first.0 file is.first.1 none
-fault_there (fmt program) c Types refusal name is file none = is
-fault_there (fmt program) c Machine refusal name is file none = is
-fault_there (fmt program) c Mapping refusal name is file none = is
-fault_there (fmt program) c Resolve refusal name is file none = is
-fault_there (fmt program) c Race refusal name is file none = is
-fault_there (fmt program) c Capacity refusal name is file none = is
-fault_there (fmt program) c Order refusal name is file none = is
-fault_there (fmt program) c Input refusal name is file none = is
-fault_there (run program mapping machine input) c Program refusal name is file none = both c program name is.1.0 file is.1.1 none
-fault_there (run program mapping machine input) c Machine refusal name is file none = both c machine name is.1.0 file is.1.1 none
-fault_there (run program mapping machine input) c Mapping refusal name is file none = both c mapping name is.1.none.0 file is.1.none.1 none
-fault_there (run program mapping machine input) c Capacity refusal name is file none = no_file name file
-fault_there (run program mapping machine input) c Input refusal name is file none = both c input name is.bytes file is.there none
-fault_there (run program mapping machine input) c Types refusal name is file none = is
-fault_there (run program mapping machine input) c Resolve refusal name is file none = is
-fault_there (run program mapping machine input) c Race refusal name is file none = is
-fault_there (run program mapping machine input) c Order refusal name is file none = is
+fault_there : (kind : Kind) (phase : Phase) (inputs : Inputs) (refusal : Refusal) (role : Role) → IsFault kind phase inputs refusal → role_of phase ≡ Some role → inputs role ≡ None → ⊥
+fault_there Check phase inputs refusal role is reads none = refusal_there phase inputs refusal role is reads none
+fault_there Fmt phase inputs refusal role is reads none = refusal_there phase inputs refusal role is reads none
+fault_there Run phase inputs refusal role is reads none = small_there phase inputs refusal role is reads none
 
-refused_or_absent : (command : Command) (c : Content) (p q : Phase) (refusal : Refusal) (name : List ℕ) → Reached command c p → IsFault command c p refusal → file_of command q ≡ Some name → Reached command c q → c name ≡ None → ⊥
+refused_or_absent : (command : Command) (c : Content) (p q : Phase) (refusal : Refusal) (name : List ℕ) → Reached command c p → IsFault command.kind p (inputs_of c command) refusal → file_of command q ≡ Some name → Reached command c q → c name ≡ None → ⊥
 refused_or_absent command c p q refusal name at_p is file at_q none =
     let same = one_stop command c p q at_p at_q (λ passed. passed.no_fault refusal is) (λ passed. absent_not_passed command c q name file none passed) in
-    fault_there command c q refusal name (subst (λ (k : Phase). IsFault command c k refusal) same is) file none
+    let gone = role_absent c command (role_of q) name file none in
+    fault_there command.kind q (inputs_of c command) refusal gone.0 (subst (λ (k : Phase). IsFault command.kind k (inputs_of c command) refusal) same is) gone.1 gone.2
+
+-- what stops a command is no end of all its phases
+module _ (command : Command) (c : Content) where
+  refused_or_all : (phase : Phase) (refusal : Refusal) → Reached command c phase → IsFault command.kind phase (inputs_of c command) refusal → AllPassed command c (phases command.kind) → ⊥
+  refused_or_all phase refusal reached is all = (reached_passed command c phase reached all).no_fault refusal is
+
+  absent_or_all : (phase : Phase) (name : List ℕ) → file_of command phase ≡ Some name → Reached command c phase → c name ≡ None → AllPassed command c (phases command.kind) → ⊥
+  absent_or_all phase name file reached none all = absent_not_passed command c phase name file none (reached_passed command c phase reached all)
 
 -- two answers that the files say have one status
-pub one_status : (command : Command) (c : Content) (answer answer' : Answer) → IsSaid answer → IsSaid answer' → Means command (Some c) answer → Means command (Some c) answer' → status_for answer ≡ status_for answer'
+pub one_status : (command : Command) (c : Content) (answer answer' : Answer) → IsSaid answer → IsSaid answer' → IsCause command c answer → IsCause command c answer' → status_for answer ≡ status_for answer'
 one_status command c (done out trace) (done out' trace') a_said b_said a b = refl
-one_status command c (done out trace) (refused phase' refusal') a_said b_said a b = absurd ((reached_passed command c phase' (b c refl).0 (a c refl).0).no_fault refusal' (b c refl).1)
+one_status command c (done out trace) (refused phase' refusal') a_said b_said a b = absurd (refused_or_all command c phase' refusal' b.0 b.1 a.0)
+one_status command c (done out trace) (trapped trap' trace') a_said b_said a b = absurd b.1
 one_status command c (done out trace) usage a_said b_said a b = absurd b_said
 one_status command c (done out trace) (file_fault phase' name') a_said b_said a b = absurd b_said
 one_status command c (done out trace) no_memory a_said b_said a b = absurd b_said
-one_status command c (done out trace) (absent phase' name') a_said b_said a b = absurd (absent_not_passed command c phase' name' b.0 (b.1 c refl).1 (reached_passed command c phase' (b.1 c refl).0 (a c refl).0))
-one_status command c (refused phase refusal) (done out' trace') a_said b_said a b = absurd ((reached_passed command c phase (a c refl).0 (b c refl).0).no_fault refusal (a c refl).1)
+one_status command c (done out trace) (absent phase' name') a_said b_said a b = absurd (absent_or_all command c phase' name' b.0 b.1 b.2 a.0)
+one_status command c (refused phase refusal) (done out' trace') a_said b_said a b = absurd (refused_or_all command c phase refusal a.0 a.1 b.0)
 one_status command c (refused phase refusal) (refused phase' refusal') a_said b_said a b = refl
+one_status command c (refused phase refusal) (trapped trap' trace') a_said b_said a b = absurd b.1
 one_status command c (refused phase refusal) usage a_said b_said a b = absurd b_said
 one_status command c (refused phase refusal) (file_fault phase' name') a_said b_said a b = absurd b_said
 one_status command c (refused phase refusal) no_memory a_said b_said a b = absurd b_said
-one_status command c (refused phase refusal) (absent phase' name') a_said b_said a b = absurd (refused_or_absent command c phase phase' refusal name' (a c refl).0 (a c refl).1 b.0 (b.1 c refl).0 (b.1 c refl).1)
+one_status command c (refused phase refusal) (absent phase' name') a_said b_said a b = absurd (refused_or_absent command c phase phase' refusal name' a.0 a.1 b.0 b.1 b.2)
+one_status command c (trapped trap trace) answer a_said b_said a b = absurd a.1
 one_status command c usage answer a_said b_said a b = absurd a_said
 one_status command c (file_fault phase name) answer a_said b_said a b = absurd a_said
 one_status command c no_memory answer a_said b_said a b = absurd a_said
-one_status command c (absent phase name) (done out' trace') a_said b_said a b = absurd (absent_not_passed command c phase name a.0 (a.1 c refl).1 (reached_passed command c phase (a.1 c refl).0 (b c refl).0))
-one_status command c (absent phase name) (refused phase' refusal') a_said b_said a b = absurd (refused_or_absent command c phase' phase refusal' name (b c refl).0 (b c refl).1 a.0 (a.1 c refl).0 (a.1 c refl).1)
+one_status command c (absent phase name) (done out' trace') a_said b_said a b = absurd (absent_or_all command c phase name a.0 a.1 a.2 b.0)
+one_status command c (absent phase name) (refused phase' refusal') a_said b_said a b = absurd (refused_or_absent command c phase' phase refusal' name b.0 b.1 a.0 a.1 a.2)
+one_status command c (absent phase name) (trapped trap' trace') a_said b_said a b = absurd b.1
 one_status command c (absent phase name) usage a_said b_said a b = absurd b_said
 one_status command c (absent phase name) (file_fault phase' name') a_said b_said a b = absurd b_said
 one_status command c (absent phase name) no_memory a_said b_said a b = absurd b_said

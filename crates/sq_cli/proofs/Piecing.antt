@@ -9,15 +9,15 @@ use Rattle.sq_port.specs.Ports.{Content}
 use Rattle.sq_num.specs.declared.Elem.{Elem}
 use Rattle.sq_num.specs.declared.Elem.TheVariants.{Int}
 use Rattle.sq_num.specs.Elements.{width, cell, IsValue}
-use Rattle.sq_num.proofs.Laws.{cut-value}
+use Rattle.sq_num.proofs.Cutting.{cut-value}
 use Rattle.sq_text.specs.declared.place.Place.{Place}
-use Rattle.sq_text.specs.declared.fault.Phase.TheVariants.{Input}
-use Rattle.sq_text.specs.declared.fault.Code.{Code}
+use Rattle.sq_text.specs.declared.code.Phase.TheVariants.{Input}
+use Rattle.sq_text.specs.declared.code.Code.{Code}
 use Rattle.sq_text.specs.declared.fault.Arg.{Arg}
 use Rattle.sq_text.specs.declared.fault.Arg.TheVariants.{Word}
-use Rattle.sq_arrays.specs.declared.end.InputCode.{InputCode}
-use Rattle.sq_arrays.specs.declared.end.InputEnd.{InputEnd}
-use Rattle.sq_arrays.specs.declared.end.InputEnd.TheVariants.{Refused, Failed, Absent}
+use Rattle.sq_arrays.specs.declared.refusal.InputCode.{InputCode}
+use Rattle.sq_arrays.specs.declared.refusal.InputEnd.{InputEnd}
+use Rattle.sq_arrays.specs.declared.refusal.InputEnd.TheVariants.{Refused, Failed, Absent}
 use Rattle.sq_arrays.specs.ArrayText.{Fault, Rest, start_of, finished, next_values, ◌>>=◌}
 use Rattle.sq_arrays.specs.Arrays.{Wanted, DataFault, head_of, array_of_text, of_array, add_values, arrays_of}
 use Rattle.sq_arrays.specs.Window.{IsTold, IsThere, IsMissing}
@@ -183,7 +183,7 @@ module _ (told : Option Content) (name : List ℕ) (its : Plan) (now : BankSeen)
   filled root fits reads = λ c is.
       let file = there.there c is in
       let read = reads file.0 (record { content = c; is = is; there = file.1 }) in
-      record { bytes = file.0; there = file.1; values = read.vs; read = arrays_read its file.0 read.vs read.read; stands = input_stands its file.0 root (node_at 0 now.nodes) fits read }
+      record { given = record { bytes = file.0; there = file.1; values = read.vs; read = arrays_read its file.0 read.vs read.read }; each = input_stands its file.0 root (node_at 0 now.nodes) fits read }
 
   pub unfit : (code : InputCode) (place : Place) (that : Code) (args : List Arg) → that ≡ code_for code → args ≡ Word its.task.input ∷ [] → ((bytes : List ℕ) → IsTold told name bytes → input_of its bytes ≡ Err (record { code = code; place = place }))
       → FillsInput told name its now (Err (RefusedEnd (record { phase = Input; code = that; place = Some place; args = args })))

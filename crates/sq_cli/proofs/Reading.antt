@@ -1,8 +1,8 @@
 -- What a phase makes of its text.
 use Rattle.std.proofs.Common.{◌≡◌, ℕ, ◌<◌, ◌≤◌, true, false, List, length, Option, Some, Ok, Err, refl, sym, ◌∙◌, subst}
 use Rattle.sq_port.specs.Ports.{Content}
-use Rattle.sq_text.specs.declared.fault.Phase.{Phase}
-use Rattle.sq_text.specs.declared.fault.Phase.TheVariants.{Program, Types, Machine, Mapping, Resolve, Race, Capacity, Order, Input}
+use Rattle.sq_text.specs.declared.code.Phase.{Phase}
+use Rattle.sq_text.specs.declared.code.Phase.TheVariants.{Program, Types, Machine, Mapping, Resolve, Race, Capacity, Order, Input}
 use Rattle.sq_lexer.specs.Faults.{most_bytes, ReadsTokens, FitsFile, IsTooLong}
 use Rattle.sq_parser.specs.declared.small.SmallEnd.{SmallEnd}
 use Rattle.sq_parser.specs.declared.small.SmallEnd.TheVariants.{NotYet as SmallNotYet, NoMemory as SmallNoMemory}

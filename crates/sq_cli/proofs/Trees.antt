@@ -1,7 +1,7 @@
 -- From a text to its program, or to its first fault.
-use Rattle.std.proofs.Common.{◌≡◌, ◌⊎◌, inl, inr, ℕ, ◌<◌, List, length, Option, Some, Result, Ok, Err, IfOk, refl, sym, ◌∙◌, subst}
+use Rattle.std.proofs.Common.{◌≡◌, inl, inr, ℕ, ◌<◌, List, length, Option, Some, Result, Ok, Err, IfOk, refl, sym, ◌∙◌, subst}
 use Rattle.sq_port.specs.Ports.{Content}
-use Rattle.sq_text.specs.declared.fault.Phase.TheVariants.{Program}
+use Rattle.sq_text.specs.declared.code.Phase.TheVariants.{Program}
 use Rattle.sq_text.specs.declared.fault.Fault.{Fault}
 use Rattle.sq_text.specs.declared.fault.Stop.{Stop}
 use Rattle.sq_text.specs.declared.fault.Stop.TheVariants.{Refused, NoMemory}
@@ -11,9 +11,10 @@ use Rattle.sq_lexer.specs.Tokens.{AreTokens}
 use Rattle.sq_lexer.specs.Faults as lexing
 use Rattle.sq_parser.specs.Programs as parsing
 use Rattle.sq_ast.specs.declared.program.Program.{Program as Tree}
+use Rattle.sq_ast.specs.Given.{IsGiven}
 use Rattle.sq_cli.specs.declared.end.End.TheVariants as end
-use Rattle.sq_cli.specs.Programs.{IsProgramText, IsMisread, ProgramFault, too_long_fault}
-use Rattle.sq_cli.specs.Meaning.{Holds}
+use Rattle.sq_cli.specs.Programs.{IsProgramText, ProgramFault, too_long_fault}
+use Rattle.sq_cli.specs.Holding.{Holds}
 use Rattle.sq_cli.specs.Steps.{ReadsTree}
 use Rattle.sq_cli.proofs.Reading.{too_long}
 
@@ -40,6 +41,10 @@ module _ (text : List ℕ) (ts : List Token) (fits : lexing.FitsFile Program tex
   some_found (Ok p) stand = record { fits = fits; tokens = ts; are = are; stand = stand }
   some_found (Err stop) stand = tt
 
+  pub some_given : (result : Result Tree Stop) → IfOk result (λ p. parsing.IsProgram ts p) → IfOk result (λ p. IsGiven p)
+  some_given (Ok p) stand = record { text = text; tokens = ts; read = are; stand = stand }
+  some_given (Err stop) stand = tt
+
   pub some_only : (result : Result Tree Stop) → ((p : Tree) → parsing.IsProgram ts p → Gives result p) → (p : Tree) → IsProgramText text p → Gives result p
   some_only result only p is = only p (subst (λ (l : List Token). parsing.IsProgram l p) (sym (one is.tokens is.are is.fits)) is.stand)
 
@@ -57,7 +62,7 @@ some_same o x y a b = cc
 
 -- a file that is read whole
 module _ (told : Option Content) (name text : List ℕ) (there : (c : Content) → told ≡ Some c → c name ≡ Some text) (slice : List ℕ) (same : slice ≡ text) where
-  of_slice : {A : Type 0} (Is : List ℕ → A → Type 0) (c : Content) → told ≡ Some c → (value : A) → Holds Is c name value → Is slice value
+  of_slice : {A : Type 0} (Is : List ℕ → A → Type 0) (c : Content) → told ≡ Some c → (value : A) → Holds Is (c name) value → Is slice value
   of_slice Is c is value holds = subst (λ (t : List ℕ). Is t value) (some_same (c name) holds.0 text holds.1 (there c is) ∙ sym same) holds.2
 
   pub tree_held : (p : Tree) → IsProgramText slice p → ((that : Tree) → IsProgramText slice that → p ≡ that) → ((f : Fault) → ProgramFault slice f → ⊥) → ReadsTree told name (Ok p)

@@ -1,14 +1,14 @@
 -- The data file of a run, and the text of its output.
 use Rattle.std.specs.Prelude.{ℕ, zero, suc, List, [], ◌∷◌, Option, Some, None, get_or, ℤ, pos}
 use Rattle.sq_num.specs.declared.Elem.TheVariants.{Int}
-use Rattle.sq_text.specs.declared.fault.Phase.TheVariants.{Input}
-use Rattle.sq_text.specs.declared.fault.Code.{Code}
-use Rattle.sq_text.specs.declared.fault.Code.TheVariants as code
+use Rattle.sq_text.specs.declared.code.Phase.TheVariants.{Input}
+use Rattle.sq_text.specs.declared.code.Code.{Code}
+use Rattle.sq_text.specs.declared.code.Code.TheVariants as code
 use Rattle.sq_text.specs.declared.fault.Arg.{Arg}
 use Rattle.sq_text.specs.declared.fault.Arg.TheVariants.{Word}
 use Rattle.sq_text.specs.declared.fault.Fault.{Fault}
-use Rattle.sq_arrays.specs.declared.end.InputCode.{InputCode}
-use Rattle.sq_arrays.specs.declared.end.InputCode.TheVariants.{LimitFile, Syntax, Name, Shape, Range, Short, Extra}
+use Rattle.sq_arrays.specs.declared.refusal.InputCode.{InputCode}
+use Rattle.sq_arrays.specs.declared.refusal.InputCode.TheVariants.{LimitFile, Syntax, Name, Shape, Range, Short, Extra}
 use Rattle.sq_arrays.specs.Arrays.{Wanted, DataFault}
 use Rattle.sq_arrays.specs.Written.{array_text}
 use Rattle.sq_tree.specs.Source.{Numbers}

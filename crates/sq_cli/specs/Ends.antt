@@ -1,5 +1,5 @@
 -- How a command stops, and what counts of faults allow that.
-use Rattle.std.specs.Prelude.{◌≡◌, ◌≢◌, ◌⊎◌, ℕ, ◌≤◌, List, [], Result, Ok, Err, codes}
+use Rattle.std.specs.Prelude.{◌≡◌, ℕ, ◌≤◌, List, [], Result, Ok, Err, codes}
 use Rattle.sq_port.specs.Ports.{Rose}
 use Rattle.sq_cli.specs.declared.status.Status.{Status}
 use Rattle.sq_cli.specs.declared.status.Status.TheVariants.{Done as DoneStatus, Refused as RefusedStatus, Usage as UsageStatus, FileFault as FileFaultStatus, SinkFault as SinkFaultStatus, NoMemory as NoMemoryStatus, Absent as AbsentStatus}
@@ -31,16 +31,16 @@ end_text (Refused fault) = fault_line fault
 end_text NoMemory = codes "no memory\n"
 end_text SinkFault = []
 
--- the counts of files don't fall; Absent and FileFault have their own that rose, and Done and Refused come only where none rose
+-- the statuses that are not about a file
+abbrev pub IsQuiet : Status → Type 0
+IsQuiet AbsentStatus = ⊥
+IsQuiet FileFaultStatus = ⊥
+IsQuiet status = Unit {0}
+
+-- the counts of the files don't fall; Absent and FileFault have their own that rose, and every other end comes only where none rose
 pub record FileCauses (faults now_faults misses now_misses : ℕ) (status : Status) : Type 0 where
   pub faults_later : faults ≤ now_faults
   pub misses_later : misses ≤ now_misses
   pub absent : status ≡ AbsentStatus → Rose misses now_misses
   pub fault : status ≡ FileFaultStatus → Rose faults now_faults
-  pub done : status ≡ DoneStatus → (now_faults ≡ faults) × (now_misses ≡ misses)
-  pub refused : status ≡ RefusedStatus → (now_faults ≡ faults) × (now_misses ≡ misses)
-
--- SinkFault comes just where a count of a sink rose
-pub record SinkCauses (out now_out err now_err : ℕ) (status : Status) : Type 0 where
-  pub fault : status ≡ SinkFaultStatus → Rose out now_out ⊎ Rose err now_err
-  pub others : status ≢ SinkFaultStatus → (now_out ≡ out) × (now_err ≡ err)
+  pub quiet : IsQuiet status → (now_faults ≡ faults) × (now_misses ≡ misses)

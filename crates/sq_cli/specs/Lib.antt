@@ -1,10 +1,15 @@
+pub mod Banks
 pub mod Data
 pub mod Ends
+pub mod Faults
+pub mod Holding
 pub mod Meaning
 pub mod Outcome
+pub mod Phases
 pub mod Pieces
 pub mod Placing
 pub mod Programs
+pub mod Small
 pub mod Steps
 pub mod Texts
 pub mod Top

@@ -3,7 +3,7 @@ use Rattle.std.specs.Prelude.{◌≡◌, ℕ, true, List, length, Result, Ok, Er
 use Rattle.std.specs.List.{flat_map}
 use Rattle.sq_num.specs.declared.Elem.TheVariants.{Int}
 use Rattle.sq_num.specs.Elements.{cell, IsValue}
-use Rattle.sq_arrays.specs.declared.end.InputEnd.{InputEnd}
+use Rattle.sq_arrays.specs.declared.refusal.InputEnd.{InputEnd}
 use Rattle.sq_arrays.specs.ArrayText.{Fault, Rest, start_of, finished, next_values, ◌>>=◌}
 use Rattle.sq_arrays.specs.Arrays.{array_of_text}
 use Rattle.sq_arrays.specs.Steps.{Fails}

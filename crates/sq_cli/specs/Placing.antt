@@ -1,7 +1,7 @@
 -- Where the arrays of a small program lie, and how much room they need.
 use Rattle.std.specs.Prelude.{◌≡◌, ℕ, ◌+◌, ◌*◌, ◌/◌, ◌^◌, ◌≤◌, List, [], ◌∷◌, None}
-use Rattle.sq_text.specs.declared.fault.Phase.TheVariants.{Capacity as CapacityPhase}
-use Rattle.sq_text.specs.declared.fault.Code.TheVariants.{Capacity as CapacityCode}
+use Rattle.sq_text.specs.declared.code.Phase.TheVariants.{Capacity as CapacityPhase}
+use Rattle.sq_text.specs.declared.code.Code.TheVariants.{Capacity as CapacityCode}
 use Rattle.sq_text.specs.declared.fault.Arg.TheVariants.{Word, Number}
 use Rattle.sq_text.specs.declared.fault.Fault.{Fault}
 use Rattle.sq_tree.specs.declared.plan.Plan.{Plan}

@@ -1,16 +1,14 @@
 -- The program that a text is, and the first fault of a text that is none.
 use Rattle.std.specs.Prelude.{◌⊎◌, ℕ, List, [], Some, None}
-use Rattle.sq_text.specs.declared.fault.Phase.TheVariants as phase
-use Rattle.sq_text.specs.declared.fault.Code.TheVariants as code
+use Rattle.sq_text.specs.declared.code.Phase.TheVariants as phase
+use Rattle.sq_text.specs.declared.code.Code.TheVariants as code
 use Rattle.sq_text.specs.declared.fault.Fault.{Fault}
-use Rattle.sq_text.specs.First.{IsFirst}
-use Rattle.sq_text.specs.Answers.{fault_place}
+use Rattle.sq_text.specs.Faults.{IsFirst}
 use Rattle.sq_lexer.specs.declared.token.Token.{Token}
 use Rattle.sq_lexer.specs.Tokens.{AreTokens}
 use Rattle.sq_lexer.specs.Faults as lexing
 use Rattle.sq_parser.specs.Programs as parsing
 use Rattle.sq_ast.specs.declared.program.Program.{Program}
-use Rattle.sq_types.specs.Rules.{fault_number}
 use Rattle.sq_types.specs.Sites.{TypeFault}
 
 -- the tokens of a text that isn't too long stand for this program
@@ -33,7 +31,7 @@ ProgramFault text its = lexing.HasFault phase.Program text its ⊎ IsMisread tex
 
 -- the first of the faults of a program's names, kinds and parameters
 abbrev pub IsFirstTypeFault : Program → Fault → Type 0
-IsFirstTypeFault program its = IsFirst fault_place fault_number (TypeFault program) (Some its)
+IsFirstTypeFault program its = IsFirst (TypeFault program) (Some its)
 
 -- the fault of a text that is too long
 abbrev pub too_long_fault : Fault

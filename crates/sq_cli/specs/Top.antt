@@ -1,19 +1,22 @@
--- The answer to some words: its cause, its texts and its bank.
-use Rattle.std.specs.Prelude.{◌≡◌, ◌≢◌, ◌⊎◌, ℕ, List, Option, Some, None, Result}
-use Rattle.sq_port.specs.Ports.{Content, Gains, GainsPrefix}
+-- The answer to some words: its cause, its texts, its counts and its bank.
+use Rattle.std.specs.Prelude.{◌≡◌, ◌⊎◌, ℕ, Option, Some, None, Result}
+use Rattle.sq_port.specs.Ports.{Content, Rose}
 use Rattle.sq_cli.specs.declared.status.Status.{Status}
-use Rattle.sq_cli.specs.declared.status.Status.TheVariants.{Done, Refused, Usage, FileFault, SinkFault, NoMemory}
+use Rattle.sq_cli.specs.declared.status.Status.TheVariants.{Usage, FileFault, SinkFault, NoMemory, Absent}
 use Rattle.sq_cli.specs.declared.end.End.{End}
 use Rattle.sq_tree.specs.Bank.{BankSeen}
 use Rattle.sq_cli.specs.Words.{Command}
-use Rattle.sq_cli.specs.Meaning.{Answer, done, refused, usage, absent, Means}
-use Rattle.sq_cli.specs.Outcome.{status_for, out_text, err_text, BankAfter, Wrote}
+use Rattle.sq_cli.specs.Phases.{IsTold}
+use Rattle.sq_cli.specs.Meaning.{Answer, done, refused, trapped, usage, file_fault, absent, IsCause, Means}
+use Rattle.sq_cli.specs.Banks.{Writing, whole, cut_out, cut_err, BankAfter}
+use Rattle.sq_cli.specs.Outcome.{status_for, trace_for, err_text, Outside, Puts, ResultFor}
 
--- the statuses that tell what the files hold
-abbrev pub IsDecided : Status → Type 0
-IsDecided Done = Unit {0}
-IsDecided Refused = Unit {0}
-IsDecided status = ⊥
+-- the statuses that are neither about a file nor about a sink
+abbrev pub IsUndisturbed : Status → Type 0
+IsUndisturbed FileFault = ⊥
+IsUndisturbed SinkFault = ⊥
+IsUndisturbed Absent = ⊥
+IsUndisturbed status = Unit {0}
 
 -- the cause of an answer: usage just where the words are no command
 abbrev pub IsAnswer : Option Command → Option Content → Answer → Type 0
@@ -21,41 +24,60 @@ IsAnswer None told answer = answer ≡ usage
 IsAnswer (Some command) told answer = Means command told answer
 
 -- what the answer leaves of the bank
-abbrev pub BankOf : Option Command → Option Content → Answer → BankSeen → BankSeen → Type 0
-BankOf None told answer old now = now ≡ old
-BankOf (Some command) told answer old now = BankAfter command told answer old now
+abbrev pub BankOf : Option Command → Option Content → Answer → Writing → BankSeen → BankSeen → Type 0
+BankOf None told answer writing old now = now ≡ old
+BankOf (Some command) told answer writing old now = BankAfter command told answer writing old now
 
--- each sink got its text, or with SinkFault a prefix of it
-pub record Writes (answer : Answer) (out now_out err now_err : Option (List ℕ)) (status : Status) : Type 0 where
-  pub names : status ≢ SinkFault → status ≡ status_for answer
-  pub whole : status ≢ SinkFault → Gains out now_out (out_text answer) × Gains err now_err (err_text answer)
-  pub cut : status ≡ SinkFault → GainsPrefix out now_out (out_text answer) × GainsPrefix err now_err (err_text answer)
+-- the answer's status, or SinkFault where a put failed
+abbrev pub StatusFor : Answer → Writing → Status → Type 0
+StatusFor answer whole status = status ≡ status_for answer
+StatusFor answer cut_out status = status ≡ SinkFault
+StatusFor answer cut_err status = status ≡ SinkFault
 
--- an answer that has its cause is written, and the bank is as it says
-pub record Answered (command : Option Command) (told : Option Content) (out now_out err now_err : Option (List ℕ)) (bank now_bank : BankSeen) (status : Status) : Type 0 where
+-- the counts of the files: an answer about a file has its own that rose, and every other comes only where none rose
+abbrev pub FilesFor : Answer → ℕ → ℕ → ℕ → ℕ → Type 0
+FilesFor (absent phase name) faults now_faults misses now_misses = Rose misses now_misses
+FilesFor (file_fault phase name) faults now_faults misses now_misses = Rose faults now_faults
+FilesFor answer faults now_faults misses now_misses = (now_faults ≡ faults) × (now_misses ≡ misses)
+
+-- an answer that has its cause is written, the counts of the files are such, and the bank is as it says
+pub record Answered (command : Option Command) (old now : Outside) (faults now_faults misses now_misses : ℕ) (status : Status) : Type 0 where
   pub answer : Answer
-  pub cause : IsAnswer command told answer
-  pub writes : Writes answer out now_out err now_err status
-  pub bank_after : BankOf command told answer bank now_bank
+  pub writing : Writing
+  pub cause : IsAnswer command old.told answer
+  pub status_is : StatusFor answer writing status
+  pub puts : Puts writing answer (err_text answer) old now
+  pub files : FilesFor answer faults now_faults misses now_misses
+  pub bank_after : BankOf command old.told answer writing old.bank now.bank
 
 -- the same before the line that names the answer is written
-pub record Executed (command : Option Command) (told : Option Content) (out now_out err now_err : Option (List ℕ)) (bank now_bank : BankSeen) (result : Result (Unit {0}) End) : Type 0 where
+pub record Executed (command : Option Command) (old now : Outside) (result : Result (Unit {0}) End) : Type 0 where
   pub answer : Answer
-  pub cause : IsAnswer command told answer
-  pub wrote : Wrote answer out now_out err now_err result
-  pub bank_after : BankOf command told answer bank now_bank
+  pub writing : Writing
+  pub cause : IsAnswer command old.told answer
+  pub result_is : ResultFor answer writing result
+  pub puts : Puts writing answer (trace_for answer) old now
+  pub bank_after : BankOf command old.told answer writing old.bank now.bank
+
+-- what a line that was put, or cut, makes of that
+pub record Finished (answer : Answer) (writing : Writing) (old now : Outside) (status : Status) : Type 0 where
+  pub last : Writing
+  pub later : (command : Option Command) (told : Option Content) (bank now_bank : BankSeen) → BankOf command told answer writing bank now_bank → BankOf command told answer last bank now_bank
+  pub status_is : StatusFor answer last status
+  pub puts : Puts last answer (err_text answer) old now
 
 -- an answer that tells what the files hold
 abbrev pub IsSaid : Answer → Type 0
 IsSaid (done out trace) = Unit {0}
 IsSaid (refused phase refusal) = Unit {0}
+IsSaid (trapped trap trace) = Unit {0}
 IsSaid (absent phase name) = Unit {0}
 IsSaid answer = ⊥
 
 -- the status is that of what the files say, or want of memory
-abbrev pub IsExplained : Option Command → Content → Status → Type 0
-IsExplained None c status = status ≡ Usage
-IsExplained (Some command) c status = (status ≡ NoMemory) ⊎ ((answer : Answer) × IsSaid answer × Means command (Some c) answer × (status ≡ status_for answer))
+abbrev pub IsExplained : Option Command → Option Content → Status → Type 0
+IsExplained None told status = status ≡ Usage
+IsExplained (Some command) told status = (c : Content) → IsTold command told c → (status ≡ NoMemory) ⊎ ((answer : Answer) × IsSaid answer × IsCause command c answer × (status ≡ status_for answer))
 
 -- the statuses that may stand in place of what the files say
 abbrev pub IsFree : Status → Type 0
@@ -65,6 +87,6 @@ IsFree SinkFault = Unit {0}
 IsFree status = ⊥
 
 -- what the files say is answered, or a failure in its place
-abbrev pub IsOnly : Option Command → Content → Status → Type 0
-IsOnly None c status = Unit {0}
-IsOnly (Some command) c status = (answer : Answer) → IsSaid answer → Means command (Some c) answer → (status ≡ status_for answer) ⊎ IsFree status
+abbrev pub IsOnly : Option Command → Option Content → Status → Type 0
+IsOnly None told status = Unit {0}
+IsOnly (Some command) told status = (c : Content) → IsTold command told c → (answer : Answer) → IsSaid answer → IsCause command c answer → (status ≡ status_for answer) ⊎ IsFree status

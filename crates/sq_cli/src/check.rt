@@ -1,40 +1,37 @@
 //! The command `check`: whether a program keeps the rules of names, kinds and parameters.
-ghost use Rattle.std.specs.Prelude.{◌≡◌};
-ghost use Rattle.sq_cli.specs.Words.{check};
-ghost use Rattle.sq_cli.specs.Ends.{ending, FileCauses, SinkCauses};
-ghost use Rattle.sq_cli.specs.Outcome.{Ended};
+ghost use Rattle.sq_cli.specs.Words.{check_of};
 
 use crate::end::End;
 use crate::tree::read_tree;
+use crate::words::Check;
+use crate::world::{Perform, World};
 use sq_port::{Failed, Files, Sink, put_all};
 use sq_text::Stop;
 use sq_tree::Bank;
 use std::alloc::Global;
 
-pub fn check<'a, F: Files, S: Sink, E: Sink, B: Bank>(
-    alloc: Global,
-    name: &'a str,
-    files: &mut F,
-    out: &mut S,
-    err: &mut E,
-    bank: &mut B,
-) -> Result<(), End<'a>>
-    ensures content { F.content files.new ≡ F.content files.old }
-    ensures ended { Ended (check name.now) (F.content files.old) (S.written out.old) (S.written out.new) (E.written err.old) (E.written err.new) (B.seen bank.old) (B.seen bank.new) result }
-    ensures cause { FileCauses (F.faults files.old) (F.faults files.new) (F.misses files.old) (F.misses files.new) (ending result) }
-    ensures sink { SinkCauses (S.faults out.old) (S.faults out.new) (E.faults err.old) (E.faults err.new) (ending result) }
-{
-    let program = match read_tree(alloc, files, name) {
-        Ok(program) => program,
-        Err(end) => return Err(end),
-    };
-    match sq_types::check(alloc, program) {
-        Ok(_) => {}
-        Err(Stop::Refused(fault)) => return Err(End::Refused(fault)),
-        Err(Stop::NoMemory) => return Err(End::NoMemory),
-    }
-    match put_all(out, b"ok\n") {
-        Ok(()) => Ok(()),
-        Err(Failed) => Err(End::SinkFault),
+impl<'a> Perform<'a> for Check<'a> {
+    ghost command = { λ words. check_of words.program.now };
+
+    // Not inlined: each command has the stack to itself.
+    #[inline(never)]
+    fn perform<F: Files, S: Sink, E: Sink, B: Bank>(
+        &self,
+        alloc: Global,
+        world: &mut World<'_, '_, '_, '_, F, S, E, B>,
+    ) -> Result<(), End<'a>> {
+        let program = match read_tree(alloc, world.files, self.program) {
+            Ok(program) => program,
+            Err(end) => return Err(end),
+        };
+        match sq_types::check(alloc, program) {
+            Ok(_) => {}
+            Err(Stop::Refused(fault)) => return Err(End::Refused(fault)),
+            Err(Stop::NoMemory) => return Err(End::NoMemory),
+        }
+        match put_all(world.out, b"ok\n") {
+            Ok(()) => Ok(()),
+            Err(Failed) => Err(End::SinkFault),
+        }
     }
 }

@@ -16,8 +16,9 @@ mod tests;
 mod top;
 mod tree;
 mod words;
+mod world;
 
-use adapters::{DiskFiles, ErrSink, OutSink};
+use adapters::{DiskFiles, StreamSink};
 use end::put_usage;
 use sq_tree::RawBank;
 use status::Status;
@@ -30,14 +31,17 @@ fn main(rt: HostRuntime) -> ExitCode {
 }
 
 fn tool(rt: &HostRuntime) -> Status {
-    let mut out = OutSink::new(rt.stdout());
-    let mut err = ErrSink::new(rt.stderr());
+    let mut out = StreamSink::new(rt.stdout());
+    let mut err = StreamSink::new(rt.stderr());
     let words = match gather(rt) {
         Ok(words) => words,
         Err(NoWords::NoMemory) => return Status::NoMemory,
         Err(NoWords::NotText) => return put_usage(&mut err),
     };
-    let mut files = DiskFiles::new(rt);
+    let mut files = match DiskFiles::new(rt.alloc(), rt) {
+        Ok(files) => files,
+        Err(_) => return Status::NoMemory,
+    };
     let mut bank = RawBank::new();
     sq_top(
         rt.alloc(),

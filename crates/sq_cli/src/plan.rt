@@ -2,13 +2,13 @@
 ghost use Rattle.std.specs.Prelude.{◌≡◌, ◌*◌, ◌<◌, ◌≤◌, ◌∷◌, ◌^◌, [], IfOk};
 ghost use Rattle.sq_text.specs.declared.fault.Arg.TheVariants.{Word};
 ghost use Rattle.sq_cli.specs.Placing.{rounded, need, capacity_fault};
-ghost use Rattle.sq_cli.specs.Words.{run};
+ghost use Rattle.sq_cli.specs.Words.{run_of};
 ghost use Rattle.sq_cli.specs.Ends.{ending, FileCauses};
 ghost use Rattle.sq_cli.specs.Steps.{Plans, LaysOut};
 
 use crate::end::End;
 use crate::phases::{read_machine, read_mapping, read_program};
-use crate::words::RunFiles;
+use crate::words::Run;
 use sq_parser::{SmallMachine, SmallTask};
 use sq_port::Files;
 use sq_text::{Arg, Args, Code, Fault, Name, Phase};
@@ -26,22 +26,22 @@ pub struct Planned {
 /// Reads the program, the machine and the mapping, and lays out their arrays.
 pub fn plan_run<'a, F: Files>(
     alloc: Global,
-    names: RunFiles<'a>,
+    words: &Run<'a>,
     files: &mut F,
 ) -> Result<Planned, End<'a>>
     ensures content { F.content files.new ≡ F.content files.old }
-    ensures planned { Plans (run names.entry.program.now names.entry.mapping.now names.entry.machine.now names.entry.input.now) (F.content files.old) result }
+    ensures planned { Plans (run_of words.now.program.now words.now.mapping.now words.now.machine.now words.now.input.now) (F.content files.old) result }
     ensures cause { FileCauses (F.faults files.old) (F.faults files.new) (F.misses files.old) (F.misses files.new) (ending result) }
 {
-    let task = match read_program(alloc, files, names.program) {
+    let task = match read_program(alloc, files, words.program) {
         Ok(task) => task,
         Err(end) => return Err(end),
     };
-    let machine = match read_machine(alloc, files, names.machine) {
+    let machine = match read_machine(alloc, files, words.machine) {
         Ok(machine) => machine,
         Err(end) => return Err(end),
     };
-    let n = match read_mapping(alloc, files, names.mapping, &task, &machine) {
+    let n = match read_mapping(alloc, files, words.mapping, &task, &machine) {
         Ok(n) => n,
         Err(end) => return Err(end),
     };

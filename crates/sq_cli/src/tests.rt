@@ -74,140 +74,141 @@ fn words_of(rt: &HostRuntime, words: &[&str]) -> Result<Vec<String>, Fail> {
     Ok(made)
 }
 
+const CASES: &[Case<'static>] = &[
+    // With ample memory it is done.
+    Case {
+        words: &["run", "P1.sq", "3.map", "32.mach", "3.txt"],
+        status: Status::Done,
+        out: b"array B int [3]\n2 4 6\n",
+        err: b"",
+    },
+    Case {
+        words: &["run", "P1.sq", "1.map", "16.mach", "1.txt"],
+        status: Status::Done,
+        out: b"array B int [1]\n-2\n",
+        err: b"",
+    },
+    Case {
+        words: &["run", "minus.sq", "minus.map", "32.mach", "3.txt"],
+        status: Status::Done,
+        out: b"array B int [3]\n-1 -2 -3\n",
+        err: b"",
+    },
+    Case {
+        words: &["run", "P1.sq", "3.map", "31.mach", "3.txt"],
+        status: Status::Refused,
+        out: b"",
+        err: b"refused capacity Capacity host 32 31\n",
+    },
+    Case {
+        words: &["run", "P1.sq", "3.map", "32.mach", "short.txt"],
+        status: Status::Refused,
+        out: b"",
+        err: b"refused data Short 3:1 A\n",
+    },
+    Case {
+        words: &["run", "P1.sq", "3.map", "32.mach", "range.txt"],
+        status: Status::Refused,
+        out: b"",
+        err: b"refused data Range 2:3 A\n",
+    },
+    Case {
+        words: &["run", "P1.sq", "3.map", "32.mach", "name.txt"],
+        status: Status::Refused,
+        out: b"",
+        err: b"refused data Name 1:7 A\n",
+    },
+    Case {
+        words: &["run", "P1.sq", "3.map", "32.mach", "extra.txt"],
+        status: Status::Refused,
+        out: b"",
+        err: b"refused data Extra 2:7 A\n",
+    },
+    Case {
+        words: &["run", "3.map", "3.map", "32.mach", "3.txt"],
+        status: Status::Refused,
+        out: b"",
+        err: b"refused program NotYet\n",
+    },
+    Case {
+        words: &["run", "P1.sq", "P1.sq", "32.mach", "3.txt"],
+        status: Status::Refused,
+        out: b"",
+        err: b"refused mapping NotYet\n",
+    },
+    Case {
+        words: &["run", "P1.sq", "P1.sq", "P1.sq", "3.txt"],
+        status: Status::Refused,
+        out: b"",
+        err: b"refused machine NotYet\n",
+    },
+    Case {
+        words: &["run", "P1.sq", "3.map", "32.mach", "none.txt"],
+        status: Status::Absent,
+        out: b"",
+        err: b"absent none.txt\n",
+    },
+    Case {
+        words: &["fmt", "P1.sq"],
+        status: Status::Done,
+        out: CANONICAL,
+        err: b"",
+    },
+    Case {
+        words: &["fmt", "canonical.sq"],
+        status: Status::Done,
+        out: CANONICAL,
+        err: b"",
+    },
+    Case {
+        words: &["fmt", "ends.sq"],
+        status: Status::Refused,
+        out: b"",
+        err: b"refused program Syntax 2:18\n",
+    },
+    Case {
+        words: &["check", "ends.sq"],
+        status: Status::Refused,
+        out: b"",
+        err: b"refused program Syntax 2:18\n",
+    },
+    Case {
+        words: &["check", "writes.sq"],
+        status: Status::Refused,
+        out: b"",
+        err: b"refused types WriteIn 2:3 A\n",
+    },
+    Case {
+        words: &["check", "two.sq"],
+        status: Status::Done,
+        out: b"ok\n",
+        err: b"",
+    },
+    Case {
+        words: &["check", "none.sq"],
+        status: Status::Absent,
+        out: b"",
+        err: b"absent none.sq\n",
+    },
+    Case {
+        words: &[
+            "run",
+            "P1.sq",
+            "3.map",
+            "32.mach",
+            "3.txt",
+            "order=first",
+            "order=last",
+        ],
+        status: Status::Usage,
+        out: b"",
+        err: USAGE,
+    },
+];
+
 #[test]
 fn cases(rt: HostRuntime) -> Result<(), Fail> {
-    let cases = [
-        // With ample memory it is done.
-        Case {
-            words: &["run", "P1.sq", "3.map", "32.mach", "3.txt"],
-            status: Status::Done,
-            out: b"array B int [3]\n2 4 6\n",
-            err: b"",
-        },
-        Case {
-            words: &["run", "P1.sq", "1.map", "16.mach", "1.txt"],
-            status: Status::Done,
-            out: b"array B int [1]\n-2\n",
-            err: b"",
-        },
-        Case {
-            words: &["run", "minus.sq", "minus.map", "32.mach", "3.txt"],
-            status: Status::Done,
-            out: b"array B int [3]\n-1 -2 -3\n",
-            err: b"",
-        },
-        Case {
-            words: &["run", "P1.sq", "3.map", "31.mach", "3.txt"],
-            status: Status::Refused,
-            out: b"",
-            err: b"refused capacity Capacity host 32 31\n",
-        },
-        Case {
-            words: &["run", "P1.sq", "3.map", "32.mach", "short.txt"],
-            status: Status::Refused,
-            out: b"",
-            err: b"refused data Short 3:1 A\n",
-        },
-        Case {
-            words: &["run", "P1.sq", "3.map", "32.mach", "range.txt"],
-            status: Status::Refused,
-            out: b"",
-            err: b"refused data Range 2:3 A\n",
-        },
-        Case {
-            words: &["run", "P1.sq", "3.map", "32.mach", "name.txt"],
-            status: Status::Refused,
-            out: b"",
-            err: b"refused data Name 1:7 A\n",
-        },
-        Case {
-            words: &["run", "P1.sq", "3.map", "32.mach", "extra.txt"],
-            status: Status::Refused,
-            out: b"",
-            err: b"refused data Extra 2:7 A\n",
-        },
-        Case {
-            words: &["run", "3.map", "3.map", "32.mach", "3.txt"],
-            status: Status::Refused,
-            out: b"",
-            err: b"refused program NotYet\n",
-        },
-        Case {
-            words: &["run", "P1.sq", "P1.sq", "32.mach", "3.txt"],
-            status: Status::Refused,
-            out: b"",
-            err: b"refused mapping NotYet\n",
-        },
-        Case {
-            words: &["run", "P1.sq", "P1.sq", "P1.sq", "3.txt"],
-            status: Status::Refused,
-            out: b"",
-            err: b"refused machine NotYet\n",
-        },
-        Case {
-            words: &["run", "P1.sq", "3.map", "32.mach", "none.txt"],
-            status: Status::Absent,
-            out: b"",
-            err: b"absent none.txt\n",
-        },
-        Case {
-            words: &["fmt", "P1.sq"],
-            status: Status::Done,
-            out: CANONICAL,
-            err: b"",
-        },
-        Case {
-            words: &["fmt", "canonical.sq"],
-            status: Status::Done,
-            out: CANONICAL,
-            err: b"",
-        },
-        Case {
-            words: &["fmt", "ends.sq"],
-            status: Status::Refused,
-            out: b"",
-            err: b"refused program Syntax 2:18\n",
-        },
-        Case {
-            words: &["check", "ends.sq"],
-            status: Status::Refused,
-            out: b"",
-            err: b"refused program Syntax 2:18\n",
-        },
-        Case {
-            words: &["check", "writes.sq"],
-            status: Status::Refused,
-            out: b"",
-            err: b"refused types WriteIn 2:3 A\n",
-        },
-        Case {
-            words: &["check", "two.sq"],
-            status: Status::Done,
-            out: b"ok\n",
-            err: b"",
-        },
-        Case {
-            words: &["check", "none.sq"],
-            status: Status::Absent,
-            out: b"",
-            err: b"absent none.sq\n",
-        },
-        Case {
-            words: &[
-                "run",
-                "P1.sq",
-                "3.map",
-                "32.mach",
-                "3.txt",
-                "order=first",
-                "order=last",
-            ],
-            status: Status::Usage,
-            out: b"",
-            err: USAGE,
-        },
-    ];
-    for case in &cases {
+    for case in CASES {
         let words = words_of(&rt, case.words)?;
         let mut files = files(&rt)?;
         let mut out = MemSink::new(rt.alloc(), 200)?;
@@ -228,24 +229,25 @@ fn cases(rt: HostRuntime) -> Result<(), Fail> {
     Ok(())
 }
 
+const FAILING: &[Case<'static>] = &[
+    Case {
+        words: &["run", "P1.sq", "3.map", "32.mach", "3.txt"],
+        status: Status::SinkFault,
+        out: b"array",
+        err: b"",
+    },
+    Case {
+        words: &["fmt", "P1.sq"],
+        status: Status::SinkFault,
+        out: b"void ",
+        err: b"",
+    },
+];
+
 // The first read fails, and then `out` has room for 5 bytes.
 #[test]
 fn failing_devices(rt: HostRuntime) -> Result<(), Fail> {
-    let cases = [
-        Case {
-            words: &["run", "P1.sq", "3.map", "32.mach", "3.txt"],
-            status: Status::SinkFault,
-            out: b"array",
-            err: b"",
-        },
-        Case {
-            words: &["fmt", "P1.sq"],
-            status: Status::SinkFault,
-            out: b"void ",
-            err: b"",
-        },
-    ];
-    for case in &cases {
+    for case in FAILING {
         let words = words_of(&rt, case.words)?;
         for read in 0..2u64 {
             let room = if read == 1 { 200 } else { 5 };

@@ -1,18 +1,17 @@
 //! The top call.
-ghost use Rattle.std.specs.Prelude.{◌≡◌, ◌≢◌, ◌⊎◌, ℕ, Some, None};
-ghost use Rattle.sq_port.specs.Ports.{Rose, Content};
+ghost use Rattle.std.specs.Prelude.{◌≡◌, ◌≢◌, ◌⊎◌, ◌≤◌, Some, None};
+ghost use Rattle.sq_port.specs.Ports.{Rose};
 ghost use Rattle.sq_cli.specs.Words.{command_of, texts};
-ghost use Rattle.sq_cli.specs.Ends.{ending, FileCauses, SinkCauses};
+ghost use Rattle.sq_cli.specs.Ends.{ending, FileCauses};
 ghost use Rattle.sq_cli.specs.Meaning.{Answer};
-ghost use Rattle.sq_cli.specs.Outcome.{Wrote};
-ghost use Rattle.sq_cli.specs.Top.{Answered, Executed, IsDecided, IsExplained, IsOnly, Writes};
+ghost use Rattle.sq_cli.specs.Banks.{Writing};
+ghost use Rattle.sq_cli.specs.Outcome.{Outside, Puts, ResultFor, trace_for};
+ghost use Rattle.sq_cli.specs.Top.{Answered, Executed, Finished, IsExplained, IsOnly, IsUndisturbed};
 
-use crate::check::check;
 use crate::end::{End, put_end};
-use crate::fmt::fmt;
-use crate::run::run;
 use crate::status::Status;
 use crate::words::{Command, parse};
+use crate::world::{Perform, World};
 use sq_port::{Failed, Files, Sink};
 use sq_tree::Bank;
 use std::alloc::Global;
@@ -33,24 +32,34 @@ pub fn sq_top<F: Files, S: Sink, E: Sink, B: Bank>(
     // Absent, FileFault and SinkFault come only where a count rose in this call, and a sink's count rises at SinkFault alone.
     ensures absent { result ≡ Status.Absent → Rose (F.misses files.old) (F.misses files.new) }
     ensures file_fault { result ≡ Status.FileFault → Rose (F.faults files.old) (F.faults files.new) }
-    ensures sink_fault { result ≡ Status.SinkFault → Rose (S.faults out.old) (S.faults out.new) ⊎ Rose (E.faults err.old) (E.faults err.new) }
+    ensures sink_fault { result ≡ Status.SinkFault → (Rose (S.faults out.old) (S.faults out.new) × (E.faults err.new ≡ E.faults err.old)) ⊎ (Rose (E.faults err.old) (E.faults err.new) × (S.faults out.new ≡ S.faults out.old)) }
     ensures no_sink_fault { result ≢ Status.SinkFault → (S.faults out.new ≡ S.faults out.old) × (E.faults err.new ≡ E.faults err.old) }
 
-    // Done and Refused come only where no read failed and no file was missed.
-    ensures decided { IsDecided result → (F.faults files.new ≡ F.faults files.old) × (F.misses files.new ≡ F.misses files.old) }
+    // With every other answer no read failed and no file was missed.
+    ensures undisturbed { IsUndisturbed result → (F.faults files.new ≡ F.faults files.old) × (F.misses files.new ≡ F.misses files.old) }
 
-    // The answer has its cause in what the words and the files say, its text on each sink, and its bank.
-    ensures answered { Answered (command_of (texts words.now)) (F.content files.old) (S.written out.old) (S.written out.new) (E.written err.old) (E.written err.new) (B.seen bank.old) (B.seen bank.new) result }
+    // What the files hold stays, and their counts don't fall.
+    ensures content { F.content files.new ≡ F.content files.old }
+    ensures faults_later { F.faults files.old ≤ F.faults files.new }
+    ensures misses_later { F.misses files.old ≤ F.misses files.new }
+
+    // The answer has its cause in what the words and the files say, its text on each sink, its counts, and its bank.
+    ensures answered { Answered (command_of (texts words.now))
+        (record { told = F.content files.old; out = S.written out.old; out_faults = S.faults out.old; err = E.written err.old; err_faults = E.faults err.old; bank = B.seen bank.old })
+        (record { told = F.content files.new; out = S.written out.new; out_faults = S.faults out.new; err = E.written err.new; err_faults = E.faults err.new; bank = B.seen bank.new })
+        (F.faults files.old) (F.faults files.new) (F.misses files.old) (F.misses files.new) result }
 
     // For want of memory nothing was opened, and `out` got nothing.
     ensures no_memory { result ≡ Status.NoMemory → B.seen bank.new ≡ B.seen bank.old }
 
     // What the files say is answered, or FileFault, SinkFault or want of memory in its place: so Refused comes exactly
-    // where a fault is reached, Absent where a file that isn't there is, and Done where all is accepted.
-    ensures only { (c : Content) → F.content files.old ≡ Some c → IsOnly (command_of (texts words.now)) c result }
+    // where a fault is reached, Absent where a file that isn't there is, Trapped where all is accepted and the source traps,
+    // and Done where it is accepted and doesn't.
+    ensures only { IsOnly (command_of (texts words.now)) (F.content files.old) result }
 
-    // Where the files tell their content and no read and no put failed, the answer is the one that they say, or want of memory.
-    ensures complete { (c : Content) → F.content files.old ≡ Some c → ¬ Rose (F.faults files.old) (F.faults files.new) → ¬ Rose (S.faults out.old) (S.faults out.new) → ¬ Rose (E.faults err.old) (E.faults err.new) → IsExplained (command_of (texts words.now)) c result }
+    // Where the files tell their content or the command has none, and no read and no put failed, the answer is the one that
+    // they say, or want of memory.
+    ensures complete { ¬ Rose (F.faults files.old) (F.faults files.new) → ¬ Rose (S.faults out.old) (S.faults out.new) → ¬ Rose (E.faults err.old) (E.faults err.new) → IsExplained (command_of (texts words.now)) (F.content files.old) result }
 {
     let ended = execute(alloc, words, files, out, err, bank);
     finish(ended, err)
@@ -66,30 +75,66 @@ fn execute<'a, F: Files, S: Sink, E: Sink, B: Bank>(
     bank: &mut B,
 ) -> Result<(), End<'a>>
     ensures content { F.content files.new ≡ F.content files.old }
-    ensures executed { Executed (command_of (texts words.now)) (F.content files.old) (S.written out.old) (S.written out.new) (E.written err.old) (E.written err.new) (B.seen bank.old) (B.seen bank.new) result }
+    ensures executed { Executed (command_of (texts words.now))
+        (record { told = F.content files.old; out = S.written out.old; out_faults = S.faults out.old; err = E.written err.old; err_faults = E.faults err.old; bank = B.seen bank.old })
+        (record { told = F.content files.new; out = S.written out.new; out_faults = S.faults out.new; err = E.written err.new; err_faults = E.faults err.new; bank = B.seen bank.new })
+        result }
     ensures cause { FileCauses (F.faults files.old) (F.faults files.new) (F.misses files.old) (F.misses files.new) (ending result) }
-    ensures sink { SinkCauses (S.faults out.old) (S.faults out.new) (E.faults err.old) (E.faults err.new) (ending result) }
+{
+    let mut world = World {
+        files,
+        out,
+        err,
+        bank,
+    };
+    dispatch(alloc, words, &mut world)
+}
+
+// Lets the command of the words do its work.
+fn dispatch<'a, F: Files, S: Sink, E: Sink, B: Bank>(
+    alloc: Global,
+    words: &'a [String],
+    world: &mut World<'_, '_, '_, '_, F, S, E, B>,
+) -> Result<(), End<'a>>
+    ensures lent { (world.new.files.ghost_name ≡ world.old.files.ghost_name) × (world.new.out.ghost_name ≡ world.old.out.ghost_name) × (world.new.err.ghost_name ≡ world.old.err.ghost_name) × (world.new.bank.ghost_name ≡ world.old.bank.ghost_name) }
+    ensures content { F.content world.new.files.now ≡ F.content world.old.files.now }
+    ensures executed { Executed (command_of (texts words.now))
+        (record { told = F.content world.old.files.now; out = S.written world.old.out.now; out_faults = S.faults world.old.out.now; err = E.written world.old.err.now; err_faults = E.faults world.old.err.now; bank = B.seen world.old.bank.now })
+        (record { told = F.content world.new.files.now; out = S.written world.new.out.now; out_faults = S.faults world.new.out.now; err = E.written world.new.err.now; err_faults = E.faults world.new.err.now; bank = B.seen world.new.bank.now })
+        result }
+    ensures cause { FileCauses (F.faults world.old.files.now) (F.faults world.new.files.now) (F.misses world.old.files.now) (F.misses world.new.files.now) (ending result) }
 {
     match parse(words) {
-        Some(Command::Check(program)) => check(alloc, program, files, out, err, bank),
-        Some(Command::Fmt(program)) => fmt(alloc, program, files, out, err, bank),
-        Some(Command::Run(names)) => run(alloc, names, files, out, err, bank),
+        Some(Command::Check(check)) => check.perform(alloc, world),
+        Some(Command::Fmt(fmt)) => fmt.perform(alloc, world),
+        Some(Command::Run(run)) => run.perform(alloc, world),
         None => Err(End::Usage),
     }
 }
 
-// Puts the line of an end, and gives its status.
+// Puts the line that names the answer, and gives its status.
 fn finish<E: Sink>(ended: Result<(), End<'_>>, err: &mut E) -> Status
-    ensures writes { (answer : Answer) (out : _) (now_out : _) (start : _) → Wrote answer out now_out start (E.written err.old) ended.entry → Writes answer out now_out start (E.written err.new) result }
-    ensures cause { (f : ℕ) (f2 : ℕ) (m : ℕ) (m2 : ℕ) → FileCauses f f2 m m2 (ending ended.entry) → FileCauses f f2 m m2 result }
-    ensures sink { (o : ℕ) (o2 : ℕ) (start : ℕ) → SinkCauses o o2 start (E.faults err.old) (ending ended.entry) → SinkCauses o o2 start (E.faults err.new) result }
+    ensures { (answer : Answer) (writing : Writing) (old mid : Outside) → mid.err ≡ E.written err.old → mid.err_faults ≡ E.faults err.old
+        → ResultFor answer writing ended.entry → Puts writing answer (trace_for answer) old mid
+        → Finished answer writing old (record mid { err = E.written err.new; err_faults = E.faults err.new }) result }
 {
-    let end = match ended {
-        Ok(()) => return Status::Done,
-        Err(end) => end,
-    };
-    match put_end(err, &end) {
-        Ok(()) => end.status(),
-        Err(Failed) => Status::SinkFault,
+    match ended {
+        Ok(()) => Status::Done,
+        Err(end) => finish_end(end, err),
+    }
+}
+
+// Puts the line of an end, but where a sink has failed.
+fn finish_end<E: Sink>(end: End<'_>, err: &mut E) -> Status
+    ensures { (answer : Answer) (writing : Writing) (old mid : Outside) → mid.err ≡ E.written err.old → mid.err_faults ≡ E.faults err.old
+        → ResultFor answer writing (Err end.entry) → Puts writing answer (trace_for answer) old mid
+        → Finished answer writing old (record mid { err = E.written err.new; err_faults = E.faults err.new }) result }
+{
+    match end {
+        End::SinkFault => Status::SinkFault,
+        named => match put_end(err, &named) {
+            Ok(()) => named.status(),
+            Err(Failed) => Status::SinkFault,
+        },
     }
 }

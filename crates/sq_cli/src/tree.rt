@@ -3,6 +3,7 @@ ghost use Rattle.std.specs.Prelude.{◌≡◌, IfOk};
 ghost use Rattle.sq_text.specs.Answers.{Gives, IfRefused, Refuses};
 ghost use Rattle.sq_text.specs.declared.fault.Fault.{Fault};
 ghost use Rattle.sq_ast.specs.declared.program.Program.{Program};
+ghost use Rattle.sq_ast.specs.Given.{IsGiven};
 ghost use Rattle.sq_cli.specs.Programs.{IsProgramText, ProgramFault, too_long_fault};
 ghost use Rattle.sq_cli.specs.Ends.{ending, FileCauses};
 ghost use Rattle.sq_cli.specs.Steps.{ReadsTree};
@@ -23,6 +24,7 @@ pub fn read_tree<'a, F: Files>(
 ) -> Result<Program, End<'a>>
     ensures content { F.content files.new ≡ F.content files.old }
     ensures told { ReadsTree (F.content files.old) name.now result }
+    ensures given { IfOk result (λ p. IsGiven p) }
     ensures cause { FileCauses (F.faults files.old) (F.faults files.new) (F.misses files.old) (F.misses files.new) (ending result) }
 {
     let text = match read_whole(alloc, files, name, MOST_BYTES) {
@@ -54,6 +56,7 @@ fn too_long(alloc: Global) -> Fault
 // The program that the text is, and else its first fault.
 fn tree_of(alloc: Global, text: &[u8]) -> Result<Program, Stop>
     ensures found { IfOk result (λ p. IsProgramText text.now p) }
+    ensures given { IfOk result (λ p. IsGiven p) }
     ensures only { (p : Program) → IsProgramText text.now p → Gives result p }
     ensures refused { IfRefused result (λ f. ProgramFault text.now f) }
     ensures refuses { (f : Fault) → ProgramFault text.now f → Refuses result f }

@@ -5,7 +5,7 @@ use Rattle.std.proofs.lemmas.List.{take-append-drop, take-append-le, drop-append
 use Rattle.std.proofs.Math.Seq.{drop_at, drop-drop}
 use Rattle.sq_num.specs.declared.Elem.{Elem}
 use Rattle.sq_num.specs.Elements.{width, value, cell}
-use Rattle.sq_num.proofs.Laws.{length-cell}
+use Rattle.sq_num.proofs.Cutting.{length-cell}
 use Rattle.sq_tree.specs.Source.{Numbers}
 use Rattle.sq_tree.specs.Bytes.{put_at, array_at, array_bytes}
 

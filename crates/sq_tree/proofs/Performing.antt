@@ -26,8 +26,9 @@ some_same : {A : Type 0} (x y : A) → Some x ≡ Some y → x ≡ y
 some_same x y is = cc
 
 -- an event of a bank that tells none
-untold : (event : SmallEvent) (seen now : BankSeen) (left : List (List ℕ)) → now.plan ≡ seen.plan → now.nodes ≡ left → now.events ≡ None → now.counts ≡ counted event seen.counts → now.edges ≡ seen.edges → Performs event left seen now
-untold event seen now left plan nodes none counts edges = record {
+untold : (event : SmallEvent) (seen now : BankSeen) (left : List (List ℕ)) → now.openings ≡ seen.openings → now.plan ≡ seen.plan → now.nodes ≡ left → now.events ≡ None → now.counts ≡ counted event seen.counts → now.edges ≡ seen.edges → Performs event left seen now
+untold event seen now left openings plan nodes none counts edges = record {
+  openings = openings;
   plan = plan;
   nodes = nodes;
   events = λ performed told. absurd (let no : None ≡ Some performed = sym none ∙ told in cc);
@@ -35,11 +36,11 @@ untold event seen now left plan nodes none counts edges = record {
   edges = edges;
 }
 
-pub fill_performed : (opened : Option Opened) (o : Opened) (to : Spot) (e : Elem) (count : ℕ) (v : ℤ) (memory : List ℕ) (fills : ℕ) → opened ≡ Some o → to.node < length (opened_seen opened).nodes
+pub fill_performed : (openings : ℕ) (opened : Option Opened) (o : Opened) (to : Spot) (e : Elem) (count : ℕ) (v : ℤ) (memory : List ℕ) (fills : ℕ) → opened ≡ Some o → to.node < length (opened_seen openings opened).nodes
     → memory ≡ put_at to.at (array_bytes e count (λ k. v)) o.memory.items → fills ≡ one_more o.fills
-    → FillsRow to e count v (opened_seen opened) (record { plan = Some o.plan.value; nodes = memory ∷ []; events = None; counts = record { fills = fills; leaves = o.leaves }; edges = [] })
-fill_performed None o to e count v memory fills is below put more = absurd (let no : None ≡ Some o = is in cc)
-fill_performed (Some that) o to e count v memory fills is below put more =
+    → FillsRow to e count v (opened_seen openings opened) (record { openings = openings; plan = Some o.plan.value; nodes = memory ∷ []; events = None; counts = record { fills = fills; leaves = o.leaves }; edges = [] })
+fill_performed openings None o to e count v memory fills is below put more = absurd (let no : None ≡ Some o = is in cc)
+fill_performed openings (Some that) o to e count v memory fills is below put more =
     let same = some_same that o is in
-    untold _ _ _ _ (ap (λ (w : Opened). Some w.plan.value) (sym same)) (ap (λ (l : List ℕ). l ∷ []) (put ∙ ap (λ (w : Opened). put_at to.at (array_bytes e count (λ k. v)) w.memory.items) (sym same)) ∙ sym (put_first to.node to.at _ that.memory.items below)) refl
+    untold _ _ _ _ refl (ap (λ (w : Opened). Some w.plan.value) (sym same)) (ap (λ (l : List ℕ). l ∷ []) (put ∙ ap (λ (w : Opened). put_at to.at (array_bytes e count (λ k. v)) w.memory.items) (sym same)) ∙ sym (put_first to.node to.at _ that.memory.items below)) refl
     (ap (λ (n : ℕ). record { fills = n; leaves = o.leaves }) more ∙ ap (λ (w : Opened). record { fills = one_more w.fills; leaves = w.leaves }) (sym same)) refl

@@ -19,9 +19,10 @@ pub record Carried : Type 0 where
   pub down : ℕ
   pub up : ℕ
 
--- its plan once it is open, the bytes of each node from the root on, the events performed, where they are told, how many there were of each kind,
--- and what each edge carried, from the root's on
+-- how often it was opened, its plan once it is open, the bytes of each node from the root on, the events performed, where they are told, how many there
+-- were of each kind, and what each edge carried, from the root's on
 pub record BankSeen : Type 0 where
+  pub openings : ℕ
   pub plan : Option Plan
   pub nodes : List (List ℕ)
   pub events : Option (List SmallEvent)
@@ -45,7 +46,7 @@ pub record IsInside (seen : BankSeen) (node at size : ℕ) : Type 0 where
   pub there : node < length seen.nodes
   pub range : at + size ≤ length (node_at node seen.nodes)
 
--- a count of events stops at the last value of a u64
+-- a count stops at the last value of a u64
 abbrev pub one_more : ℕ → ℕ
 one_more n = min (n + 1) (2 ^ 64 - 1)
 
@@ -53,8 +54,9 @@ abbrev pub counted : SmallEvent → Counts → Counts
 counted (Fill to elem count value) counts = record { fills = one_more counts.fills; leaves = counts.leaves }
 counted Leaf counts = record { fills = counts.fills; leaves = one_more counts.leaves }
 
--- open with this plan: its capacity in zero bytes, and nothing performed
-pub record IsOpened (opened : Plan) (now : BankSeen) : Type 0 where
+-- opened once more, with this plan: its capacity in zero bytes, and nothing performed
+pub record IsOpened (opened : Plan) (old now : BankSeen) : Type 0 where
+  pub openings : now.openings ≡ one_more old.openings
   pub plan : now.plan ≡ Some opened
   pub nodes : now.nodes ≡ replicate opened.capacity 0 ∷ []
   pub events : (performed : List SmallEvent) → now.events ≡ Some performed → performed ≡ []
@@ -63,6 +65,7 @@ pub record IsOpened (opened : Plan) (now : BankSeen) : Type 0 where
 
 -- an event was performed: the last of the list where the list is told, and it was told before; the nodes are then these
 pub record Performs (event : SmallEvent) (left : List (List ℕ)) (old now : BankSeen) : Type 0 where
+  pub openings : now.openings ≡ old.openings
   pub plan : now.plan ≡ old.plan
   pub nodes : now.nodes ≡ left
   pub events : (performed : List SmallEvent) → now.events ≡ Some performed → (before : List SmallEvent) × (old.events ≡ Some before) × (performed ≡ before ++ event ∷ [])
@@ -87,12 +90,16 @@ pub record IsReady (seen : BankSeen) : Type 0 where
   pub open_nodes : 0 < length seen.nodes
   pub size : length (node_at 0 seen.nodes) ≡ plan.capacity
 
--- the leaf: the `out` array becomes what the program means, by the `in` array
+-- the nodes after the leaf: the `out` array becomes what the program means, by the `in` array
+abbrev pub leaf_put : Plan → List (List ℕ) → List (List ℕ)
+leaf_put plan nodes = put_node 0 plan.output_at (array_bytes Int plan.n (outputs plan.task.minus (array_at Int (node_at 0 nodes) plan.input_at))) nodes
+
 pub record RunsLeaf (old now : BankSeen) : Type 0 where
-  pub runs : (plan : Plan) → old.plan ≡ Some plan → Performs Leaf (put_node 0 plan.output_at (array_bytes Int plan.n (outputs plan.task.minus (array_at Int (node_at 0 old.nodes) plan.input_at))) old.nodes) old now
+  pub runs : (plan : Plan) → old.plan ≡ Some plan → Performs Leaf (leaf_put plan old.nodes) old now
 
 -- some bytes of the root are others, and nothing was performed
 pub record PutsRoot (at : ℕ) (from : List ℕ) (old now : BankSeen) : Type 0 where
+  pub openings : now.openings ≡ old.openings
   pub plan : now.plan ≡ old.plan
   pub nodes : now.nodes ≡ put_node 0 at from old.nodes
   pub events : now.events ≡ old.events

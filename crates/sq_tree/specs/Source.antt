@@ -7,12 +7,12 @@ use Rattle.sq_num.specs.Elements.{cut}
 abbrev pub Numbers : Type 0
 Numbers = ℕ → ℤ
 
--- the sum of equal cells, of which those marked are taken away
+-- the sum of equal cells, of which those marked are subtracted
 abbrev pub signed_sum : List Bool → ℤ → ℤ
 signed_sum [] x = pos 0
-signed_sum (false ∷ minus) x = x +ℤ signed_sum minus x
-signed_sum (true ∷ minus) x = signed_sum minus x -ℤ x
+signed_sum (false ∷ subtracted) x = x +ℤ signed_sum subtracted x
+signed_sum (true ∷ subtracted) x = signed_sum subtracted x -ℤ x
 
 -- the `out` array: each element is the sum of the `in` array's cells at its coordinate, cut to the type
 abbrev pub outputs : List Bool → Numbers → Numbers
-outputs minus input k = cut Int (signed_sum minus (input k))
+outputs subtracted input k = cut Int (signed_sum subtracted (input k))

@@ -9,13 +9,13 @@ use std::alloc::Global;
 use std::rc::Rc;
 
 pub trait Bank {
-    /// Its plan, the bytes of its nodes, the events performed, where they are told, their counts, and what each edge carried.
+    /// How often it was opened, its plan, the bytes of its nodes, the events performed, where they are told, their counts, and what each edge carried.
     ghost seen: { Self → BankSeen };
 
-    /// Opens the bank: the plan's capacity in zero bytes, and nothing performed.
+    /// Opens the bank, or opens it again: the plan's capacity in zero bytes, and nothing performed.
     /// For want of memory it gives the plan back, and all is as before.
     fn prepare(&mut self, alloc: Global, plan: Rc<Plan>) -> Result<(), Rc<Plan>>
-        ensures opened { OnOk result (IsOpened plan.value (seen self.new)) }
+        ensures opened { OnOk result (IsOpened plan.value (seen self.old) (seen self.new)) }
         ensures kept { OnErr result (seen self.new ≡ seen self.old) }
         ensures back { IfErr result (λ back. back.value ≡ plan.value) };
 

@@ -23,7 +23,7 @@ pub(crate) fn fill_elements(memory: &mut [u8], at: usize, elem: Elem, count: u32
 /// Makes the `n` elements from the byte `output_at` on the signed sums of those from the byte `input_at` on.
 pub(crate) fn sum_elements(
     memory: &mut [u8],
-    minus: &[bool],
+    subtracted: &[bool],
     n: u32,
     input_at: usize,
     output_at: usize,
@@ -31,7 +31,7 @@ pub(crate) fn sum_elements(
     requires input { input_at + 4 * n ≤ length memory.old }
     requires output { output_at + 4 * n ≤ length memory.old }
     requires apart { (input_at + 4 * n ≤ output_at) ⊎ (output_at + 4 * n ≤ input_at) }
-    ensures { memory.new ≡ put_at output_at (array_bytes Int n (outputs minus.now (array_at Int memory.old input_at))) memory.old }
+    ensures { memory.new ≡ put_at output_at (array_bytes Int n (outputs subtracted.now (array_at Int memory.old input_at))) memory.old }
 {
     for i in 0..n as usize {
         let cell = element(memory, input_at + 4 * i);
@@ -39,7 +39,7 @@ pub(crate) fn sum_elements(
             memory,
             output_at + 4 * i,
             Elem::Int,
-            wrapped_sum(minus, cell),
+            wrapped_sum(subtracted, cell),
         );
     }
 }
@@ -60,22 +60,22 @@ fn put_element(memory: &mut [u8], at: usize, elem: Elem, value: i64)
     store_elem(elem, value, &mut memory[at..at + width(elem)]);
 }
 
-/// The sum of as many cells as there are signs, in 64 bits that wrap.
-fn wrapped_sum(minus: &[bool], cell: i64) -> i64
-    ensures { result ≡ int_wrap w64 (signed_sum minus.now cell) }
+/// The sum of equal cells, of which those marked are subtracted, in 64 bits that wrap.
+fn wrapped_sum(subtracted: &[bool], cell: i64) -> i64
+    ensures { result ≡ int_wrap w64 (signed_sum subtracted.now cell) }
 {
     let mut sum = 0i64;
-    for away in minus {
-        sum = next_sum(sum, *away, cell);
+    for is_subtracted in subtracted {
+        sum = next_sum(sum, *is_subtracted, cell);
     }
     sum
 }
 
 /// The sum with one cell more.
-fn next_sum(sum: i64, away: bool, cell: i64) -> i64
-    ensures { (rest : List Bool) → int_wrap w64 (result +ℤ signed_sum rest cell) ≡ int_wrap w64 (sum +ℤ signed_sum (away ∷ rest) cell) }
+fn next_sum(sum: i64, is_subtracted: bool, cell: i64) -> i64
+    ensures { (rest : List Bool) → int_wrap w64 (result +ℤ signed_sum rest cell) ≡ int_wrap w64 (sum +ℤ signed_sum (is_subtracted ∷ rest) cell) }
 {
-    if away {
+    if is_subtracted {
         sum.wrapping_sub(cell)
     } else {
         sum.wrapping_add(cell)

@@ -8,10 +8,11 @@ use sq_num::Elem;
 use std::alloc::Global;
 use std::rc::Rc;
 
-/// A bank that tells its plan, bytes and counts, and no list of events.
+/// A bank that tells its openings, plan, bytes and counts, and no list of events.
 #[derive(Drop)]
 pub struct RawBank {
     opened: Option<Opened>,
+    openings: u64,
 }
 
 #[derive(Drop)]
@@ -27,9 +28,12 @@ impl RawBank {
 
     /// It isn't open, and has no memory.
     pub fn new() -> RawBank
-        ensures { raw_seen result ≡ opened_seen None }
+        ensures { raw_seen result ≡ opened_seen 0 None }
     {
-        RawBank { opened: None }
+        RawBank {
+            opened: None,
+            openings: 0,
+        }
     }
 }
 
@@ -47,6 +51,7 @@ impl Bank for RawBank {
                     fills: 0,
                     leaves: 0,
                 });
+                self.openings = self.openings.saturating_add(1);
                 Ok(())
             }
             Err(_) => Err(plan),

@@ -30,9 +30,11 @@ loop-done-preserved g c =
       faults = c.in-Ok.ensures.cause.ended.0 ∙ c.loop-done.invariant.faults;
       misses = c.in-Ok.ensures.cause.ended.1 ∙ c.loop-done.invariant.misses;
       unperformed = record {
+        openings = c.in-Ok.ensures.put.openings ∙ c.loop-done.invariant.unperformed.openings;
         plan = c.in-Ok.ensures.put.plan ∙ c.loop-done.invariant.unperformed.plan;
         events = c.in-Ok.ensures.put.events ∙ c.loop-done.invariant.unperformed.events;
         counts = c.in-Ok.ensures.put.counts ∙ c.loop-done.invariant.unperformed.counts;
+        edges = c.in-Ok.ensures.put.edges ∙ c.loop-done.invariant.unperformed.edges;
       };
       held = put_held c.args.plan.now _ _ _ _ c.loop-done.invariant.held (omega (arith, c.put_piece.auto.into, long, few, c.requires.laid_out.placed.input)) c.in-Ok.ensures.put.plan c.in-Ok.ensures.put.nodes;
       so_far = λ bytes told.

@@ -2,4 +2,4 @@ use Rattle.sq_port.proofs.Gained.{wrote_nothing}
 use Rattle.sq_cli.proofs.end.put_end.Goals as goal
 
 pub returns-in-NoMemory : goal.returns-in-NoMemory
-returns-in-NoMemory g c = rw c.in-NoMemory.is (c.put_next.ensures _ _ _ (wrote_nothing _ _))
+returns-in-NoMemory g c = rw c.in-NoMemory.is (c.put_next.ensures.wrote _ _ _ (wrote_nothing _ _))

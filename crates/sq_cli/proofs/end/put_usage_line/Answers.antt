@@ -4,4 +4,4 @@ use Rattle.sq_cli.proofs.end.put_usage_line.Goals as goal
 
 pub returns : goal.returns
 unfolding usage_line
-returns g c = c.put_next.ensures _ _ _ (wrote_nothing _ _)
+returns g c = c.put_next.ensures.wrote _ _ _ (wrote_nothing _ _)

@@ -1,4 +1,4 @@
-use Rattle.sq_text.specs.declared.fault.Phase.TheVariants.{Machine}
+use Rattle.sq_text.specs.declared.code.Phase.TheVariants.{Machine}
 use Rattle.sq_parser.specs.Texts.{IsSmallMachine}
 use Rattle.sq_cli.proofs.Reading.{found_one, found_none}
 use Rattle.sq_cli.proofs.phases.read_machine.Goals as goal

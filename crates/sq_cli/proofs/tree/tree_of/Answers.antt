@@ -1,4 +1,4 @@
-use Rattle.sq_cli.proofs.Trees.{none_only, none_refused, none_refuses, some_found, some_only, some_refused, some_refuses}
+use Rattle.sq_cli.proofs.Trees.{none_only, none_refused, none_refuses, some_found, some_given, some_only, some_refused, some_refuses}
 use Rattle.sq_cli.proofs.tree.tree_of.Goals as goal
 
 pub returns-in-Err-clause-only : goal.returns-in-Err-clause-only
@@ -21,3 +21,6 @@ returns-clause-refused c = some_refused c.args.text.now c.in-Ok.list c.in-Ok.ens
 
 pub returns-clause-refuses : goal.returns-clause-refuses
 returns-clause-refuses c = some_refuses c.args.text.now c.in-Ok.list c.in-Ok.ensures.fits c.in-Ok.ensures.found c.in-Ok.ensures.only c.parse_program.result c.in-Ok.ensures.refuses c.parse_program.ensures.refuses
+
+pub returns-clause-given : goal.returns-clause-given
+returns-clause-given c = some_given c.args.text.now c.in-Ok.list c.in-Ok.ensures.fits c.in-Ok.ensures.found c.in-Ok.ensures.only c.parse_program.result c.parse_program.ensures.found

@@ -6,10 +6,10 @@ use Rattle.sq_tree.specs.Source.{signed_sum}
 use Rattle.sq_tree.proofs.Sums.{sum_added, sum_taken}
 use Rattle.sq_tree.proofs.leaf.next_sum.Goals as goal
 
-pub returns-then-away : goal.returns-then-away
-returns-then-away c = λ rest. rw c.if-away.true (
+pub returns-then-is_subtracted : goal.returns-then-is_subtracted
+returns-then-is_subtracted c = λ rest. rw c.if-is_subtracted.true (
     ap (λ (z : ℤ). int_wrap w64 (z +ℤ signed_sum rest c.args.cell)) (wrapping_sub_is w64 c.args.sum c.args.cell (search rules) (search rules)) ∙ sum_taken c.args.sum c.args.cell rest)
 
-pub returns-else-away : goal.returns-else-away
-returns-else-away c = λ rest. rw c.if-away.false (
+pub returns-else-is_subtracted : goal.returns-else-is_subtracted
+returns-else-is_subtracted c = λ rest. rw c.if-is_subtracted.false (
     ap (λ (z : ℤ). int_wrap w64 (z +ℤ signed_sum rest c.args.cell)) (wrapping_add_is w64 c.args.sum c.args.cell (search rules) (search rules)) ∙ sum_added c.args.sum c.args.cell rest)

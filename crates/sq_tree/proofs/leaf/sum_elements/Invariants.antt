@@ -5,4 +5,4 @@ use Rattle.sq_tree.specs.Bytes.{put_at, array_at, array_bytes}
 use Rattle.sq_tree.proofs.leaf.sum_elements.Given as goal
 
 abbrev pub invariant-loop-i : goal.invariant-loop-i
-invariant-loop-i l = l.memory ≡ put_at l.output_at (array_bytes Int l.i (outputs l.minus (array_at Int l.initial.memory l.input_at))) l.initial.memory
+invariant-loop-i l = l.memory ≡ put_at l.output_at (array_bytes Int l.i (outputs l.subtracted (array_at Int l.initial.memory l.input_at))) l.initial.memory
