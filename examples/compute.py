@@ -1,0 +1,113 @@
+#!/usr/bin/env python3
+"""What each example has to write, computed apart from `sq`: one function an example, from the arrays of its data.txt.
+
+`python3 examples/compute.py` compares the output.txt of each example and names those that differ; with the word
+`write` it writes them. An array is a list, or a list of rows; the answer holds the arrays that the program gives back,
+in the order of its parameters.
+"""
+import pathlib
+import sys
+
+HERE = pathlib.Path(__file__).resolve().parent
+
+
+def blocks(A):
+    return {"B": ("int", [2 * a for a in A])}
+
+
+def saxpy(F, X, Y):
+    return {"Y": ("int", [F[0] * x + y for x, y in zip(X, Y)])}
+
+
+def matmul(A, B, C):
+    columns = list(zip(*B))
+    return {"C": ("int", [[c + sum(a * b for a, b in zip(row, column)) for c, column in zip(old, columns)]
+                          for old, row in zip(C, A)])}
+
+
+def convolution(A, K):
+    def window(i, j):
+        return sum(K[u][v] * A[i + u][j + v] for u in range(3) for v in range(3))
+    return {"B": ("int", [[window(i, j) for j in range(len(A[0]) - 2)] for i in range(len(A) - 2)])}
+
+
+def stencil(A, B):
+    def towards_zero(n, d):
+        return -(-n // d) if n < 0 else n // d
+
+    def step(X, Y):
+        return [Y[0]] + [towards_zero(a + 2 * b + c, 4) for a, b, c in zip(X, X[1:], X[2:])] + [Y[-1]]
+    for _ in range(3):
+        B = step(A, B)
+        A = step(B, A)
+    return {"A": ("int", A), "B": ("int", B)}
+
+
+def prefix(S, A):
+    return {"B": ("int", [S[0] + sum(A[:i + 1]) for i in range(len(A))])}
+
+
+def histogram(A, H):
+    return {"H": ("int", [h + A.count(v) for v, h in enumerate(H)])}
+
+
+def dot(X, Y, D, L, G):
+    return {"D": ("long", [D[0] + sum(x * y for x, y in zip(X, Y))]),
+            "L": ("int", [min(L + X)]), "G": ("int", [max(G + X)])}
+
+
+def transpose(A):
+    return {"B": ("int", [list(column) for column in zip(*A)])}
+
+
+def pairs(A):
+    return {"D": ("int", [[abs(a - b) for b in A] for a in A])}
+
+
+def sort(A):
+    return {"A": ("int", sorted(A))}
+
+
+def rotate(A):
+    return {"B": ("byte", [((a << 3) + (a >> 5)) % 256 for a in A])}
+
+
+def read(path):
+    words = path.read_text().split()
+    arrays = {}
+    while words:
+        _, name, _, shape, *words = words
+        extents = [int(extent) for extent in shape.strip("[]").split("][")]
+        count = 1
+        for extent in extents:
+            count *= extent
+        values, words = [int(word) for word in words[:count]], words[count:]
+        width = extents[-1]
+        arrays[name] = values if len(extents) == 1 else [values[i:i + width] for i in range(0, count, width)]
+    return arrays
+
+
+def text(arrays):
+    lines = []
+    for name, (kind, value) in arrays.items():
+        rows = value if isinstance(value[0], list) else [value]
+        shape = f"[{len(rows)}][{len(rows[0])}]" if isinstance(value[0], list) else f"[{len(value)}]"
+        lines += [f"array {name} {kind} {shape}"] + [" ".join(map(str, row)) for row in rows]
+    return "\n".join(lines) + "\n"
+
+
+def main():
+    differ = 0
+    examples = (blocks, saxpy, matmul, convolution, stencil, prefix, histogram, dot, transpose, pairs, sort, rotate)
+    for example in examples:
+        folder = HERE / example.__name__
+        wanted, output = text(example(**read(folder / "data.txt"))), folder / "output.txt"
+        if sys.argv[1:] == ["write"]:
+            output.write_text(wanted)
+        elif not output.exists() or output.read_text() != wanted:
+            print(f"{output}: not what this computes")
+            differ += 1
+    return 1 if differ else 0
+
+
+sys.exit(main())
