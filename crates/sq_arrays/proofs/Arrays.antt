@@ -1,6 +1,6 @@
 -- Heads, values and the file's end, one after the other.
-use Rattle.std.proofs.Common.{◌≡◌, ◌==◌, if◌then◌else◌, ℕ, zero, suc, subst, ◌*◌, length-append, ◌+◌, ◌-◌, ◌<◌, ◌≤◌, add-one, drop, get_or, drop-cons, length-drop, Bool, true, false, List, [], ◌∷◌, ◌++◌, length, take, refl, sym, ◌∙◌, ap, arith, append_assoc, Option, Some, None, Result, Ok, Err, ℤ}
-use Rattle.std.proofs.lemmas.List.{append-nil, take_all, drop_all, drop-map, length-take}
+use Rattle.std.proofs.Common.{◌≡◌, ◌==◌, if◌then◌else◌, ℕ, zero, suc, subst, ◌*◌, length-append, ◌+◌, ◌-◌, ◌<◌, ◌≤◌, add-one, drop, get_or, drop-cons, Bool, true, false, List, [], ◌∷◌, ◌++◌, length, refl, sym, ◌∙◌, ap, arith, append_assoc, Option, Some, None, Result, Ok, Err, ℤ}
+use Rattle.std.proofs.lemmas.List.{drop_all, drop-map}
 use Rattle.std.specs.List.{flat_map}
 use Rattle.sq_num.specs.declared.Elem.{Elem}
 use Rattle.sq_num.specs.Elements.{cell}
@@ -10,7 +10,7 @@ use Rattle.sq_arrays.specs.declared.refusal.InputEnd.TheVariants.{Refused, Faile
 use Rattle.sq_arrays.specs.Steps.{Fails}
 use Rattle.sq_arrays.specs.ArrayText.{Fault, Rest, start_of, next_values, finished, ◌>>=◌}
 use Rattle.sq_arrays.specs.Arrays.{Wanted, DataFault, head_of, array_of_text, of_array, add_values, arrays_from, arrays_of, size_of, wanted, AreValuesOf}
-use Rattle.sq_arrays.specs.Targets.{put_in, array_at, HasRange, cells_of, name_at, Refuses}
+use Rattle.sq_arrays.specs.Targets.{put_in, HasRange, cells_of, name_at, Refuses}
 use Rattle.sq_arrays.specs.declared.want.Want.{Want}
 use Rattle.std.specs.Prelude.{map}
 use Rattle.sq_num.specs.Elements.{width}

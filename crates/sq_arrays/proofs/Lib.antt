@@ -13,3 +13,4 @@ pub mod Adding
 pub mod Putting
 pub mod Arrays
 pub mod InType
+pub mod ReadBack

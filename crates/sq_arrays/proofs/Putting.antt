@@ -1,19 +1,18 @@
 -- Bytes put into arrays, piece behind piece.
-use Rattle.std.proofs.Common.{◌≡◌, ◌⊎◌, inl, inr, ℕ, zero, suc, ◌+◌, ◌-◌, ◌*◌, ◌<◌, ◌≤◌, List, [], ◌∷◌, ◌++◌, length, take, drop, refl, sym, ◌∙◌, ap, append_assoc, arith, length-append, length-take, length-drop, subst, Result, Ok, Err}
+use Rattle.std.proofs.Common.{◌≡◌, ℕ, zero, suc, ◌+◌, ◌-◌, ◌*◌, ◌≤◌, List, [], ◌∷◌, ◌++◌, length, take, drop, refl, sym, ◌∙◌, ap, append_assoc, arith, length-append, length-take, length-drop, Result, Ok}
 use Rattle.std.specs.Prelude.{ℤ, map}
 use Rattle.std.specs.List.{flat_map}
 use Rattle.std.proofs.lemmas.Grind.{flat_map-append}
 use Rattle.std.proofs.Math.Nat.{add-mul}
 use Rattle.std.proofs.lemmas.Nat.{mul-le}
-use Rattle.std.proofs.lemmas.List.{append-nil, drop_all, take-append-drop, take-append-le, drop-append-le, take_at}
+use Rattle.std.proofs.lemmas.List.{append-nil, drop_all, take-append-drop, take_at}
 use Rattle.std.proofs.Math.Seq.{drop_at, drop-drop}
 use Rattle.sq_num.specs.declared.Elem.{Elem}
 use Rattle.sq_num.specs.declared.Elem.TheVariants.{Byte, Int, Long}
 use Rattle.sq_num.specs.Elements.{width, cell}
-use Rattle.sq_num.proofs.Cutting.{length-cell}
 use Rattle.sq_arrays.specs.declared.refusal.InputEnd.{InputEnd}
 use Rattle.sq_arrays.specs.Steps.{Fails}
-use Rattle.sq_arrays.specs.ArrayText.{Fault, Rest, next_values, ◌>>=◌}
+use Rattle.sq_arrays.specs.ArrayText.{Fault, Rest, next_values}
 use Rattle.sq_arrays.proofs.Fronts.{with_front, front_none, front_end}
 use Rattle.sq_arrays.proofs.Adding.{Piece, piece_step, piece_refused}
 use Rattle.sq_arrays.specs.Targets.{put_at, array_at, put_in, HasRange}

@@ -30,7 +30,7 @@ past_done {blank = blank} {from = from} {to = to} {text = text} {now = now} {ove
     let rest : behind blank text ≡ now = ap (behind blank) r.passed.whole ∙ (run_is blank r.passed.done now r.passed.each r.stops).1 in
     ap (λ (p : Place). record { place = p; text = behind blank text; over = over }) place ∙ ap (λ (l : List ℕ). record { place = to; text = l; over = over }) rest
 
-word_is : (r s n : Rest) (done : List ℕ) → past true r ≡ s → run false s.text ≡ done → past false s ≡ n → next_word r ≡ word_of s.place done n
+pub word_is : (r s n : Rest) (done : List ℕ) → past true r ≡ s → run false s.text ≡ done → past false s ≡ n → next_word r ≡ word_of s.place done n
 unfolding next_word
 word_is r s n done skipped is rest = ap word_at skipped ∙ ap (λ (d : List ℕ). word_of s.place d (past false s)) is ∙ ap (word_of s.place done) rest
 
@@ -45,7 +45,7 @@ word_starts : (text : List ℕ) → Stops true text → 0 < length text → (b :
 word_starts [] stops some = absurd (omega arith)
 word_starts (b ∷ bs) stops some = let e : is_in false b ≡ true = rw stops refl in (b, run false bs, rw e refl)
 
-begun : (place : Place) (done : List ℕ) (b : ℕ) (bs : List ℕ) (n : Rest) (v : Bool) → done ≡ b ∷ bs → ended n.text n.over ≡ v
+pub begun : (place : Place) (done : List ℕ) (b : ℕ) (bs : List ℕ) (n : Rest) (v : Bool) → done ≡ b ∷ bs → ended n.text n.over ≡ v
     → word_of place done n ≡ cond v (Ok (record { place = place; bytes = done; rest = n })) (Err (record { code = LimitFile; place = n.place }))
 begun place done b bs n v is e = rw is (ap (λ (w : Bool). cond w (Ok (record { place = place; bytes = b ∷ bs; rest = n })) (Err (record { code = LimitFile; place = n.place }))) e)
 

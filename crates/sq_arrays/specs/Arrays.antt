@@ -1,5 +1,5 @@
 -- The text of the arrays that are wanted of a file, from its first byte to its last.
-use Rattle.std.specs.Prelude.{◌≡◌, ℕ, ◌+◌, ◌*◌, Bool, true, false, List, length, [], ◌∷◌, Option, Some, None, Result, Ok, Err, ℤ}
+use Rattle.std.specs.Prelude.{◌≡◌, ℕ, ◌*◌, Bool, true, false, List, length, [], ◌∷◌, Option, Some, None, Result, Ok, Err, ℤ}
 use Rattle.sq_num.specs.declared.Elem.{Elem}
 use Rattle.std.specs.List.{All}
 use Rattle.sq_num.specs.Elements.{width, IsValue}

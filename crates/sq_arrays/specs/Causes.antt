@@ -5,12 +5,12 @@ use Rattle.sq_arrays.specs.declared.refusal.InputEnd.TheVariants.{Refused, Faile
 use Rattle.sq_port.specs.Ports.{Content, Rose}
 use Rattle.sq_arrays.specs.Window.{IsThere, IsMissing}
 
--- Ok and Refused change no count, and the others have theirs that rose
+-- Ok and Refused change no count, and the others have theirs that rose, and leave the other
 abbrev pub EndedBy : {T : Type 0} → (faults now_faults misses now_misses : ℕ) → Result T InputEnd → Type 0
 EndedBy faults now_faults misses now_misses (Ok x) = (now_faults ≡ faults) × (now_misses ≡ misses)
 EndedBy faults now_faults misses now_misses (Err (Refused code place)) = (now_faults ≡ faults) × (now_misses ≡ misses)
-EndedBy faults now_faults misses now_misses (Err Failed) = Rose faults now_faults
-EndedBy faults now_faults misses now_misses (Err Absent) = Rose misses now_misses
+EndedBy faults now_faults misses now_misses (Err Failed) = Rose faults now_faults × (now_misses ≡ misses)
+EndedBy faults now_faults misses now_misses (Err Absent) = Rose misses now_misses × (now_faults ≡ faults)
 
 pub record EndCause {T : Type 0} (faults now_faults misses now_misses : ℕ) (result : Result T InputEnd) : Type 0 where
   pub faults_later : faults ≤ now_faults

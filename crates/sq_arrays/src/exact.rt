@@ -1,4 +1,4 @@
-// A word that has to be one text.
+//! A word that has to be one text.
 ghost use Rattle.std.specs.Prelude.{◌≡◌};
 ghost use Rattle.sq_arrays.specs.Exact.{same_step, same_by};
 

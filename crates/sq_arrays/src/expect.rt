@@ -1,4 +1,4 @@
-// The parts of an array's text: a word of the head, a value.
+//! The parts of an array's text: a word of the head, a value.
 ghost use Rattle.std.specs.Prelude.{◌≡◌, ℕ, List, length};
 ghost use Rattle.sq_arrays.specs.Window.{IsTold, Stands};
 ghost use Rattle.sq_arrays.specs.Steps.{Gives, rest_of};

@@ -1,4 +1,4 @@
-// The head of an array, and the file's end.
+//! The head of an array, and the file's end.
 ghost use Rattle.std.specs.Prelude.{◌≡◌, ◌+◌, ◌≤◌, ◌++◌, ℕ, List, length, take, ◌∷◌, [], decimal};
 ghost use Rattle.sq_arrays.specs.Window.{IsTold, Stands};
 ghost use Rattle.sq_arrays.specs.Steps.{Gives, rest_of};

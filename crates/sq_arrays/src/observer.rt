@@ -1,4 +1,4 @@
-// What looks at a word piece by piece, in constant memory.
+//! What looks at a word piece by piece, in constant memory.
 ghost use Rattle.std.specs.Prelude.{◌≡◌, ℕ};
 ghost use Rattle.std.specs.List.{fold};
 

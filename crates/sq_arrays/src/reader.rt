@@ -1,4 +1,4 @@
-// Reads the arrays of a file, one after the other, in constant memory.
+//! Reads the arrays of a file, one after the other, in constant memory.
 ghost use Rattle.std.specs.Prelude.{◌≡◌, ◌+◌, ◌*◌, ◌/◌, ◌≤◌, ℕ, List, length, Option, Some, None, IfErr, IsErrOf, Err, OnOk, OnErr, Bool, true, false};
 ghost use Rattle.sq_num.specs.Elements.{width};
 ghost use Rattle.sq_rect.specs.Extents.{product};

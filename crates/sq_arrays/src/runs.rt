@@ -1,4 +1,4 @@
-// Steps of a window: over bytes of one kind, and to the next bytes of the file.
+//! Steps of a window: over bytes of one kind, and to the next bytes of the file.
 ghost use Rattle.std.specs.Prelude.{◌≡◌, ◌++◌, ◌≤◌, ◌<◌, ◌+◌, ◌-◌, ℕ, List, length, OnOk, IfOk, IsErrOf, Bool, true, IsOkAnd};
 ghost use Rattle.sq_port.specs.Ports.{ReadCause};
 ghost use Rattle.sq_arrays.specs.declared.window.Ahead.TheVariants.{Bytes};

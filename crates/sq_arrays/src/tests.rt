@@ -1,4 +1,4 @@
-// Array text, read from files and written to a sink in memory.
+//! Array text, read from files and written to a sink in memory.
 ghost use Rattle.std.specs.Prelude.{◌≡◌, ◌∷◌, [], None, length};
 
 use crate::window::LIMIT;

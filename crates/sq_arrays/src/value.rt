@@ -1,4 +1,4 @@
-// What a word is in place of a value.
+//! What a word is in place of a value.
 ghost use Rattle.std.specs.Prelude.{◌≡◌, ◌+◌, ◌<◌, ◌≤◌, ◌^◌, ◌-◌, ◌*◌, ℕ, length, Bool, true, cond, IsTrue, ◌&&◌, ◌==◌};
 ghost use Rattle.sq_arrays.specs.ArrayText.{is_digit, fits, signed, reach};
 ghost use Rattle.sq_arrays.specs.Exact.{array_by};

@@ -1,4 +1,4 @@
-// The values of an array, into bytes.
+//! The values of an array, into bytes.
 ghost use Rattle.std.specs.Prelude.{◌≡◌, ◌+◌, ◌*◌, ◌/◌, ◌≤◌, ℕ, List, length, IsErrOf};
 ghost use Rattle.sq_arrays.specs.Window.{IsTold, IsMissing, Stands};
 ghost use Rattle.sq_arrays.specs.Steps.{rest_of};

@@ -1,4 +1,4 @@
-// An array that is wanted of a file, or written.
+//! An array that is wanted of a file, or written.
 
 use sq_num::Elem;
 use sq_rect::Dims;

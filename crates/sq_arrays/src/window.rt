@@ -1,4 +1,4 @@
-// A window of fixed size on a file, with its position and place.
+//! A window of fixed size on a file, with its position and place.
 ghost use Rattle.std.specs.Prelude.{◌≡◌, ◌≤◌, ◌+◌, ◌-◌};
 
 use sq_text::Place;

@@ -1,4 +1,4 @@
-// The next word of a file, which a observer sees in pieces.
+//! The next word of a file, which an observer sees in pieces.
 ghost use Rattle.std.specs.Prelude.{◌≡◌, ℕ, List, OnOk, Result};
 ghost use Rattle.sq_port.specs.Ports.{Rose};
 ghost use Rattle.sq_arrays.specs.Window.{IsTold, IsThere, Stands};

@@ -1,4 +1,4 @@
-// Writes an array.
+//! Writes an array.
 ghost use Rattle.std.specs.Prelude.{◌≡◌, ◌++◌, ◌∷◌, [], ◌≤◌, ◌*◌, ◌==◌, ◌+◌, ℕ, List, Bool, true, cond, length, take, drop};
 ghost use Rattle.std.specs.Fmt.{signed_decimal};
 ghost use Rattle.sq_num.specs.Elements.{width, values_in};

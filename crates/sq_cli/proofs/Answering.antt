@@ -3,7 +3,7 @@ use Rattle.std.proofs.Common.{◌≡◌, ℕ, Option, Some, None, Result, Ok, Er
 use Rattle.sq_port.proofs.Gained.{gains_nothing}
 use Rattle.sq_cli.specs.declared.status.Status.{Status}
 use Rattle.sq_cli.specs.declared.end.End.{End}
-use Rattle.sq_cli.specs.declared.end.End.TheVariants.{Usage, Absent, FileFault, NotYet, Refused, NoMemory, SinkFault}
+use Rattle.sq_cli.specs.declared.end.End.TheVariants.{Usage, Absent, FileFault, NotYet, Refused, Trapped, NoMemory, SinkFault}
 use Rattle.sq_cli.specs.Words.{Command}
 use Rattle.sq_cli.specs.Ends.{ending, FileCauses}
 use Rattle.sq_cli.specs.Small.{not_yet, fault}
@@ -57,18 +57,19 @@ module _ (f f2 m m2 : ℕ) where
   end_files answer (FileFault name) is causes = at_answer answer (file_fault is.0 name.now) is.1 (causes.fault refl)
   end_files answer (NotYet phase) is causes = at_answer answer (refused phase not_yet) is (causes.quiet tt)
   end_files answer (Refused its) is causes = at_answer answer (refused is.0 (fault its)) is.1 (causes.quiet tt)
+  end_files answer (Trapped trap) is causes = at_answer answer (trapped trap is.0) is.1 (causes.quiet tt)
   end_files answer NoMemory is causes = at_answer answer no_memory is (causes.quiet tt)
   end_files answer SinkFault is causes = absurd is
 
   files_for : (answer : Answer) (writing : Writing) (old now : Outside) (result : Result (Unit {0}) End) → ResultFor answer writing result → Puts writing answer (trace_for answer) old now → FileCauses f f2 m m2 (ending result) → FilesFor answer f f2 m m2
   files_for answer whole old now (Ok tt) is puts causes = events_files answer (done_events answer is) (causes.quiet tt)
   files_for answer cut_out old now (Ok tt) is puts causes = absurd is
-  files_for answer cut_err old now (Ok tt) is puts causes = absurd is
+  files_for answer (cut_err got) old now (Ok tt) is puts causes = absurd is
   files_for answer whole old now (Err end) is puts causes = end_files answer end is causes
   files_for answer cut_out old now (Err end) is puts causes =
       let sink : FileCauses f f2 m m2 (ending {T = Unit {0}} (Err SinkFault)) = subst (λ (e : End). FileCauses f f2 m m2 (ending {T = Unit {0}} (Err e))) is causes in
       events_files answer (done_events answer puts.done) (sink.quiet tt)
-  files_for answer cut_err old now (Err end) is puts causes =
+  files_for answer (cut_err got) old now (Err end) is puts causes =
       let sink : FileCauses f f2 m m2 (ending {T = Unit {0}} (Err SinkFault)) = subst (λ (e : End). FileCauses f f2 m m2 (ending {T = Unit {0}} (Err e))) is.0 causes in
       events_files answer is.1 (sink.quiet tt)
 

@@ -1,16 +1,28 @@
 -- Arrays whose bytes were put into a memory.
-use Rattle.std.proofs.Common.{◌≡◌, ◌⊎◌, inl, inr, ℕ, zero, suc, ◌+◌, ◌*◌, ◌<◌, ◌≤◌, List, [], ◌∷◌, ◌++◌, length, take, drop, refl, sym, ◌∙◌, ap, append_assoc, arith, length-append, length-take, length-drop}
+use Rattle.std.proofs.Common.{◌≡◌, ◌⊎◌, inl, inr, ℕ, zero, suc, ◌+◌, ◌-◌, ◌*◌, ◌<◌, ◌≤◌, List, [], ◌∷◌, ◌++◌, length, take, drop, refl, sym, ◌∙◌, ap, append_assoc, arith, length-append, length-take, length-drop}
 use Rattle.std.specs.Prelude.{ℤ}
 use Rattle.std.specs.List.{flat_map}
-use Rattle.std.proofs.lemmas.List.{take-append-le, drop-append-le, take_at, drop-take, append-nil}
+use Rattle.std.proofs.lemmas.List.{take-append-le, drop-append-le, take_at, drop-take, append-nil, take-append-drop}
 use Rattle.std.proofs.Math.Seq.{drop_at, drop-drop, take-take}
 use Rattle.sq_num.specs.declared.Elem.{Elem}
 use Rattle.sq_num.specs.Elements.{width, value, cell, cut, values_in}
 use Rattle.sq_num.proofs.Cutting.{length-cell, value-cell}
 use Rattle.sq_tree.specs.Source.{Numbers}
 use Rattle.sq_tree.specs.Bytes.{put_at, array_at, array_bytes}
-use Rattle.sq_tree.proofs.Arrays.{length-array_bytes, part-apart}
 use Rattle.sq_cli.specs.Data.{numbers_of, listed}
+
+pub length-array_bytes : (e : Elem) (n : ℕ) (array : Numbers) → length (array_bytes e n array) ≡ width e * n
+length-array_bytes e zero array = grind arith
+length-array_bytes e (suc n) array = grind (arith, length-append (array_bytes e n array) (cell e (array n)), length-array_bytes e n array, length-cell e (array n))
+
+pub put_at-length : (at : ℕ) (piece bytes : List ℕ) → at + length piece ≤ length bytes → length (put_at at piece bytes) ≡ length bytes
+put_at-length at piece bytes fits = omega (
+  arith,
+  length-append (take at bytes) (piece ++ drop (at + length piece) bytes),
+  length-append piece (drop (at + length piece) bytes),
+  length-take at bytes,
+  length-drop (at + length piece) bytes,
+)
 
 -- arrays that agree on their first n coordinates
 pub array_bytes-same : (e : Elem) (n : ℕ) (f h : Numbers) → ((k : ℕ) → k < n → f k ≡ h k) → array_bytes e n f ≡ array_bytes e n h
@@ -28,6 +40,25 @@ below_part w n k below = grind arith
 
 front_part : (from size : ℕ) (xs ys : List ℕ) → from + size ≤ length xs → take size (drop from (xs ++ ys)) ≡ take size (drop from xs)
 front_part from size xs ys fits = ap (take size) (drop-append-le from xs ys (omega arith)) ∙ take-append-le size (drop from xs) ys (omega (arith, length-drop from xs))
+
+-- what lies behind a piece that was put
+drop-put_at : (at n : ℕ) (piece bytes : List ℕ) → at + length piece ≤ length bytes → at + length piece ≤ n → drop n (put_at at piece bytes) ≡ drop n bytes
+drop-put_at at n piece bytes fits far =
+    let rest : n ≡ at + length piece + (n - (at + length piece)) = omega arith in
+    let seam : drop (at + length piece) (put_at at piece bytes) ≡ drop (at + length piece) bytes =
+    ap (drop (at + length piece)) (sym (append_assoc (take at bytes) piece (drop (at + length piece) bytes)))
+    ∙ drop_at (take at bytes ++ piece) (drop (at + length piece) bytes) (at + length piece) (omega (arith, length-append (take at bytes) piece, length-take at bytes)) in
+    ap (λ (m : ℕ). drop m (put_at at piece bytes)) rest ∙ sym (drop-drop (n - (at + length piece)) (at + length piece) (put_at at piece bytes)) ∙ ap (drop (n - (at + length piece))) seam
+    ∙ drop-drop (n - (at + length piece)) (at + length piece) bytes ∙ ap (λ (m : ℕ). drop m bytes) (sym rest)
+
+-- bytes apart from the piece are as they were
+part-apart : (from size at : ℕ) (piece bytes : List ℕ) → at + length piece ≤ length bytes → from + size ≤ length bytes → (from + size ≤ at) ⊎ (at + length piece ≤ from)
+    → take size (drop from (put_at at piece bytes)) ≡ take size (drop from bytes)
+part-apart from size at piece bytes fits inside (inl before) =
+    front_part from size (take at bytes) (piece ++ drop (at + length piece) bytes) (omega (arith, length-take at bytes))
+    ∙ sym (front_part from size (take at bytes) (drop at bytes) (omega (arith, length-take at bytes)))
+    ∙ ap (λ (l : List ℕ). take size (drop from l)) (take-append-drop at bytes)
+part-apart from size at piece bytes fits inside (inr far) = ap (take size) (drop-put_at at from piece bytes fits far)
 
 before_or_last : (k n : ℕ) → k < suc n → (k < n) ⊎ (k ≡ n)
 before_or_last zero zero below = inr refl

@@ -1,8 +1,8 @@
 -- How a command ends once its text for `out` is put, whole or not.
-use Rattle.std.proofs.Common.{◌≡◌, ℕ, List, [], Result, Ok, Err, refl}
+use Rattle.std.proofs.Common.{◌≡◌, ◌≤◌, ℕ, List, [], Result, Ok, Err, refl}
 use Rattle.sq_port.specs.Ports.{Gains, GainsPrefix, Rose}
 use Rattle.sq_cli.specs.declared.end.End.{End}
-use Rattle.sq_cli.specs.declared.end.End.TheVariants.{Usage, Absent, FileFault, NotYet, Refused, NoMemory, SinkFault}
+use Rattle.sq_cli.specs.declared.end.End.TheVariants.{Usage, Absent, FileFault, NotYet, Refused, Trapped, NoMemory, SinkFault}
 use Rattle.sq_cli.specs.Words.{Command}
 use Rattle.sq_cli.specs.Meaning.{done, Means}
 use Rattle.sq_cli.specs.Banks.{whole, cut_out, BankAfter}
@@ -21,13 +21,13 @@ module _ (command : Command) (old now : Outside) (text : List ℕ) (means : Mean
     bank_after = after;
   }
 
-  pub done_cut : GainsPrefix old.out now.out text → Rose old.out_faults now.out_faults → BankAfter command old.told (done text []) cut_out old.bank now.bank → Ended command old now (Err SinkFault)
-  done_cut gained rose after = record {
+  pub done_cut : GainsPrefix old.out now.out text → Rose old.out_faults now.out_faults → old.out_faults ≤ now.out_faults → BankAfter command old.told (done text []) cut_out old.bank now.bank → Ended command old now (Err SinkFault)
+  done_cut gained rose later after = record {
     answer = done text [];
     writing = cut_out;
     means = means;
     result_is = refl;
-    puts = record { done = tt; out = gained; err = gains_same old.err now.err [] err refl; out_faults = rose; err_faults = err_faults };
+    puts = record { done = tt; out = gained; err = gains_same old.err now.err [] err refl; out_later = later; out_faults = rose; err_faults = err_faults };
     bank_after = after;
   }
 
@@ -40,5 +40,6 @@ module _ (command : Command) (old now : Outside) (text : List ℕ) (means : Mean
   out_ends (Err (FileFault name)) wrote after cut = absurd wrote
   out_ends (Err (NotYet phase)) wrote after cut = absurd wrote
   out_ends (Err (Refused its)) wrote after cut = absurd wrote
+  out_ends (Err (Trapped trap)) wrote after cut = absurd wrote
   out_ends (Err NoMemory) wrote after cut = absurd wrote
-  out_ends (Err SinkFault) wrote after cut = done_cut wrote.0 wrote.1 cut
+  out_ends (Err SinkFault) wrote after cut = done_cut wrote.0 wrote.1 wrote.2 cut

@@ -1,13 +1,13 @@
 -- The line that names an answer.
-use Rattle.std.proofs.Common.{◌≡◌, ℕ, List, [], Bool, true, false, Option, Some, None, Result, Ok, Err, refl, sym, ◌∙◌, subst}
+use Rattle.std.proofs.Common.{◌≡◌, ◌≤◌, inl, ℕ, zero, suc, List, [], ◌∷◌, ◌++◌, take, ap, Bool, true, false, Option, Some, None, Result, Ok, Err, refl, sym, ◌∙◌, subst}
 use Rattle.sq_port.specs.Ports.{Content, Gains, GainsPrefix, Rose}
 use Rattle.std.proofs.lemmas.List.{append-nil}
-use Rattle.sq_port.proofs.Gained.{gains_both, prefix_behind, prefix_grows}
+use Rattle.sq_port.proofs.Gained.{gains_both, prefix_behind}
 use Rattle.sq_tree.specs.Bank.{BankSeen}
 use Rattle.sq_cli.specs.declared.status.Status.{Status}
 use Rattle.sq_cli.specs.declared.status.Status.TheVariants.{Done, SinkFault}
 use Rattle.sq_cli.specs.declared.end.End.{End}
-use Rattle.sq_cli.specs.declared.end.End.TheVariants.{Usage as UsageEnd, Absent as AbsentEnd, FileFault as FileFaultEnd, NotYet as NotYetEnd, Refused as RefusedEnd, NoMemory as NoMemoryEnd, SinkFault as SinkFaultEnd}
+use Rattle.sq_cli.specs.declared.end.End.TheVariants.{Usage as UsageEnd, Absent as AbsentEnd, FileFault as FileFaultEnd, NotYet as NotYetEnd, Refused as RefusedEnd, Trapped as TrappedEnd, NoMemory as NoMemoryEnd, SinkFault as SinkFaultEnd}
 use Rattle.sq_cli.specs.Words.{Command}
 use Rattle.sq_cli.specs.Phases.{opens}
 use Rattle.sq_cli.specs.Ends.{status_of, end_text}
@@ -33,24 +33,25 @@ same_end answer (AbsentEnd name) is = same_at answer (absent is.0 name.now) (Abs
 same_end answer (FileFaultEnd name) is = same_at answer (file_fault is.0 name.now) (FileFaultEnd name) is.1 (record { status = refl; text = refl; out = refl; not_done = λ no. no })
 same_end answer (NotYetEnd phase) is = same_at answer (refused phase not_yet) (NotYetEnd phase) is (record { status = refl; text = refl; out = refl; not_done = λ no. no })
 same_end answer (RefusedEnd its) is = same_at answer (refused is.0 (fault its)) (RefusedEnd its) is.1 (record { status = refl; text = refl; out = refl; not_done = λ no. no })
+same_end answer (TrappedEnd trap) is = same_at answer (trapped trap is.0) (TrappedEnd trap) is.1 (record { status = refl; text = refl; out = refl; not_done = λ no. no })
 same_end answer NoMemoryEnd is = same_at answer no_memory NoMemoryEnd is (record { status = refl; text = refl; out = refl; not_done = λ no. no })
 same_end answer SinkFaultEnd is = absurd is
 
 -- a whole run is a beginning of itself
-trap_cut : (is_open : Bool) (command : Command) (told : Option Content) (trace : List ℕ) (bank now_bank : BankSeen) → AfterTrap is_open command told whole trace bank now_bank → AfterTrap is_open command told cut_err trace bank now_bank
-trap_cut false command told trace bank now_bank after = after
-trap_cut true command told trace bank now_bank after = ([], after)
+trap_cut : (is_open : Bool) (command : Command) (told : Option Content) (trace got : List ℕ) (bank now_bank : BankSeen) → AfterTrap is_open command told whole trace bank now_bank → AfterTrap is_open command told (cut_err got) trace bank now_bank
+trap_cut false command told trace got bank now_bank after = after
+trap_cut true command told trace got bank now_bank after = record { rest = []; run = after; lines = λ before last is. (got, refl); no_more = inl refl }
 
 -- the bank where the line of an answer is cut
-line_cut : (answer : Answer) → (IsDone answer → ⊥) → (command : Option Command) (told : Option Content) (bank now_bank : BankSeen) → BankOf command told answer whole bank now_bank → BankOf command told answer cut_err bank now_bank
-line_cut answer not_done None told bank now_bank after = after
-line_cut (done out trace) not_done (Some command) told bank now_bank after = absurd (not_done tt)
-line_cut (refused phase refusal) not_done (Some command) told bank now_bank after = after
-line_cut (trapped trap trace) not_done (Some command) told bank now_bank after = trap_cut (opens command.kind) command told trace bank now_bank after
-line_cut usage not_done (Some command) told bank now_bank after = after
-line_cut (file_fault phase name) not_done (Some command) told bank now_bank after = after
-line_cut no_memory not_done (Some command) told bank now_bank after = after
-line_cut (absent phase name) not_done (Some command) told bank now_bank after = after
+line_cut : (got : List ℕ) (answer : Answer) → (IsDone answer → ⊥) → (command : Option Command) (told : Option Content) (bank now_bank : BankSeen) → BankOf command told answer whole bank now_bank → BankOf command told answer (cut_err got) bank now_bank
+line_cut got answer not_done None told bank now_bank after = after
+line_cut got (done out trace) not_done (Some command) told bank now_bank after = absurd (not_done tt)
+line_cut got (refused phase refusal) not_done (Some command) told bank now_bank after = after
+line_cut got (trapped trap trace) not_done (Some command) told bank now_bank after = trap_cut (opens command.kind) command told trace got bank now_bank after
+line_cut got usage not_done (Some command) told bank now_bank after = after
+line_cut got (file_fault phase name) not_done (Some command) told bank now_bank after = after
+line_cut got no_memory not_done (Some command) told bank now_bank after = after
+line_cut got (absent phase name) not_done (Some command) told bank now_bank after = after
 
 -- the outside once the line was put
 abbrev with_err : Outside → Option (List ℕ) → ℕ → Outside
@@ -71,19 +72,31 @@ module _ (answer : Answer) (old mid : Outside) (err : Option (List ℕ)) (faults
     };
   }
 
+  prefix : (end : End) → SameEnd answer end → IsWhole answer (trace_for answer) old mid → GainsPrefix mid.err err (end_text end) → GainsPrefix old.err err (err_text answer)
+  prefix end same puts text = prefix_behind puts.err (subst (λ (l : List ℕ). GainsPrefix mid.err err l) same.text text)
+
   -- it was cut
-  cut : (end : End) → SameEnd answer end → IsWhole answer (trace_for answer) old mid → GainsPrefix mid.err err (end_text end) → Rose mid.err_faults faults → Finished answer whole old (with_err mid err faults) SinkFault
-  cut end same puts text rose = record {
-    last = cut_err;
-    later = line_cut answer same.not_done;
+  cut : (end : End) → SameEnd answer end → IsWhole answer (trace_for answer) old mid → GainsPrefix mid.err err (end_text end) → Rose mid.err_faults faults → mid.err_faults ≤ faults → Finished answer whole old (with_err mid err faults) SinkFault
+  cut end same puts text rose later = record {
+    last = cut_err (take (prefix end same puts text).count (err_text answer));
+    later = line_cut (take (prefix end same puts text).count (err_text answer)) answer same.not_done;
     status_is = refl;
     puts = record {
       out = subst (λ (l : List ℕ). Gains old.out mid.out l) same.out puts.out;
-      err = prefix_behind puts.err (subst (λ (l : List ℕ). GainsPrefix mid.err err l) same.text text);
+      count = (prefix end same puts text).count;
+      prefix = refl;
+      err = (prefix end same puts text).gains;
       out_faults = puts.out_faults;
+      err_later = subst (λ (n : ℕ). n ≤ faults) puts.err_faults later;
       err_faults = subst (λ (n : ℕ). Rose n faults) puts.err_faults rose;
     };
   }
+
+-- a prefix of a part is one of the whole
+longer : (n : ℕ) (xs ys : List ℕ) → (k : ℕ) × (take n xs ≡ take k (xs ++ ys))
+longer zero xs ys = (0, refl)
+longer (suc n) [] ys = (0, refl)
+longer (suc n) (x ∷ xs) ys = let more = longer n xs ys in (suc more.0, ap (λ (l : List ℕ). x ∷ l) more.1)
 
 -- no line is put behind Done
 no_line : (answer : Answer) → IsDone answer → trace_for answer ≡ err_text answer
@@ -119,7 +132,7 @@ module _ (answer : Answer) (old mid : Outside) (err : Option (List ℕ)) (faults
     };
   }
   done_ends cut_out its puts = absurd its
-  done_ends cut_err its puts = absurd its
+  done_ends (cut_err got) its puts = absurd its
 
   -- nor behind a text that was cut
   pub sink_ends : (writing : Writing) → ResultFor answer writing (Err SinkFaultEnd) → Puts writing answer (trace_for answer) old mid → Finished answer writing old (with_err mid err faults) SinkFault
@@ -132,18 +145,22 @@ module _ (answer : Answer) (old mid : Outside) (err : Option (List ℕ)) (faults
       done = puts.done;
       out = puts.out;
       err = subst (λ (o : Option (List ℕ)). Gains old.err o (err_text answer)) same (subst (λ (l : List ℕ). Gains old.err mid.err l) (no_line answer puts.done) puts.err);
+      out_later = puts.out_later;
       out_faults = puts.out_faults;
       err_faults = sym counts ∙ puts.err_faults;
     };
   }
-  sink_ends cut_err its puts = record {
-    last = cut_err;
+  sink_ends (cut_err got) its puts = record {
+    last = cut_err got;
     later = λ command told bank now_bank after. after;
     status_is = refl;
     puts = record {
       out = puts.out;
-      err = subst (λ (o : Option (List ℕ)). GainsPrefix old.err o (err_text answer)) same (prefix_grows (line_for answer) puts.err);
+      count = (longer puts.count (trace_for answer) (line_for answer)).0;
+      prefix = puts.prefix ∙ (longer puts.count (trace_for answer) (line_for answer)).1;
+      err = subst (λ (o : Option (List ℕ)). Gains old.err o got) same puts.err;
       out_faults = puts.out_faults;
+      err_later = subst (λ (n : ℕ). old.err_faults ≤ n) counts puts.err_later;
       err_faults = subst (λ (n : ℕ). Rose old.err_faults n) counts puts.err_faults;
     };
   }
@@ -154,12 +171,12 @@ module _ (answer : Answer) (old mid : Outside) (start err : Option (List ℕ)) (
       → Finished answer writing old (with_err mid err faults) status
   line_ends whole status is text its puts = named answer old mid err faults end status (same_end answer end its) is puts (subst (λ (o : Option (List ℕ)). Gains o err (end_text end)) (sym same) text.0) (text.1 ∙ sym counts)
   line_ends cut_out status is text its puts = absurd (other its)
-  line_ends cut_err status is text its puts = absurd (other its.0)
+  line_ends (cut_err got) status is text its puts = absurd (other its.0)
 
-  pub line_fails : (writing : Writing) → GainsPrefix start err (end_text end) × Rose start_faults faults → ResultFor answer writing (Err end) → Puts writing answer (trace_for answer) old mid → Finished answer writing old (with_err mid err faults) SinkFault
-  line_fails whole text its puts = cut answer old mid err faults end (same_end answer end its) puts (subst (λ (o : Option (List ℕ)). GainsPrefix o err (end_text end)) (sym same) text.0) (subst (λ (n : ℕ). Rose n faults) (sym counts) text.1)
-  line_fails cut_out text its puts = absurd (other its)
-  line_fails cut_err text its puts = absurd (other its.0)
+  pub line_fails : (writing : Writing) → GainsPrefix start err (end_text end) × Rose start_faults faults → start_faults ≤ faults → ResultFor answer writing (Err end) → Puts writing answer (trace_for answer) old mid → Finished answer writing old (with_err mid err faults) SinkFault
+  line_fails whole text later its puts = cut answer old mid err faults end (same_end answer end its) puts (subst (λ (o : Option (List ℕ)). GainsPrefix o err (end_text end)) (sym same) text.0) (subst (λ (n : ℕ). Rose n faults) (sym counts) text.1) (subst (λ (n : ℕ). n ≤ faults) (sym counts) later)
+  line_fails cut_out text later its puts = absurd (other its)
+  line_fails (cut_err got) text later its puts = absurd (other its.0)
 
 -- the same of another spelling of the end
 pub sink_at : (answer : Answer) (old mid : Outside) (err : Option (List ℕ)) (faults : ℕ) → mid.err ≡ err → mid.err_faults ≡ faults → (end : End) → end ≡ SinkFaultEnd → (writing : Writing) → ResultFor answer writing (Err end) → Puts writing answer (trace_for answer) old mid

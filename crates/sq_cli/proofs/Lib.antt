@@ -6,7 +6,7 @@ pub mod Finishing
 pub mod FmtEnds
 pub mod OneAnswer
 pub mod Performed
-pub mod Piecing
+pub mod Roots
 pub mod Planning
 pub mod ProgramPhases
 pub mod Reading

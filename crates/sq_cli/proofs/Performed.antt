@@ -10,10 +10,9 @@ use Rattle.sq_tree.specs.declared.plan.SmallEvent.TheVariants.{Fill, Leaf}
 use Rattle.sq_tree.specs.Source.{signed_sum, outputs}
 use Rattle.sq_tree.specs.Bytes.{put_at, array_at, array_bytes}
 use Rattle.sq_tree.specs.Bank.{BankSeen, node_at, put_node, leaf_put, counted, IsReady, FillsRow, RunsLeaf}
-use Rattle.sq_tree.proofs.Arrays.{put_at-length, length-array_bytes}
 use Rattle.sq_cli.specs.Placing.{IsLaidOut}
 use Rattle.sq_cli.specs.Steps.{IsHeld, Ran}
-use Rattle.sq_cli.proofs.Elements.{element-put, element-stays}
+use Rattle.sq_cli.proofs.Elements.{put_at-length, length-array_bytes, element-put, element-stays}
 
 -- a bank whose root got a piece
 pub put_held : (its : Plan) (old now : BankSeen) (at : ℕ) (piece : List ℕ) → IsHeld its old → at + length piece ≤ its.capacity → now.plan ≡ old.plan → now.nodes ≡ put_node 0 at piece old.nodes → IsHeld its now

@@ -10,7 +10,7 @@ use Rattle.sq_parser.specs.declared.small.SmallMachine.{SmallMachine}
 use Rattle.sq_parser.specs.Texts.{IsSmallProgram, IsSmallMachine, IsSmallMapping}
 use Rattle.sq_tree.specs.Bank.{BankSeen}
 use Rattle.sq_cli.specs.declared.end.End.{End}
-use Rattle.sq_cli.specs.declared.end.End.TheVariants.{Usage, Absent, FileFault, NotYet, Refused, NoMemory, SinkFault}
+use Rattle.sq_cli.specs.declared.end.End.TheVariants.{Usage, Absent, FileFault, NotYet, Refused, Trapped, NoMemory, SinkFault}
 use Rattle.sq_cli.specs.declared.plan.Planned.{Planned}
 use Rattle.sq_cli.specs.Words.{run_of}
 use Rattle.sq_cli.specs.Phases.{Inputs, inputs_of, IsTold}
@@ -133,6 +133,7 @@ module _ (program mapping machine input : List ℕ) (told : Option Content) wher
         plan_made (Err (FileFault at)) laid = absurd laid
         plan_made (Err (NotYet at)) laid = absurd laid
         plan_made (Err (Refused its)) laid = λ bank. capacity_stops bank its (λ c is. record { holding = holding c is; more = laid.0; is = laid.1 })
+        plan_made (Err (Trapped trap)) laid = absurd laid
         plan_made (Err NoMemory) laid = λ bank. memory_stops (run_of program mapping machine input) told bank bank refl
         plan_made (Err SinkFault) laid = absurd laid
 

@@ -1,5 +1,5 @@
 -- Each row of the table of answers, from the answer of the call.
-use Rattle.std.proofs.Common.{◌≡◌, ◌≢◌, ◌⊎◌, inl, inr, ℕ, Option, Some, None, refl, sym, ◌∙◌, ap, subst}
+use Rattle.std.proofs.Common.{◌≡◌, ◌≤◌, arith, ◌≢◌, ◌⊎◌, inl, inr, ℕ, Option, Some, None, refl, sym, ◌∙◌, ap, subst}
 use Rattle.sq_port.specs.Ports.{Content, Rose}
 use Rattle.sq_cli.specs.declared.status.Status.{Status}
 use Rattle.sq_cli.specs.declared.status.Status.TheVariants.{Done, Refused, Trapped, Usage, FileFault, SinkFault, NoMemory, Absent}
@@ -25,7 +25,7 @@ sink_or_other Absent = inr (λ e. cc)
 named : (answer : Answer) (writing : Writing) (status : Status) → StatusFor answer writing status → status ≢ SinkFault → (writing ≡ whole) × (status ≡ status_for answer)
 named answer whole status is other = (refl, is)
 named answer cut_out status is other = absurd (other is)
-named answer cut_err status is other = absurd (other is)
+named answer (cut_err got) status is other = absurd (other is)
 
 -- no answer has the status SinkFault
 no_sink_status : (answer : Answer) → status_for answer ≡ SinkFault → ⊥
@@ -41,16 +41,22 @@ rose_sink : (answer : Answer) (writing : Writing) (status : Status) (old now : O
     → (Rose old.out_faults now.out_faults × (now.err_faults ≡ old.err_faults)) ⊎ (Rose old.err_faults now.err_faults × (now.out_faults ≡ old.out_faults))
 rose_sink answer whole status old now is puts sink = absurd (no_sink_status answer (sym is ∙ sink))
 rose_sink answer cut_out status old now is puts sink = inl (puts.out_faults, puts.err_faults)
-rose_sink answer cut_err status old now is puts sink = inr (puts.err_faults, puts.out_faults)
+rose_sink answer (cut_err got) status old now is puts sink = inr (puts.err_faults, puts.out_faults)
 
 kept_sinks : (answer : Answer) (writing : Writing) (status : Status) (old now : Outside) → StatusFor answer writing status → Puts writing answer (err_text answer) old now → status ≢ SinkFault → (now.out_faults ≡ old.out_faults) × (now.err_faults ≡ old.err_faults)
 kept_sinks answer whole status old now is puts other = (puts.out_faults, puts.err_faults)
 kept_sinks answer cut_out status old now is puts other = absurd (other is)
-kept_sinks answer cut_err status old now is puts other = absurd (other is)
+kept_sinks answer (cut_err got) status old now is puts other = absurd (other is)
+
+-- no count of a sink falls
+later_sinks : (answer : Answer) (writing : Writing) (old now : Outside) → Puts writing answer (err_text answer) old now → (old.out_faults ≤ now.out_faults) × (old.err_faults ≤ now.err_faults)
+later_sinks answer whole old now puts = (omega (arith, puts.out_faults), omega (arith, puts.err_faults))
+later_sinks answer cut_out old now puts = (puts.out_later, omega (arith, puts.err_faults))
+later_sinks answer (cut_err got) old now puts = (omega (arith, puts.out_faults), puts.err_later)
 
 -- the counts of the files, by the answer's status
 module _ (f f2 m m2 : ℕ) where
-  absent_rose : (answer : Answer) → FilesFor answer f f2 m m2 → status_for answer ≡ Absent → Rose m m2
+  absent_rose : (answer : Answer) → FilesFor answer f f2 m m2 → status_for answer ≡ Absent → Rose m m2 × (f2 ≡ f)
   absent_rose (done out trace) files is = absurd (let no : Done ≡ Absent = is in cc)
   absent_rose (refused phase refusal) files is = absurd (let no : Refused ≡ Absent = is in cc)
   absent_rose (trapped trap trace) files is = absurd (let no : Trapped ≡ Absent = is in cc)
@@ -59,7 +65,7 @@ module _ (f f2 m m2 : ℕ) where
   absent_rose no_memory files is = absurd (let no : NoMemory ≡ Absent = is in cc)
   absent_rose (absent phase name) files is = files
 
-  fault_rose : (answer : Answer) → FilesFor answer f f2 m m2 → status_for answer ≡ FileFault → Rose f f2
+  fault_rose : (answer : Answer) → FilesFor answer f f2 m m2 → status_for answer ≡ FileFault → Rose f f2 × (m2 ≡ m)
   fault_rose (done out trace) files is = absurd (let no : Done ≡ FileFault = is in cc)
   fault_rose (refused phase refusal) files is = absurd (let no : Refused ≡ FileFault = is in cc)
   fault_rose (trapped trap trace) files is = absurd (let no : Trapped ≡ FileFault = is in cc)
@@ -147,10 +153,10 @@ module _ {command : Option Command} {old now : Outside} {f f2 m m2 : ℕ} {statu
     | inr other ↦ inl (its_status other ∙ ap status_for (subst (λ (k : Option Command). IsAnswer k old.told answered.answer) none answered.cause))
   ]
 
-  pub absent_row : status ≡ Absent → Rose m m2
+  pub absent_row : status ≡ Absent → Rose m m2 × (f2 ≡ f)
   absent_row is = absent_rose f f2 m m2 answered.answer answered.files (sym (its_status (λ sink. let both = sym is ∙ sink in cc)) ∙ is)
 
-  pub file_fault_row : status ≡ FileFault → Rose f f2
+  pub file_fault_row : status ≡ FileFault → Rose f f2 × (m2 ≡ m)
   file_fault_row is = fault_rose f f2 m m2 answered.answer answered.files (sym (its_status (λ sink. let both = sym is ∙ sink in cc)) ∙ is)
 
   pub sink_fault_row : status ≡ SinkFault → (Rose old.out_faults now.out_faults × (now.err_faults ≡ old.err_faults)) ⊎ (Rose old.err_faults now.err_faults × (now.out_faults ≡ old.out_faults))
@@ -158,6 +164,9 @@ module _ {command : Option Command} {old now : Outside} {f f2 m m2 : ℕ} {statu
 
   pub no_sink_fault_row : status ≢ SinkFault → (now.out_faults ≡ old.out_faults) × (now.err_faults ≡ old.err_faults)
   no_sink_fault_row other = kept_sinks answered.answer answered.writing status old now answered.status_is answered.puts other
+
+  pub later_row : (old.out_faults ≤ now.out_faults) × (old.err_faults ≤ now.err_faults)
+  later_row = later_sinks answered.answer answered.writing old now answered.puts
 
   pub undisturbed_row : IsUndisturbed status → (f2 ≡ f) × (m2 ≡ m)
   undisturbed_row calm = kept_files f f2 m m2 answered.answer answered.files (subst IsUndisturbed (its_status (no_sink status calm)) calm)

@@ -1,6 +1,6 @@
 -- How `run` ends once its plan is made.
-use Rattle.std.proofs.Common.{◌≡◌, ℕ, List, [], ◌∷◌, ◌++◌, length, Option, Some, Result, Ok, Err, refl, sym, ◌∙◌, ap, subst}
-use Rattle.std.specs.Prelude.{ℤ, map}
+use Rattle.std.proofs.Common.{◌≡◌, ℕ, ◌<◌, arith, List, [], ◌∷◌, ◌++◌, length, Option, Some, Result, Ok, Err, refl, sym, ◌∙◌, ap, subst}
+use Rattle.std.specs.Prelude.{ℤ}
 use Rattle.std.proofs.lemmas.List.{length-replicate}
 use Rattle.sq_port.specs.Ports.{Content}
 use Rattle.sq_num.specs.declared.Elem.TheVariants.{Int}
@@ -13,8 +13,9 @@ use Rattle.sq_arrays.specs.Arrays.{DataFault, arrays_of}
 use Rattle.sq_tree.specs.declared.plan.Plan.{Plan}
 use Rattle.sq_tree.specs.declared.plan.SmallEvent.{SmallEvent}
 use Rattle.sq_tree.specs.Source.{signed_sum, outputs}
-use Rattle.sq_tree.specs.Bank.{BankSeen, node_at, IsOpened}
-use Rattle.sq_tree.specs.Run.{events_of, counted_all}
+use Rattle.sq_tree.specs.Bytes.{array_at}
+use Rattle.sq_tree.specs.Bank.{BankSeen, node_at, put_node, IsOpened}
+use Rattle.sq_tree.specs.Run.{events_of, nodes_left, counted_all}
 use Rattle.sq_cli.specs.declared.end.End.{End}
 use Rattle.sq_cli.specs.declared.plan.Planned.{Planned}
 use Rattle.sq_cli.specs.Words.{run_of}
@@ -25,7 +26,8 @@ use Rattle.sq_cli.specs.Meaning.{AllPassed, Reached, done, Means}
 use Rattle.sq_cli.specs.Banks.{IsOpenFor, IsUnrun, IsRun, IsPrinted}
 use Rattle.sq_cli.specs.Steps.{IsPlanned, IsHeld, Ran, IsUnperformed, IsUnfit, IsDataRefusal, FillsInput, Stopped, WroteOut}
 use Rattle.sq_cli.proofs.Elements.{listed-same}
-use Rattle.sq_cli.proofs.Performed.{output_is}
+use Rattle.sq_cli.proofs.Performed.{root_put, output_is}
+use Rattle.sq_cli.proofs.Roots.{data_stands}
 use Rattle.sq_cli.proofs.Stopping.{is_there, phase_stops}
 use Rattle.sq_cli.proofs.Planning.{one}
 
@@ -90,15 +92,15 @@ module _ (program mapping machine input : List ℕ) (told : Option Content) (pla
     data_fails c is not_yet fails = absurd fails
     data_fails c is (fault its) found = unfit c is its found
 
-    pub input_stops : (end : End) → FillsInput told input planned.plan.value now (Err end) → Stopped (run_of program mapping machine input) told old now end
+    pub input_stops : (end : End) → FillsInput told input planned.plan.value opened now (Err end) → Stopped (run_of program mapping machine input) told old now end
     input_stops end stops = phase_stops (run_of program mapping machine input) told Input (λ c refusal. IsDataRefusal (c input) planned.plan.value refusal) old now (one program mapping machine input told)
         (λ c is. reached c (one program mapping machine input told c is)) data_fails unrun (λ closed. cc) end stops
 
-    module _ (held : IsHeld planned.plan.value now) (fills : FillsInput told input planned.plan.value now (Ok tt)) (last : BankSeen) (ran : Ran planned.plan.value now last) where
+    module _ (held : IsHeld planned.plan.value now) (fills : FillsInput told input planned.plan.value opened now (Ok tt)) (last : BankSeen) (ran : Ran planned.plan.value now last) where
       no_data : (c : Content) → told ≡ Some c → (refusal : Refusal) → IsSmallFault Input (inputs_of c (run_of program mapping machine input)) refusal → ⊥
       no_data c is not_yet fails = fails
       no_data c is (fault its) fails =
-          let given = (fills c is).given in
+          let given = (fills.is_data c is).given in
           let only = made.only c is in
           ok_or_err (given.values ∷ []) fails.found (arrays_of (int_array planned.plan.value.task.input planned.plan.value.n ∷ []) given.bytes) given.read (
           subst (λ (b : List ℕ). arrays_of (int_array planned.plan.value.task.input planned.plan.value.n ∷ []) b ≡ Err fails.found) (two_texts (c input) fails.bytes given.bytes fails.there given.there) (
@@ -108,12 +110,20 @@ module _ (program mapping machine input : List ℕ) (told : Option Content) (pla
       all_passed : (c : Content) → told ≡ Some c → AllPassed (run_of program mapping machine input) c (Program ∷ Machine ∷ Mapping ∷ Capacity ∷ Input ∷ [])
       all_passed c is =
           let p = made.passed c is in
-          let given = (fills c is).given in
+          let given = (fills.is_data c is).given in
           (p.0, (p.1.0, (p.1.1.0, (p.1.1.1.0, (record { there = is_there c input given.bytes given.there; no_fault = no_data c is }, tt)))))
+
+      stands : (c : Content) (is : told ≡ Some c) (k : ℕ) → k < planned.plan.value.n → array_at Int (node_at 0 now.nodes) planned.plan.value.input_at k ≡ numbers_of (fills.is_data c is).given.values k
+      stands c is k below =
+          let its = planned.plan.value in
+          let before = opened_held its old opened opens in
+          let count : length (fills.is_data c is).given.values ≡ its.n = omega (arith, (fills.values c is).count) in
+          ap (λ (l : List ℕ). array_at Int l its.input_at k) (root_put its opened now its.input_at fills.stored before fills.nodes)
+          ∙ data_stands its (node_at 0 opened.nodes) fills.stored (fills.is_data c is).given.values (omega (arith, made.laid_out.placed.input, before.size)) (fills.is_data c is).is count (fills.values c is).each k below
 
       gives : (c : Content) → told ≡ Some c → GivesOutputs (inputs_of c (run_of program mapping machine input)) (root_text planned.plan.value last)
       gives c is =
-          let filled = fills c is in
+          let filled = fills.is_data c is in
           let plan = made.plan_of c is in
           record {
             holding = plan.holding;
@@ -122,16 +132,16 @@ module _ (program mapping machine input : List ℕ) (told : Option Content) (pla
                 subst (λ (k : ℕ). root_text planned.plan.value last ≡ output_text plan.holding.task.output k (outputs plan.holding.task.minus (numbers_of filled.given.values))) plan.n (
                 subst (λ (t : SmallTask). root_text planned.plan.value last ≡ output_text t.output planned.plan.value.n (outputs t.minus (numbers_of filled.given.values))) plan.task (
                 ap (λ (l : List ℤ). array_text (int_array planned.plan.value.task.output planned.plan.value.n) l) (listed-same planned.plan.value.n _ (outputs planned.plan.value.task.minus (numbers_of filled.given.values)) (λ k below.
-                output_is planned.plan.value made.laid_out now last held ran k below ∙ ap (λ (z : ℤ). cut Int (signed_sum planned.plan.value.task.minus z)) (filled.each k below)))));
+                output_is planned.plan.value made.laid_out now last held ran k below ∙ ap (λ (z : ℤ). cut Int (signed_sum planned.plan.value.task.minus z)) (stands c is k below)))));
           }
 
       abbrev is_run : IsRun (run_of program mapping machine input) told [] [] old last
       is_run = record {
         plan = planned.plan.value;
         opened = open_for last ran.openings ran.plan;
-        start = now.nodes;
-        room = ap (map length) held.one ∙ ap (λ (n : ℕ). n ∷ []) held.size;
-        stands = λ c is. fills c (one program mapping machine input told c is);
+        stored = fills.stored;
+        size = fills.size;
+        read = λ c is. fills.is_data c (one program mapping machine input told c is);
         performed = events_of planned.plan.value;
         begins = refl;
         has = record {
@@ -140,7 +150,7 @@ module _ (program mapping machine input : List ℕ) (told : Option Content) (pla
               let none : told_before.0 ≡ [] = opens.events told_before.0 (sym still.events ∙ told_before.1) in
               told_before.2 ∙ ap (λ (l : List SmallEvent). l ++ events_of planned.plan.value) none;
           counts = ran.counts ∙ ap (counted_all (events_of planned.plan.value)) (still.counts ∙ opens.counts);
-          nodes = ran.nodes;
+          nodes = ran.nodes ∙ ap (λ (l : List (List ℕ)). nodes_left planned.plan.value l (events_of planned.plan.value)) (fills.nodes ∙ ap (λ (l : List (List ℕ)). put_node 0 planned.plan.value.input_at fills.stored l) opens.nodes);
           edges = ran.edges ∙ still.edges ∙ opens.edges;
         };
         traced = refl;
@@ -153,12 +163,9 @@ module _ (program mapping machine input : List ℕ) (told : Option Content) (pla
       run_printed = record { run = is_run; prints = refl }
 
 -- the same of another spelling of what is told and of the plan
-pub fills_same : (told that : Option Content) (name : List ℕ) (p q : Plan) (now : BankSeen) (result : Result (Unit {0}) End) → told ≡ that → p ≡ q → FillsInput told name p now result → FillsInput that name q now result
-fills_same told that name p q now result told_is plan_is fills =
-    subst (λ (t : Option Content). FillsInput t name q now result) told_is (subst (λ (x : Plan). FillsInput told name x now result) plan_is fills)
-
-pub opens_same : (p q : Plan) (old now : BankSeen) → p ≡ q → IsOpened p old now → IsOpened q old now
-opens_same p q old now is opens = subst (λ (x : Plan). IsOpened x old now) is opens
+pub fills_same : (told that : Option Content) (name : List ℕ) (p q : Plan) (old now : BankSeen) (result : Result (Unit {0}) End) → told ≡ that → p ≡ q → FillsInput told name p old now result → FillsInput that name q old now result
+fills_same told that name p q old now result told_is plan_is fills =
+    subst (λ (t : Option Content). FillsInput t name q old now result) told_is (subst (λ (x : Plan). FillsInput told name x old now result) plan_is fills)
 
 pub held_same : (p q : Plan) (now : BankSeen) → p ≡ q → IsHeld p now → IsHeld q now
 held_same p q now is held = subst (λ (x : Plan). IsHeld x now) is held

@@ -5,14 +5,14 @@ use Rattle.sq_port.proofs.Gained.{gains_nothing}
 use Rattle.sq_text.specs.declared.code.Phase.{Phase}
 use Rattle.sq_tree.specs.Bank.{BankSeen}
 use Rattle.sq_cli.specs.declared.end.End.{End}
-use Rattle.sq_cli.specs.declared.end.End.TheVariants.{Usage, Absent, FileFault, NotYet, Refused, NoMemory, SinkFault}
+use Rattle.sq_cli.specs.declared.end.End.TheVariants.{Usage, Absent, FileFault, NotYet, Refused, Trapped, NoMemory, SinkFault}
 use Rattle.sq_cli.specs.Words.{Files, Command}
 use Rattle.sq_cli.specs.Phases.{file_of, is_open_at, inputs_of, IsTold}
 use Rattle.sq_cli.specs.Small.{Refusal, not_yet, fault}
 use Rattle.sq_cli.specs.Faults.{IsFault}
-use Rattle.sq_cli.specs.Meaning.{Reached, Answer, refused, file_fault, no_memory, absent}
+use Rattle.sq_cli.specs.Meaning.{Reached, refused, file_fault, no_memory, absent}
 use Rattle.sq_cli.specs.Banks.{whole, AfterStop}
-use Rattle.sq_cli.specs.Outcome.{out_text, trace_for, IsEndOf, Outside, Ended}
+use Rattle.sq_cli.specs.Outcome.{out_text, trace_for, Outside, Ended}
 use Rattle.sq_cli.specs.Steps.{Stops, Stopped}
 
 some_same : {A : Type 0} (x y : A) → Some x ≡ Some y → x ≡ y
@@ -44,32 +44,37 @@ module _ (command : Command) (told : Option Content) (phase : Phase) (Fails : Co
     answer = absent phase name.now;
     means = record { names = stops.0; cause = λ c is. (stops.0, reached c is, stops.1 c (one c is)) };
     is = (phase, refl);
+    silent = (refl, refl);
     bank_after = left;
   }
   phase_stops (FileFault name) stops = record {
     answer = file_fault phase name.now;
     means = record { names = stops; cause = λ c is. (stops, reached c is) };
     is = (phase, refl);
+    silent = (refl, refl);
     bank_after = left;
   }
   phase_stops (NotYet at) stops = record {
     answer = refused phase not_yet;
     means = record { names = tt; cause = λ c is. (reached c is, faulty c (one c is) not_yet (stops.1 c (one c is))) };
     is = ap (λ (p : Phase). refused p not_yet) (sym stops.0);
+    silent = (refl, refl);
     bank_after = left;
   }
   phase_stops (Refused its) stops = record {
     answer = refused phase (fault its);
     means = record { names = tt; cause = λ c is. (reached c is, faulty c (one c is) (fault its) (stops c (one c is))) };
     is = (phase, refl);
+    silent = (refl, refl);
     bank_after = left;
   }
-  phase_stops NoMemory stops = record { answer = no_memory; means = record { names = tt; cause = λ c is. tt }; is = refl; bank_after = kept stops }
+  phase_stops (Trapped trap) stops = absurd stops
+  phase_stops NoMemory stops = record { answer = no_memory; means = record { names = tt; cause = λ c is. tt }; is = refl; silent = (refl, refl); bank_after = kept stops }
   phase_stops SinkFault stops = absurd stops
 
 -- for want of memory a command stops before the bank is open
 pub memory_stops : (command : Command) (told : Option Content) (bank now_bank : BankSeen) → now_bank ≡ bank → Stopped command told bank now_bank NoMemory
-memory_stops command told bank now_bank kept = record { answer = no_memory; means = record { names = tt; cause = λ c is. tt }; is = refl; bank_after = kept }
+memory_stops command told bank now_bank kept = record { answer = no_memory; means = record { names = tt; cause = λ c is. tt }; is = refl; silent = (refl, refl); bank_after = kept }
 
 -- the sinks are as they were
 pub record Still (old now : Outside) : Type 0 where
@@ -81,25 +86,6 @@ pub record Still (old now : Outside) : Type 0 where
 pub gains_same : (before now : Option (List ℕ)) (text : List ℕ) → now ≡ before → text ≡ [] → Gains before now text
 gains_same before now text same none = subst (λ (o : Option (List ℕ)). Gains before o text) (sym same) (subst (λ (t : List ℕ). Gains before before t) (sym none) (gains_nothing before))
 
--- an end writes nothing beside its line
-nothing_out : (answer : Answer) (end : End) → IsEndOf answer end → out_text answer ≡ []
-nothing_out answer Usage is = ap out_text is
-nothing_out answer (Absent name) is = ap out_text is.1
-nothing_out answer (FileFault name) is = ap out_text is.1
-nothing_out answer (NotYet phase) is = ap out_text is
-nothing_out answer (Refused its) is = ap out_text is.1
-nothing_out answer NoMemory is = ap out_text is
-nothing_out answer SinkFault is = absurd is
-
-nothing_traced : (answer : Answer) (end : End) → IsEndOf answer end → trace_for answer ≡ []
-nothing_traced answer Usage is = ap trace_for is
-nothing_traced answer (Absent name) is = ap trace_for is.1
-nothing_traced answer (FileFault name) is = ap trace_for is.1
-nothing_traced answer (NotYet phase) is = ap trace_for is
-nothing_traced answer (Refused its) is = ap trace_for is.1
-nothing_traced answer NoMemory is = ap trace_for is
-nothing_traced answer SinkFault is = absurd is
-
 pub stop_ends : (command : Command) (old now : Outside) (end : End) → Stopped command old.told old.bank now.bank end → Still old now → Ended command old now (Err end)
 stop_ends command old now end stopped still = record {
   answer = stopped.answer;
@@ -107,8 +93,8 @@ stop_ends command old now end stopped still = record {
   means = stopped.means;
   result_is = stopped.is;
   puts = record {
-    out = gains_same old.out now.out (out_text stopped.answer) still.out (nothing_out stopped.answer end stopped.is);
-    err = gains_same old.err now.err (trace_for stopped.answer) still.err (nothing_traced stopped.answer end stopped.is);
+    out = gains_same old.out now.out (out_text stopped.answer) still.out stopped.silent.0;
+    err = gains_same old.err now.err (trace_for stopped.answer) still.err stopped.silent.1;
     out_faults = still.out_faults;
     err_faults = still.err_faults;
   };

@@ -1,5 +1,5 @@
 -- What a command leaves of the bank.
-use Rattle.std.specs.Prelude.{◌≡◌, List, ℕ, [], ◌∷◌, ◌++◌, length, map, Bool, true, false, Option, Some}
+use Rattle.std.specs.Prelude.{◌≡◌, ◌⊎◌, List, ℕ, [], ◌∷◌, ◌++◌, ◌*◌, length, Bool, true, false, Option, Some}
 use Rattle.sq_port.specs.Ports.{Content}
 use Rattle.sq_tree.specs.declared.plan.Plan.{Plan}
 use Rattle.sq_tree.specs.declared.plan.SmallEvent.{SmallEvent}
@@ -10,14 +10,14 @@ use Rattle.sq_cli.specs.declared.words.Kind.TheVariants.{Check, Fmt, Run}
 use Rattle.sq_cli.specs.Words.{input, Command}
 use Rattle.sq_cli.specs.Phases.{opens, is_open_at, inputs_of, IsTold}
 use Rattle.sq_cli.specs.Placing.{IsLaidOut}
-use Rattle.sq_cli.specs.Small.{Stands, root_text}
+use Rattle.sq_cli.specs.Small.{IsData, start_of, root_text}
 use Rattle.sq_cli.specs.Meaning.{IsPlanOf, Answer, done, refused, trapped, usage, file_fault, no_memory, absent}
 
--- the texts of an answer were put whole, or a put to `out` or to `err` failed
+-- the texts of an answer were put whole, or a put to `out` failed, or one to `err`, which got these bytes
 pub data Writing : Type 0 where
   whole : Writing
   cut_out : Writing
-  cut_err : Writing
+  cut_err : (got : List ℕ) → Writing
 
 -- opened once in this call, with a plan that is laid out, and is that of what the files hold
 pub record IsOpenFor (command : Command) (told : Option Content) (plan : Plan) (old now : BankSeen) : Type 0 where
@@ -36,16 +36,16 @@ pub record IsUnrun (command : Command) (told : Option Content) (old now : BankSe
 abbrev pub trace_of : Command → List SmallEvent → List ℕ
 trace_of command events = []
 
--- opened, and events performed on the data as read: from a start of the plan's memory in which it stands those of the plan's run, but for the rest
+-- opened, the data as read put into the plan's zeros, and from that start on the events of the plan's run performed, but for the rest
 pub record IsRun (command : Command) (told : Option Content) (trace : List ℕ) (rest : List SmallEvent) (old now : BankSeen) : Type 0 where
   pub plan : Plan
   pub opened : IsOpenFor command told plan old now
-  pub start : List (List ℕ)
-  pub room : map length start ≡ plan.capacity ∷ []
-  pub stands : (c : Content) → IsTold command told c → Stands (inputs_of c command input) plan start
+  pub stored : List ℕ
+  pub size : length stored ≡ 4 * plan.n
+  pub read : (c : Content) → IsTold command told c → IsData (inputs_of c command input) plan stored
   pub performed : List SmallEvent
   pub begins : performed ++ rest ≡ events_of plan
-  pub has : HasPerformed plan start performed now
+  pub has : HasPerformed plan (start_of plan stored) performed now
   pub traced : trace ≡ trace_of command (events_of plan)
 
 -- what a command that opens the bank prints of it
@@ -59,16 +59,23 @@ pub record IsPrinted (command : Command) (told : Option Content) (out trace : Li
   pub run : IsRun command told trace [] old now
   pub prints : Prints command.kind run.plan now out
 
+-- a beginning of the run, whose trace was cut: the events but the last have their lines whole, and where events are left nothing was put of their lines
+pub record IsCutRun (command : Command) (told : Option Content) (got trace : List ℕ) (old now : BankSeen) : Type 0 where
+  pub rest : List SmallEvent
+  pub run : IsRun command told trace rest old now
+  pub lines : (before : List SmallEvent) (last : SmallEvent) → run.performed ≡ before ++ last ∷ [] → (more : List ℕ) × (got ≡ trace_of command before ++ more)
+  pub no_more : (rest ≡ []) ⊎ ((more : List ℕ) × (trace_of command run.performed ≡ got ++ more))
+
 -- the run, or where its trace was cut a beginning of it
 abbrev pub HasRun : Command → Option Content → Writing → List ℕ → BankSeen → BankSeen → Type 0
 HasRun command told whole trace old now = IsRun command told trace [] old now
 HasRun command told cut_out trace old now = IsRun command told trace [] old now
-HasRun command told cut_err trace old now = (rest : List SmallEvent) × IsRun command told trace rest old now
+HasRun command told (cut_err got) trace old now = IsCutRun command told got trace old now
 
 abbrev pub HasPrinted : Command → Option Content → Writing → List ℕ → List ℕ → BankSeen → BankSeen → Type 0
 HasPrinted command told whole out trace old now = IsPrinted command told out trace old now
 HasPrinted command told cut_out out trace old now = IsPrinted command told out trace old now
-HasPrinted command told cut_err out trace old now = (rest : List SmallEvent) × IsRun command told trace rest old now
+HasPrinted command told (cut_err got) out trace old now = IsCutRun command told got trace old now
 
 -- a command that doesn't open the bank leaves it as it was, and has no trace
 abbrev pub AfterDone : Bool → Command → Option Content → Writing → List ℕ → List ℕ → BankSeen → BankSeen → Type 0

@@ -2,10 +2,10 @@
 use Rattle.std.specs.Prelude.{◌≡◌, ℕ, ◌≤◌, List, [], Result, Ok, Err, codes}
 use Rattle.sq_port.specs.Ports.{Rose}
 use Rattle.sq_cli.specs.declared.status.Status.{Status}
-use Rattle.sq_cli.specs.declared.status.Status.TheVariants.{Done as DoneStatus, Refused as RefusedStatus, Usage as UsageStatus, FileFault as FileFaultStatus, SinkFault as SinkFaultStatus, NoMemory as NoMemoryStatus, Absent as AbsentStatus}
+use Rattle.sq_cli.specs.declared.status.Status.TheVariants.{Done as DoneStatus, Refused as RefusedStatus, Trapped as TrappedStatus, Usage as UsageStatus, FileFault as FileFaultStatus, SinkFault as SinkFaultStatus, NoMemory as NoMemoryStatus, Absent as AbsentStatus}
 use Rattle.sq_cli.specs.declared.end.End.{End}
-use Rattle.sq_cli.specs.declared.end.End.TheVariants.{Usage, Absent, FileFault, NotYet, Refused, NoMemory, SinkFault}
-use Rattle.sq_cli.specs.Texts.{line, usage_line, fault_line, not_yet_line}
+use Rattle.sq_cli.specs.declared.end.End.TheVariants.{Usage, Absent, FileFault, NotYet, Refused, Trapped, NoMemory, SinkFault}
+use Rattle.sq_cli.specs.Texts.{line, usage_line, fault_line, not_yet_line, trap_line}
 
 abbrev pub status_of : End → Status
 status_of Usage = UsageStatus
@@ -13,6 +13,7 @@ status_of (Absent name) = AbsentStatus
 status_of (FileFault name) = FileFaultStatus
 status_of (NotYet phase) = RefusedStatus
 status_of (Refused fault) = RefusedStatus
+status_of (Trapped trap) = TrappedStatus
 status_of NoMemory = NoMemoryStatus
 status_of SinkFault = SinkFaultStatus
 
@@ -28,6 +29,7 @@ end_text (Absent name) = line (codes "absent ") name.now
 end_text (FileFault name) = line (codes "fault ") name.now
 end_text (NotYet phase) = not_yet_line phase
 end_text (Refused fault) = fault_line fault
+end_text (Trapped trap) = trap_line trap
 end_text NoMemory = codes "no memory\n"
 end_text SinkFault = []
 
@@ -37,10 +39,10 @@ IsQuiet AbsentStatus = ⊥
 IsQuiet FileFaultStatus = ⊥
 IsQuiet status = Unit {0}
 
--- the counts of the files don't fall; Absent and FileFault have their own that rose, and every other end comes only where none rose
+-- the counts of the files don't fall; Absent and FileFault have their own that rose and leave the other, and every other end comes only where none rose
 pub record FileCauses (faults now_faults misses now_misses : ℕ) (status : Status) : Type 0 where
   pub faults_later : faults ≤ now_faults
   pub misses_later : misses ≤ now_misses
-  pub absent : status ≡ AbsentStatus → Rose misses now_misses
-  pub fault : status ≡ FileFaultStatus → Rose faults now_faults
+  pub absent : status ≡ AbsentStatus → Rose misses now_misses × (now_faults ≡ faults)
+  pub fault : status ≡ FileFaultStatus → Rose faults now_faults × (now_misses ≡ misses)
   pub quiet : IsQuiet status → (now_faults ≡ faults) × (now_misses ≡ misses)

@@ -6,9 +6,9 @@ pub mod Holding
 pub mod Meaning
 pub mod Outcome
 pub mod Phases
-pub mod Pieces
 pub mod Placing
 pub mod Programs
+pub mod Roots
 pub mod Small
 pub mod Steps
 pub mod Texts

@@ -13,7 +13,7 @@ use Rattle.sq_cli.specs.Holding.{Holds}
 use Rattle.sq_cli.specs.Programs.{IsProgramText}
 use Rattle.sq_cli.specs.Small.{Refusal, GivesOutputs, IsSmallPlan}
 use Rattle.sq_cli.specs.Faults.{IsFault}
-use Rattle.sq_cli.specs.Texts.{Trap}
+use Rattle.sq_cli.specs.declared.trap.Trap.{Trap}
 
 -- a phase's file is there, and the phase has no fault
 pub record Passed (command : Command) (c : Content) (phase : Phase) : Type 0 where

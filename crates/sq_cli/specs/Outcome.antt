@@ -1,12 +1,12 @@
 -- What an answer writes, and how a command ends.
-use Rattle.std.specs.Prelude.{◌≡◌, ℕ, List, [], ◌++◌, Option, Result, Ok, Err, codes}
+use Rattle.std.specs.Prelude.{◌≡◌, ◌≤◌, ℕ, List, [], ◌++◌, take, Option, Result, Ok, Err, codes}
 use Rattle.sq_port.specs.Ports.{Content, Rose, Gains, GainsPrefix}
 use Rattle.sq_text.specs.declared.code.Phase.{Phase}
 use Rattle.sq_tree.specs.Bank.{BankSeen}
 use Rattle.sq_cli.specs.declared.status.Status.{Status}
 use Rattle.sq_cli.specs.declared.status.Status.TheVariants.{Done as DoneStatus, Refused as RefusedStatus, Trapped as TrappedStatus, Usage as UsageStatus, FileFault as FileFaultStatus, NoMemory as NoMemoryStatus, Absent as AbsentStatus}
 use Rattle.sq_cli.specs.declared.end.End.{End}
-use Rattle.sq_cli.specs.declared.end.End.TheVariants.{Usage, Absent, FileFault, NotYet, Refused, NoMemory, SinkFault}
+use Rattle.sq_cli.specs.declared.end.End.TheVariants.{Usage, Absent, FileFault, NotYet, Refused, Trapped, NoMemory, SinkFault}
 use Rattle.sq_cli.specs.Texts.{line, usage_line, fault_line, not_yet_line, trap_line}
 use Rattle.sq_cli.specs.Words.{Command}
 use Rattle.sq_cli.specs.Small.{Refusal, not_yet, fault}
@@ -76,21 +76,25 @@ pub record IsCutOut (answer : Answer) (text : List ℕ) (old now : Outside) : Ty
   pub done : IsDone answer
   pub out : GainsPrefix old.out now.out (out_text answer)
   pub err : Gains old.err now.err text
+  pub out_later : old.out_faults ≤ now.out_faults
   pub out_faults : Rose old.out_faults now.out_faults
   pub err_faults : now.err_faults ≡ old.err_faults
 
 -- a put to `err` failed: `err` got a prefix of its text, and `out` nothing
-pub record IsCutErr (answer : Answer) (text : List ℕ) (old now : Outside) : Type 0 where
+pub record IsCutErr (got : List ℕ) (answer : Answer) (text : List ℕ) (old now : Outside) : Type 0 where
   pub out : Gains old.out now.out []
-  pub err : GainsPrefix old.err now.err text
+  pub count : ℕ
+  pub prefix : got ≡ take count text
+  pub err : Gains old.err now.err got
   pub out_faults : now.out_faults ≡ old.out_faults
+  pub err_later : old.err_faults ≤ now.err_faults
   pub err_faults : Rose old.err_faults now.err_faults
 
 -- what the sinks got of an answer
 abbrev pub Puts : Writing → Answer → List ℕ → Outside → Outside → Type 0
 Puts whole = IsWhole
 Puts cut_out = IsCutOut
-Puts cut_err = IsCutErr
+Puts (cut_err got) = IsCutErr got
 
 -- an end, and the answer that it stands for
 abbrev pub IsEndOf : Answer → End → Type 0
@@ -99,6 +103,7 @@ IsEndOf answer (Absent name) = (phase : Phase) × (answer ≡ absent phase name.
 IsEndOf answer (FileFault name) = (phase : Phase) × (answer ≡ file_fault phase name.now)
 IsEndOf answer (NotYet phase) = answer ≡ refused phase not_yet
 IsEndOf answer (Refused its) = (phase : Phase) × (answer ≡ refused phase (fault its))
+IsEndOf answer (Trapped trap) = (trace : List ℕ) × (answer ≡ trapped trap trace)
 IsEndOf answer NoMemory = answer ≡ no_memory
 IsEndOf answer SinkFault = ⊥
 
@@ -112,10 +117,10 @@ HasEvents answer = ⊥
 abbrev pub ResultFor : Answer → Writing → Result (Unit {0}) End → Type 0
 ResultFor answer whole (Ok value) = IsDone answer
 ResultFor answer cut_out (Ok value) = ⊥
-ResultFor answer cut_err (Ok value) = ⊥
+ResultFor answer (cut_err got) (Ok value) = ⊥
 ResultFor answer whole (Err end) = IsEndOf answer end
 ResultFor answer cut_out (Err end) = end ≡ SinkFault
-ResultFor answer cut_err (Err end) = (end ≡ SinkFault) × HasEvents answer
+ResultFor answer (cut_err got) (Err end) = (end ≡ SinkFault) × HasEvents answer
 
 -- how a command ended: its answer with the cause, and what it wrote and left of the bank
 pub record Ended (command : Command) (old now : Outside) (result : Result (Unit {0}) End) : Type 0 where

@@ -1,6 +1,8 @@
 -- The small forms that `run` takes so far: what they hold, how they are refused, and what they give.
-use Rattle.std.specs.Prelude.{◌≡◌, ℕ, ◌<◌, List, [], ◌∷◌, Option, Some, Ok, Err, ℤ}
+use Rattle.std.specs.Prelude.{◌≡◌, ℕ, ◌<◌, List, [], ◌∷◌, replicate, Option, Some, Ok, Err, ℤ}
+use Rattle.std.specs.List.{flat_map}
 use Rattle.sq_num.specs.declared.Elem.TheVariants.{Int}
+use Rattle.sq_num.specs.Elements.{cell}
 use Rattle.sq_text.specs.declared.code.Phase.{Phase}
 use Rattle.sq_text.specs.declared.code.Phase.TheVariants.{Program, Types, Machine, Mapping, Resolve, Race, Capacity, Order, Input}
 use Rattle.sq_text.specs.declared.fault.Fault.{Fault}
@@ -11,7 +13,7 @@ use Rattle.sq_arrays.specs.Arrays.{DataFault, arrays_of}
 use Rattle.sq_tree.specs.declared.plan.Plan.{Plan}
 use Rattle.sq_tree.specs.Source.{outputs}
 use Rattle.sq_tree.specs.Bytes.{array_at}
-use Rattle.sq_tree.specs.Bank.{BankSeen, node_at}
+use Rattle.sq_tree.specs.Bank.{BankSeen, node_at, put_node}
 use Rattle.sq_cli.specs.Words.{program, mapping, machine, input}
 use Rattle.sq_cli.specs.Phases.{Inputs}
 use Rattle.sq_cli.specs.Holding.{Holds, HoldsNone}
@@ -92,10 +94,14 @@ pub record IsSmallPlan (inputs : Inputs) (plan : Plan) : Type 0 where
   pub n : plan.n ≡ holding.n
   pub capacity : plan.capacity ≡ holding.memory.capacity
 
--- the numbers of the data stand in the `in` array
-pub record Stands (data_text : Option (List ℕ)) (plan : Plan) (nodes : List (List ℕ)) : Type 0 where
+-- the bytes that store the numbers of the data
+pub record IsData (data_text : Option (List ℕ)) (plan : Plan) (stored : List ℕ) : Type 0 where
   pub given : Given data_text plan.task.input plan.n
-  pub each : (k : ℕ) → k < plan.n → array_at Int (node_at 0 nodes) plan.input_at k ≡ numbers_of given.values k
+  pub is : stored ≡ flat_map (cell Int) given.values
+
+-- the nodes that a run starts from: these bytes in the place of the `in` array, and zeros in all others of the plan's capacity
+abbrev pub start_of : Plan → List ℕ → List (List ℕ)
+start_of plan stored = put_node 0 plan.input_at stored (replicate plan.capacity 0 ∷ [])
 
 -- the text of the root's bytes in the buffer of the `out` array
 abbrev pub root_text : Plan → BankSeen → List ℕ

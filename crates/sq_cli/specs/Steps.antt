@@ -1,5 +1,5 @@
 -- What each phase leaves behind.
-use Rattle.std.specs.Prelude.{◌≡◌, ℕ, List, [], ◌∷◌, ◌++◌, Bool, true, false, Option, Some, None, Result, Ok, Err, length, ◌<◌}
+use Rattle.std.specs.Prelude.{◌≡◌, ℕ, List, [], ◌∷◌, ◌++◌, Bool, true, false, Option, Some, None, Result, Ok, Err, length, ◌<◌, ◌≤◌, ◌*◌}
 use Rattle.sq_port.specs.Ports.{Content, Rose, Gains, GainsPrefix}
 use Rattle.sq_lexer.specs.Faults.{FitsFile, IsTooLong}
 use Rattle.sq_text.specs.declared.code.Phase.{Phase}
@@ -8,14 +8,14 @@ use Rattle.sq_text.specs.declared.fault.Arg.TheVariants.{Word}
 use Rattle.sq_text.specs.declared.fault.Fault.{Fault}
 use Rattle.sq_parser.specs.declared.small.SmallTask.{SmallTask}
 use Rattle.sq_parser.specs.declared.small.SmallMachine.{SmallMachine}
-use Rattle.sq_arrays.specs.Arrays.{DataFault, arrays_of}
+use Rattle.sq_arrays.specs.Arrays.{DataFault, arrays_of, AreValuesOf}
 use Rattle.sq_tree.specs.declared.plan.Plan.{Plan}
 use Rattle.sq_tree.specs.declared.plan.SmallEvent.{SmallEvent}
-use Rattle.sq_tree.specs.Bank.{BankSeen, node_at}
+use Rattle.sq_tree.specs.Bank.{BankSeen, node_at, put_node}
 use Rattle.sq_tree.specs.Run.{events_of, nodes_left, counted_all}
 use Rattle.sq_ast.specs.declared.program.Program.{Program as Tree}
 use Rattle.sq_cli.specs.declared.end.End.{End}
-use Rattle.sq_cli.specs.declared.end.End.TheVariants.{Usage, Absent, FileFault, NotYet, Refused, NoMemory, SinkFault}
+use Rattle.sq_cli.specs.declared.end.End.TheVariants.{Usage, Absent, FileFault, NotYet, Refused, Trapped, NoMemory, SinkFault}
 use Rattle.sq_cli.specs.declared.plan.Planned.{Planned}
 use Rattle.sq_cli.specs.Words.{Command}
 use Rattle.sq_cli.specs.Phases.{inputs_of}
@@ -23,10 +23,10 @@ use Rattle.sq_cli.specs.Holding.{Holds, HoldsOnly, HoldsNone}
 use Rattle.sq_cli.specs.Programs.{IsProgramText, ProgramFault, IsFirstTypeFault}
 use Rattle.sq_cli.specs.Placing.{IsLaidOut, need, capacity_fault}
 use Rattle.sq_cli.specs.Data.{int_array, data_fault}
-use Rattle.sq_cli.specs.Small.{Refusal, not_yet, fault, Holding, Stands}
+use Rattle.sq_cli.specs.Small.{Refusal, not_yet, fault, Holding, IsData}
 use Rattle.sq_cli.specs.Meaning.{AllPassed, Answer, Means, IsPlanOf}
 use Rattle.sq_cli.specs.Banks.{whole, BankAfter}
-use Rattle.sq_cli.specs.Outcome.{IsEndOf}
+use Rattle.sq_cli.specs.Outcome.{out_text, trace_for, IsEndOf}
 
 -- how a phase stops a command, by its file and its faults; for want of memory only where the bank isn't open
 abbrev pub Stops : Bool → Phase → Option Content → Option (List ℕ) → (Content → Refusal → Type 0) → End → Type 0
@@ -35,14 +35,16 @@ Stops is_open phase told file Fails (Absent name) = (file ≡ Some name.now) × 
 Stops is_open phase told file Fails (FileFault name) = file ≡ Some name.now
 Stops is_open phase told file Fails (NotYet at) = (at ≡ phase) × ((c : Content) → told ≡ Some c → Fails c not_yet)
 Stops is_open phase told file Fails (Refused its) = (c : Content) → told ≡ Some c → Fails c (fault its)
+Stops is_open phase told file Fails (Trapped trap) = ⊥
 Stops is_open phase told file Fails NoMemory = is_open ≡ false
 Stops is_open phase told file Fails SinkFault = ⊥
 
--- a command stops so, and leaves the bank so
+-- a command stops so, without a trace, and leaves the bank so
 pub record Stopped (command : Command) (told : Option Content) (bank now_bank : BankSeen) (end : End) : Type 0 where
   pub answer : Answer
   pub means : Means command told answer
   pub is : IsEndOf answer end
+  pub silent : (out_text answer ≡ []) × (trace_for answer ≡ [])
   pub bank_after : BankAfter command told answer whole bank now_bank
 
 abbrev pub IsNotYet : Type 0 → Refusal → Type 0
@@ -139,13 +141,21 @@ abbrev pub IsDataRefusal : Option (List ℕ) → Plan → Refusal → Type 0
 IsDataRefusal given plan not_yet = ⊥
 IsDataRefusal given plan (fault its) = IsUnfit given plan its
 
--- the data is in its place, and else how it stops the command
-abbrev pub FillsInput : Option Content → List ℕ → Plan → BankSeen → Result (Unit {0}) End → Type 0
-FillsInput told name plan now (Ok value) = (c : Content) → told ≡ Some c → Stands (c name) plan now.nodes
-FillsInput told name plan now (Err end) = Stops true Input told (Some name) (λ c refusal. IsDataRefusal (c name) plan refusal) end
+-- the bytes that store the numbers of the data stand in the place of the `in` array, and all other bytes are as they were
+pub record IsFilled (told : Option Content) (name : List ℕ) (plan : Plan) (old now : BankSeen) : Type 0 where
+  pub stored : List ℕ
+  pub size : length stored ≡ 4 * plan.n
+  pub nodes : now.nodes ≡ put_node 0 plan.input_at stored old.nodes
+  pub is_data : (c : Content) → told ≡ Some c → IsData (c name) plan stored
+  pub values : (c : Content) (is : told ≡ Some c) → AreValuesOf (int_array plan.task.input plan.n) (is_data c is).given.values
+
+-- that, and else how the data stops the command
+abbrev pub FillsInput : Option Content → List ℕ → Plan → BankSeen → BankSeen → Result (Unit {0}) End → Type 0
+FillsInput told name plan old now (Ok value) = IsFilled told name plan old now
+FillsInput told name plan old now (Err end) = Stops true Input told (Some name) (λ c refusal. IsDataRefusal (c name) plan refusal) end
 
 -- the text, or where the sink failed a prefix of it
 abbrev pub WroteOut : Option (List ℕ) → Option (List ℕ) → ℕ → ℕ → List ℕ → Result (Unit {0}) End → Type 0
 WroteOut out now_out faults now_faults text (Ok value) = Gains out now_out text × (now_faults ≡ faults)
-WroteOut out now_out faults now_faults text (Err SinkFault) = GainsPrefix out now_out text × Rose faults now_faults
+WroteOut out now_out faults now_faults text (Err SinkFault) = GainsPrefix out now_out text × Rose faults now_faults × (faults ≤ now_faults)
 WroteOut out now_out faults now_faults text (Err end) = ⊥

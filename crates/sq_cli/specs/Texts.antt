@@ -8,6 +8,9 @@ use Rattle.sq_text.specs.Codes.{phase_name, code_name}
 use Rattle.sq_text.specs.declared.fault.Arg.{Arg}
 use Rattle.sq_text.specs.declared.fault.Arg.TheVariants.{Word, Number, Block}
 use Rattle.sq_text.specs.declared.fault.Fault.{Fault}
+use Rattle.sq_cli.specs.declared.trap.Trap.{Trap}
+use Rattle.sq_cli.specs.declared.trap.TrapKind.{TrapKind}
+use Rattle.sq_cli.specs.declared.trap.TrapKind.TheVariants.{DivZero, Index}
 
 -- the commands and options
 unfoldable pub usage_line : List ℕ
@@ -43,27 +46,21 @@ fault_line fault = codes "refused " ++ phase_name fault.phase ++ codes " " ++ co
 abbrev pub not_yet_line : Phase → List ℕ
 not_yet_line phase = codes "refused " ++ phase_name phase ++ codes " NotYet\n"
 
--- why leaf code stops: a zero divisor, or an index outside the extents
-pub data TrapKind : Type 0 where
-  div_zero : TrapKind
-  index : TrapKind
-
--- a trap: its kind, its place in the program, and the numbers of the iterations round the leaf call, outermost first
-pub record Trap : Type 0 where
-  pub kind : TrapKind
-  pub place : Place
-  pub path : List ℕ
-
 abbrev pub kind_name : TrapKind → List ℕ
-kind_name div_zero = codes "DivZero"
-kind_name index = codes "Index"
+kind_name DivZero = codes "DivZero"
+kind_name Index = codes "Index"
 
--- the numbers of a path, or `-` where there are none
+-- the numbers of a path with `/` between them, or `-` where there are none
+abbrev pub next_text : ℕ → List ℕ
+next_text n = codes "/" ++ decimal n
+
+abbrev pub numbers_text : List ℕ → List ℕ
+numbers_text numbers = flat_map next_text numbers
+
 abbrev pub path_text : List ℕ → List ℕ
 path_text [] = codes "-"
-path_text (n ∷ []) = decimal n
-path_text (n ∷ rest) = decimal n ++ (codes "/" ++ path_text rest)
+path_text (first ∷ rest) = decimal first ++ numbers_text rest
 
 -- the line of a trap
 abbrev pub trap_line : Trap → List ℕ
-trap_line trap = codes "trapped " ++ (kind_name trap.kind ++ (place_text (Some trap.place) ++ (codes " path " ++ (path_text trap.path ++ codes "\n"))))
+trap_line trap = codes "trapped " ++ kind_name trap.kind ++ place_text (Some trap.place) ++ codes " path " ++ path_text trap.path ++ codes "\n"

@@ -1,11 +1,12 @@
 //! Why a command stops before it is done.
-ghost use Rattle.std.specs.Prelude.{◌≡◌, ◌≢◌};
+ghost use Rattle.std.specs.Prelude.{◌≡◌, ◌≢◌, ◌≤◌};
 ghost use Rattle.sq_port.specs.Ports.{Rose, Gains, Wrote};
 ghost use Rattle.sq_cli.specs.Texts.{usage_line};
 ghost use Rattle.sq_cli.specs.Ends.{status_of, end_text};
 
-use crate::lines::{put_fault, put_line, put_not_yet};
+use crate::lines::{put_fault, put_line, put_not_yet, put_trap};
 use crate::status::Status;
+use crate::trap::Trap;
 use sq_port::{Failed, Sink, put_next};
 use sq_text::{Fault, Phase};
 
@@ -19,6 +20,8 @@ pub enum End<'a> {
     /// The phase's text isn't of the small form.
     NotYet(Phase),
     Refused(Fault),
+    /// The source traps. Nothing does so far.
+    Trapped(Trap),
     NoMemory,
     SinkFault,
 }
@@ -33,15 +36,17 @@ impl End<'_> {
             End::FileFault(_) => Status::FileFault,
             End::NotYet(_) => Status::Refused,
             End::Refused(_) => Status::Refused,
+            End::Trapped(_) => Status::Trapped,
             End::NoMemory => Status::NoMemory,
             End::SinkFault => Status::SinkFault,
         }
     }
 }
 
-/// Puts the line of an end.
+/// Puts the line of an end; after SinkFault none.
 pub fn put_end<E: Sink>(err: &mut E, end: &End<'_>) -> Result<(), Failed>
-    ensures { Wrote (E.written err.old) (E.written err.new) (E.faults err.old) (E.faults err.new) (end_text end.now) result }
+    ensures later { E.faults err.old ≤ E.faults err.new }
+    ensures wrote { Wrote (E.written err.old) (E.written err.new) (E.faults err.old) (E.faults err.new) (end_text end.now) result }
 {
     match end {
         End::Usage => put_usage_line(err),
@@ -49,6 +54,7 @@ pub fn put_end<E: Sink>(err: &mut E, end: &End<'_>) -> Result<(), Failed>
         End::FileFault(name) => put_line(err, b"fault ", name.as_bytes()),
         End::NotYet(phase) => put_not_yet(err, *phase),
         End::Refused(fault) => put_fault(err, fault),
+        End::Trapped(trap) => put_trap(err, trap),
         End::NoMemory => put_next(err, Ok(()), b"no memory\n"),
         End::SinkFault => Ok(()),
     }
@@ -56,7 +62,8 @@ pub fn put_end<E: Sink>(err: &mut E, end: &End<'_>) -> Result<(), Failed>
 
 #[tactic(auto, unfolding(crate::specs::Texts::usage_line))]
 fn put_usage_line<E: Sink>(err: &mut E) -> Result<(), Failed>
-    ensures { Wrote (E.written err.old) (E.written err.new) (E.faults err.old) (E.faults err.new) usage_line result }
+    ensures later { E.faults err.old ≤ E.faults err.new }
+    ensures wrote { Wrote (E.written err.old) (E.written err.new) (E.faults err.old) (E.faults err.new) usage_line result }
 {
     put_next(
         err,

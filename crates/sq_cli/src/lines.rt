@@ -1,111 +1,168 @@
-//! Puts the lines that name why something is refused.
-ghost use Rattle.std.specs.Prelude.{◌≡◌, ◌++◌, ℕ, List, codes, decimal};
-ghost use Rattle.sq_port.specs.Ports.{Wrote};
-ghost use Rattle.sq_cli.specs.Texts.{place_text, span_text, arg_text, args_text, fault_line, not_yet_line, line};
+//! Puts the lines that name why a command isn't done, each gathered first.
+ghost use Rattle.std.specs.Prelude.{◌≡◌, ◌++◌, ◌≤◌, ℕ, List, codes, decimal};
 ghost use Rattle.std.specs.List.{flat_map};
+ghost use Rattle.sq_port.specs.Ports.{Wrote};
+ghost use Rattle.sq_port.specs.Lines.{Gathers};
+ghost use Rattle.sq_cli.specs.Texts.{place_text, span_text, arg_text, args_text, path_text, numbers_text, next_text, fault_line, not_yet_line, trap_line, line};
 
-use itoa::Buffer;
-use sq_port::{Failed, Sink, put_next};
+use crate::trap::Trap;
+use sq_port::{Failed, Line, Sink};
 use sq_text::{Arg, Fault, Phase, Place, Span};
 
 /// Puts the line of a fault.
 pub fn put_fault<S: Sink>(sink: &mut S, fault: &Fault) -> Result<(), Failed>
-    ensures { Wrote (S.written sink.old) (S.written sink.new) (S.faults sink.old) (S.faults sink.new) (fault_line fault.now) result }
+    ensures later { S.faults sink.old ≤ S.faults sink.new }
+    ensures wrote { Wrote (S.written sink.old) (S.written sink.new) (S.faults sink.old) (S.faults sink.new) (fault_line fault.now) result }
 {
-    let begun = put_next(sink, Ok(()), b"refused ");
-    let phase = put_next(sink, begun, fault.phase.name());
-    let space = put_next(sink, phase, b" ");
-    let code = put_next(sink, space, fault.code.name());
-    let place = put_place(sink, code, &fault.place);
-    let args = put_args(sink, place, fault.args.as_slice());
-    put_next(sink, args, b"\n")
+    let mut line = Line::new();
+    line.add(sink, b"refused ");
+    line.add(sink, fault.phase.name());
+    line.add(sink, b" ");
+    line.add(sink, fault.code.name());
+    add_place(sink, &mut line, &fault.place);
+    add_args(sink, &mut line, fault.args.as_slice());
+    line.add(sink, b"\n");
+    line.put(sink)
 }
 
 /// Puts the line of a text that isn't of the small form.
 pub fn put_not_yet<S: Sink>(sink: &mut S, phase: Phase) -> Result<(), Failed>
-    ensures { Wrote (S.written sink.old) (S.written sink.new) (S.faults sink.old) (S.faults sink.new) (not_yet_line phase) result }
+    ensures later { S.faults sink.old ≤ S.faults sink.new }
+    ensures wrote { Wrote (S.written sink.old) (S.written sink.new) (S.faults sink.old) (S.faults sink.new) (not_yet_line phase) result }
 {
-    let begun = put_next(sink, Ok(()), b"refused ");
-    let named = put_next(sink, begun, phase.name());
-    put_next(sink, named, b" NotYet\n")
+    let mut line = Line::new();
+    line.add(sink, b"refused ");
+    line.add(sink, phase.name());
+    line.add(sink, b" NotYet\n");
+    line.put(sink)
+}
+
+/// Puts the line of a trap.
+pub fn put_trap<S: Sink>(sink: &mut S, trap: &Trap) -> Result<(), Failed>
+    ensures later { S.faults sink.old ≤ S.faults sink.new }
+    ensures wrote { Wrote (S.written sink.old) (S.written sink.new) (S.faults sink.old) (S.faults sink.new) (trap_line trap.now) result }
+{
+    let mut line = Line::new();
+    line.add(sink, b"trapped ");
+    line.add(sink, trap.kind.name());
+    add_place(sink, &mut line, &Some(trap.place));
+    line.add(sink, b" path ");
+    add_path(sink, &mut line, trap.path.as_slice());
+    line.add(sink, b"\n");
+    line.put(sink)
 }
 
 /// Puts a word, what it is about, and the end of the line.
 pub fn put_line<S: Sink>(sink: &mut S, word: &[u8], about: &[u8]) -> Result<(), Failed>
-    ensures { Wrote (S.written sink.old) (S.written sink.new) (S.faults sink.old) (S.faults sink.new) (line word.now about.now) result }
+    ensures later { S.faults sink.old ≤ S.faults sink.new }
+    ensures wrote { Wrote (S.written sink.old) (S.written sink.new) (S.faults sink.old) (S.faults sink.new) (line word.now about.now) result }
 {
-    let begun = put_next(sink, Ok(()), word);
-    let named = put_next(sink, begun, about);
-    put_next(sink, named, b"\n")
+    let mut line = Line::new();
+    line.add(sink, word);
+    line.add(sink, about);
+    line.add(sink, b"\n");
+    line.put(sink)
 }
 
-fn put_number<S: Sink>(sink: &mut S, so_far: Result<(), Failed>, number: u64) -> Result<(), Failed>
-    ensures { (start : _) (faults : ℕ) (text : List ℕ) → Wrote start (S.written sink.old) faults (S.faults sink.old) text so_far → Wrote start (S.written sink.new) faults (S.faults sink.new) (text ++ decimal number) result }
+// With a space before it, where there is a place.
+fn add_place<S: Sink>(sink: &mut S, line: &mut Line, place: &Option<Place>)
+    ensures later { S.faults sink.old ≤ S.faults sink.new }
+    ensures gathers { (start : _) (faults : ℕ) (text : List ℕ) →
+        Gathers start (S.written sink.old) faults (S.faults sink.old) text line.old →
+        Gathers start (S.written sink.new) faults (S.faults sink.new) (text ++ place_text place.now) line.new }
 {
-    let mut buffer = Buffer::new();
-    put_next(sink, so_far, buffer.format(number).as_bytes())
-}
-
-fn put_place<S: Sink>(
-    sink: &mut S,
-    so_far: Result<(), Failed>,
-    place: &Option<Place>,
-) -> Result<(), Failed>
-    ensures { (start : _) (faults : ℕ) (text : List ℕ) → Wrote start (S.written sink.old) faults (S.faults sink.old) text so_far → Wrote start (S.written sink.new) faults (S.faults sink.new) (text ++ place_text place.now) result }
-{
-    match place {
-        Some(place) => {
-            let space = put_next(sink, so_far, b" ");
-            let line = put_number(sink, space, u64::from(place.line));
-            let colon = put_next(sink, line, b":");
-            put_number(sink, colon, u64::from(place.col))
-        }
-        None => so_far,
+    if let Some(place) = place {
+        line.add(sink, b" ");
+        line.add_number(sink, u64::from(place.line));
+        line.add(sink, b":");
+        line.add_number(sink, u64::from(place.col));
     }
 }
 
-fn put_args<S: Sink>(sink: &mut S, so_far: Result<(), Failed>, args: &[Arg]) -> Result<(), Failed>
-    ensures { (start : _) (faults : ℕ) (text : List ℕ) → Wrote start (S.written sink.old) faults (S.faults sink.old) text so_far → Wrote start (S.written sink.new) faults (S.faults sink.new) (text ++ args_text args.now) result }
+fn add_args<S: Sink>(sink: &mut S, line: &mut Line, args: &[Arg])
+    ensures later { S.faults sink.old ≤ S.faults sink.new }
+    ensures gathers { (start : _) (faults : ℕ) (text : List ℕ) →
+        Gathers start (S.written sink.old) faults (S.faults sink.old) text line.old →
+        Gathers start (S.written sink.new) faults (S.faults sink.new) (text ++ args_text args.now) line.new }
 {
-    let mut line = so_far;
     for arg in args {
-        line = put_arg(sink, line, arg);
+        add_arg(sink, line, arg);
     }
-    line
 }
 
 // With a space before it.
-fn put_arg<S: Sink>(sink: &mut S, so_far: Result<(), Failed>, arg: &Arg) -> Result<(), Failed>
-    ensures { (start : _) (faults : ℕ) (text : List ℕ) → Wrote start (S.written sink.old) faults (S.faults sink.old) text so_far → Wrote start (S.written sink.new) faults (S.faults sink.new) (text ++ (codes " " ++ arg_text arg.now)) result }
+fn add_arg<S: Sink>(sink: &mut S, line: &mut Line, arg: &Arg)
+    ensures later { S.faults sink.old ≤ S.faults sink.new }
+    ensures gathers { (start : _) (faults : ℕ) (text : List ℕ) →
+        Gathers start (S.written sink.old) faults (S.faults sink.old) text line.old →
+        Gathers start (S.written sink.new) faults (S.faults sink.new) (text ++ (codes " " ++ arg_text arg.now)) line.new }
 {
-    let space = put_next(sink, so_far, b" ");
+    line.add(sink, b" ");
     match arg {
-        Arg::Word(name) => put_next(sink, space, name.bytes()),
-        Arg::Number(number) => put_number(sink, space, *number),
-        Arg::Block(spans) => put_spans(sink, space, spans.as_slice()),
+        Arg::Word(name) => line.add(sink, name.bytes()),
+        Arg::Number(number) => line.add_number(sink, *number),
+        Arg::Block(spans) => add_spans(sink, line, spans.as_slice()),
     }
 }
 
-fn put_spans<S: Sink>(
-    sink: &mut S,
-    so_far: Result<(), Failed>,
-    spans: &[Span],
-) -> Result<(), Failed>
-    ensures { (start : _) (faults : ℕ) (text : List ℕ) → Wrote start (S.written sink.old) faults (S.faults sink.old) text so_far → Wrote start (S.written sink.new) faults (S.faults sink.new) (text ++ flat_map span_text spans.now) result }
+fn add_spans<S: Sink>(sink: &mut S, line: &mut Line, spans: &[Span])
+    ensures later { S.faults sink.old ≤ S.faults sink.new }
+    ensures gathers { (start : _) (faults : ℕ) (text : List ℕ) →
+        Gathers start (S.written sink.old) faults (S.faults sink.old) text line.old →
+        Gathers start (S.written sink.new) faults (S.faults sink.new) (text ++ flat_map span_text spans.now) line.new }
 {
-    let mut line = so_far;
     for span in spans {
-        line = put_span(sink, line, *span);
+        add_span(sink, line, *span);
     }
-    line
 }
 
-fn put_span<S: Sink>(sink: &mut S, so_far: Result<(), Failed>, span: Span) -> Result<(), Failed>
-    ensures { (start : _) (faults : ℕ) (text : List ℕ) → Wrote start (S.written sink.old) faults (S.faults sink.old) text so_far → Wrote start (S.written sink.new) faults (S.faults sink.new) (text ++ span_text span) result }
+fn add_span<S: Sink>(sink: &mut S, line: &mut Line, span: Span)
+    ensures later { S.faults sink.old ≤ S.faults sink.new }
+    ensures gathers { (start : _) (faults : ℕ) (text : List ℕ) →
+        Gathers start (S.written sink.old) faults (S.faults sink.old) text line.old →
+        Gathers start (S.written sink.new) faults (S.faults sink.new) (text ++ span_text span) line.new }
 {
-    let open = put_next(sink, so_far, b"[");
-    let low = put_number(sink, open, u64::from(span.lo));
-    let dots = put_next(sink, low, b"..");
-    let high = put_number(sink, dots, u64::from(span.hi));
-    put_next(sink, high, b"]")
+    line.add(sink, b"[");
+    line.add_number(sink, u64::from(span.lo));
+    line.add(sink, b"..");
+    line.add_number(sink, u64::from(span.hi));
+    line.add(sink, b"]");
+}
+
+// The numbers of a path, or `-` where there are none.
+fn add_path<S: Sink>(sink: &mut S, line: &mut Line, path: &[u32])
+    ensures later { S.faults sink.old ≤ S.faults sink.new }
+    ensures gathers { (start : _) (faults : ℕ) (text : List ℕ) →
+        Gathers start (S.written sink.old) faults (S.faults sink.old) text line.old →
+        Gathers start (S.written sink.new) faults (S.faults sink.new) (text ++ path_text path.now) line.new }
+{
+    match path {
+        [] => line.add(sink, b"-"),
+        [first, rest @ ..] => {
+            line.add_number(sink, u64::from(*first));
+            add_numbers(sink, line, rest);
+        }
+    }
+}
+
+// Each with a `/` before it.
+fn add_numbers<S: Sink>(sink: &mut S, line: &mut Line, numbers: &[u32])
+    ensures later { S.faults sink.old ≤ S.faults sink.new }
+    ensures gathers { (start : _) (faults : ℕ) (text : List ℕ) →
+        Gathers start (S.written sink.old) faults (S.faults sink.old) text line.old →
+        Gathers start (S.written sink.new) faults (S.faults sink.new) (text ++ numbers_text numbers.now) line.new }
+{
+    for number in numbers {
+        add_next(sink, line, *number);
+    }
+}
+
+fn add_next<S: Sink>(sink: &mut S, line: &mut Line, number: u32)
+    ensures later { S.faults sink.old ≤ S.faults sink.new }
+    ensures gathers { (start : _) (faults : ℕ) (text : List ℕ) →
+        Gathers start (S.written sink.old) faults (S.faults sink.old) text line.old →
+        Gathers start (S.written sink.new) faults (S.faults sink.new) (text ++ next_text number) line.new }
+{
+    line.add(sink, b"/");
+    line.add_number(sink, u64::from(number));
 }

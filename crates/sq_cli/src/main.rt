@@ -14,6 +14,7 @@ mod status;
 #[cfg(test)]
 mod tests;
 mod top;
+mod trap;
 mod tree;
 mod words;
 mod world;

@@ -1,8 +1,8 @@
 //! The command `run`: the leaf's `out` array, by way of the bank.
-ghost use Rattle.std.specs.Prelude.{◌≡◌, ◌*◌, ℕ, List, take, drop};
+ghost use Rattle.std.specs.Prelude.{◌≡◌, OnOk, OnErr, ◌*◌, ℕ, List, take, drop};
 ghost use Rattle.sq_num.specs.declared.Elem.TheVariants.{Int};
 ghost use Rattle.sq_tree.specs.Bytes.{array_at};
-ghost use Rattle.sq_tree.specs.Bank.{node_at};
+ghost use Rattle.sq_tree.specs.Bank.{IsOpened, node_at};
 ghost use Rattle.sq_cli.specs.Words.{run_of};
 ghost use Rattle.sq_cli.specs.Ends.{ending, FileCauses};
 ghost use Rattle.sq_cli.specs.Placing.{IsLaidOut};
@@ -19,7 +19,8 @@ use sq_num::Elem;
 use sq_port::{Failed, Files, Sink};
 use sq_rect::Dims;
 use sq_tree::{Bank, Plan, Spot};
-use std::alloc::Global;
+use std::alloc::{AllocError, Global};
+use std::rc::Rc;
 
 impl<'a> Perform<'a> for Run<'a> {
     ghost command = { λ words. run_of words.program.now words.mapping.now words.machine.now words.input.now };
@@ -35,13 +36,9 @@ impl<'a> Perform<'a> for Run<'a> {
             Ok(planned) => planned,
             Err(end) => return Err(end),
         };
-        let held = match plan.clone() {
-            Ok(held) => held,
-            Err(_) => return Err(End::NoMemory),
-        };
-        match world.bank.prepare(alloc, held) {
+        match open_bank(alloc, world.bank, &plan) {
             Ok(()) => {}
-            Err(_) => return Err(End::NoMemory),
+            Err(AllocError) => return Err(End::NoMemory),
         }
         match fill_input(world.files, self.input, world.bank, &plan, args) {
             Ok(()) => {}
@@ -49,6 +46,21 @@ impl<'a> Perform<'a> for Run<'a> {
         }
         run_events(world.bank, &plan);
         write_output(world.out, world.bank, &plan)
+    }
+}
+
+// Opens the bank with the plan, where there is memory for it.
+fn open_bank<B: Bank>(alloc: Global, bank: &mut B, plan: &Rc<Plan>) -> Result<(), AllocError>
+    ensures opened { OnOk result (IsOpened plan.now.value (B.seen bank.old) (B.seen bank.new)) }
+    ensures kept { OnErr result (B.seen bank.new ≡ B.seen bank.old) }
+{
+    let held = match plan.clone() {
+        Ok(held) => held,
+        Err(error) => return Err(error),
+    };
+    match bank.prepare(alloc, held) {
+        Ok(()) => Ok(()),
+        Err(_) => Err(AllocError),
     }
 }
 

@@ -29,19 +29,22 @@ pub fn sq_top<F: Files, S: Sink, E: Sink, B: Bank>(
     ensures usage { result ≡ Status.Usage → command_of (texts words.now) ≡ None }
     ensures no_command { command_of (texts words.now) ≡ None → (result ≡ Status.Usage) ⊎ (result ≡ Status.SinkFault) }
 
-    // Absent, FileFault and SinkFault come only where a count rose in this call, and a sink's count rises at SinkFault alone.
-    ensures absent { result ≡ Status.Absent → Rose (F.misses files.old) (F.misses files.new) }
-    ensures file_fault { result ≡ Status.FileFault → Rose (F.faults files.old) (F.faults files.new) }
+    // Absent, FileFault and SinkFault come only where one count rose in this call and no other, and a sink's count rises at
+    // SinkFault alone.
+    ensures absent { result ≡ Status.Absent → Rose (F.misses files.old) (F.misses files.new) × (F.faults files.new ≡ F.faults files.old) }
+    ensures file_fault { result ≡ Status.FileFault → Rose (F.faults files.old) (F.faults files.new) × (F.misses files.new ≡ F.misses files.old) }
     ensures sink_fault { result ≡ Status.SinkFault → (Rose (S.faults out.old) (S.faults out.new) × (E.faults err.new ≡ E.faults err.old)) ⊎ (Rose (E.faults err.old) (E.faults err.new) × (S.faults out.new ≡ S.faults out.old)) }
     ensures no_sink_fault { result ≢ Status.SinkFault → (S.faults out.new ≡ S.faults out.old) × (E.faults err.new ≡ E.faults err.old) }
 
     // With every other answer no read failed and no file was missed.
     ensures undisturbed { IsUndisturbed result → (F.faults files.new ≡ F.faults files.old) × (F.misses files.new ≡ F.misses files.old) }
 
-    // What the files hold stays, and their counts don't fall.
+    // What the files hold stays, and no count falls.
     ensures content { F.content files.new ≡ F.content files.old }
     ensures faults_later { F.faults files.old ≤ F.faults files.new }
     ensures misses_later { F.misses files.old ≤ F.misses files.new }
+    ensures out_later { S.faults out.old ≤ S.faults out.new }
+    ensures err_later { E.faults err.old ≤ E.faults err.new }
 
     // The answer has its cause in what the words and the files say, its text on each sink, its counts, and its bank.
     ensures answered { Answered (command_of (texts words.now))

@@ -1,4 +1,4 @@
-// Reductions of two values of a type.
+//! Reductions of two values of a type.
 ghost use Rattle.std.specs.Prelude.{◌≡◌};
 ghost use Rattle.sq_num.specs.Elements.{cut, IsValue};
 ghost use Rattle.sq_num.specs.Reductions.{red, identity};

@@ -1,4 +1,4 @@
-// Where arrays lie in a memory.
+//! Where arrays lie in a memory.
 ghost use Rattle.std.specs.Prelude.{◌≡◌, ◌<◌, ◌^◌};
 ghost use Rattle.sq_rect.specs.Extents.{behind_first, row_major};
 

@@ -1,7 +1,7 @@
-use Rattle.std.proofs.Common.{rules, arith, ◌≡◌, ◌≤◌, ◌+◌, ◌-◌, ◌*◌, length, take, ◌∙◌, ap, sym, refl, length-take}
+use Rattle.std.proofs.Common.{rules, arith, ◌≡◌, ◌≤◌, ◌+◌, ◌*◌, length, take, ◌∙◌, ap, sym, refl, length-take}
 use Rattle.sq_num.specs.Elements.{width}
 use Rattle.sq_arrays.specs.Targets.{put_in}
-use Rattle.sq_arrays.specs.Reader.{left_of, elem_of, rest_at}
+use Rattle.sq_arrays.specs.Reader.{elem_of, rest_at}
 use Rattle.sq_arrays.proofs.Adding.{piece_of}
 use Rattle.sq_arrays.proofs.Putting.{none_put, more_put, all_put, piece_stopped, more_fits, range_later, piece_room}
 use Rattle.sq_arrays.proofs.reading.put_values.Goals as goal

@@ -1,7 +1,7 @@
-use Rattle.std.proofs.Common.{rules, arith, ◌≡◌, ◌+◌, ◌-◌, ◌≤◌, ◌^◌, ℕ, List, [], ◌∷◌, ◌++◌, None, length, drop, length-drop, ◌∙◌, ap, sym, refl}
+use Rattle.std.proofs.Common.{rules, arith, ◌≡◌, ◌+◌, [], ◌∷◌, ◌++◌, length, drop, length-drop, ◌∙◌, refl}
 use Rattle.std.specs.Prelude.{map}
 use Rattle.std.proofs.lemmas.List.{length-map}
-use Rattle.sq_arrays.specs.Arrays.{wanted, size_of}
+use Rattle.sq_arrays.specs.Arrays.{wanted}
 use Rattle.sq_arrays.specs.Reader.{rest_at}
 use Rattle.sq_arrays.proofs.Arrays.{none_read, none_stored, one_read_more, one_refused, one_stored, array_length, all_read, end_refused, next_left, none_left, next_named, room_for_next, size_for_next, last_named}
 use Rattle.sq_arrays.proofs.reading.read_arrays.Goals as goal

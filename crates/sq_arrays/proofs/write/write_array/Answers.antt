@@ -1,4 +1,4 @@
-use Rattle.std.proofs.Common.{◌≡◌, ◌*◌, ◌++◌, ℕ, List, ◌∙◌, ap, sym, length, arith}
+use Rattle.std.proofs.Common.{◌≡◌, ◌*◌, ◌++◌, ℕ, List, ◌∙◌, ap, sym, arith}
 use Rattle.sq_num.specs.Elements.{values_in}
 use Rattle.sq_rect.specs.Extents.{product, rows_of, last_of}
 use Rattle.sq_rect.proofs.Extents.{product-rows}

@@ -1,6 +1,4 @@
-use Rattle.sq_port.proofs.Gained.{wrote_nothing}
 use Rattle.sq_cli.proofs.lines.put_fault.Goals as goal
 
-pub returns : goal.returns
-returns g c = rw (c.name.ensures, c.name-2.ensures, c.as_slice.ensures) at
-    (c.put_next.ensures.wrote _ _ _ (c.put_args-args.ensures _ _ _ (c.put_place-place.ensures _ _ _ (c.put_next-code.ensures.wrote _ _ _ (c.put_next-space.ensures.wrote _ _ _ (c.put_next-phase.ensures.wrote _ _ _ (c.put_next-begun.ensures.wrote _ _ _ (wrote_nothing _ _))))))))
+pub returns-clause-wrote : goal.returns-clause-wrote
+returns-clause-wrote g c = rw (c.name.ensures, c.name-2.ensures, c.as_slice.ensures) at (c.put.ensures.wrote _ _ _ (c.add-5.ensures.gathers _ _ _ (c.add_args.ensures.gathers _ _ _ (c.add_place.ensures.gathers _ _ _ (c.add-4.ensures.gathers _ _ _ (c.add-3.ensures.gathers _ _ _ (c.add-2.ensures.gathers _ _ _ (c.add.ensures.gathers _ _ _ (c.new-line.ensures.begins _ _)))))))))

@@ -1,5 +1,4 @@
-use Rattle.sq_port.proofs.Gained.{wrote_nothing}
 use Rattle.sq_cli.proofs.lines.put_line.Goals as goal
 
-pub returns : goal.returns
-returns g c = c.put_next.ensures.wrote _ _ _ (c.put_next-named.ensures.wrote _ _ _ (c.put_next-begun.ensures.wrote _ _ _ (wrote_nothing _ _)))
+pub returns-clause-wrote : goal.returns-clause-wrote
+returns-clause-wrote g c = c.put.ensures.wrote _ _ _ (c.add-3.ensures.gathers _ _ _ (c.add-2.ensures.gathers _ _ _ (c.add.ensures.gathers _ _ _ (c.new-line.ensures.begins _ _))))

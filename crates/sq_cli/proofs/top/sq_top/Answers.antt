@@ -1,6 +1,6 @@
 use Rattle.std.proofs.Common.{refl, ⊎_elim}
 use Rattle.sq_cli.proofs.Answering.{answered_of}
-use Rattle.sq_cli.proofs.Rows.{usage_row, no_command_row, absent_row, file_fault_row, sink_fault_row, no_sink_fault_row, undisturbed_row, no_memory_row, complete_row, only_row}
+use Rattle.sq_cli.proofs.Rows.{usage_row, no_command_row, absent_row, file_fault_row, sink_fault_row, no_sink_fault_row, later_row, undisturbed_row, no_memory_row, complete_row, only_row}
 use Rattle.sq_cli.proofs.top.sq_top.Goals as goal
 
 pub returns-clause-answered : goal.returns-clause-answered
@@ -36,4 +36,10 @@ returns-clause-only g c = only_row (answered_of c.execute-ended.ensures.executed
 pub returns-clause-complete : goal.returns-clause-complete
 returns-clause-complete g c = λ no_read no_out no_err.
     let answered = answered_of c.execute-ended.ensures.executed c.execute-ended.ensures.cause refl (λ answer writing its puts. c.finish.ensures answer writing _ _ refl refl its puts) in
-    complete_row answered (λ fault. no_read (file_fault_row answered fault)) (λ sink. ⊎_elim (λ o. no_out o.0) (λ e. no_err e.0) (sink_fault_row answered sink))
+    complete_row answered (λ fault. no_read (file_fault_row answered fault).0) (λ sink. ⊎_elim (λ o. no_out o.0) (λ e. no_err e.0) (sink_fault_row answered sink))
+
+pub returns-clause-out_later : goal.returns-clause-out_later
+returns-clause-out_later g c = (later_row (answered_of c.execute-ended.ensures.executed c.execute-ended.ensures.cause refl (λ answer writing its puts. c.finish.ensures answer writing _ _ refl refl its puts))).0
+
+pub returns-clause-err_later : goal.returns-clause-err_later
+returns-clause-err_later g c = (later_row (answered_of c.execute-ended.ensures.executed c.execute-ended.ensures.cause refl (λ answer writing its puts. c.finish.ensures answer writing _ _ refl refl its puts))).1

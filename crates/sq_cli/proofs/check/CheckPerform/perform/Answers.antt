@@ -23,4 +23,4 @@ returns-in-Ok-put_all-clause-ended g c =
 
 pub returns-in-Err-put_all-clause-ended : goal.returns-in-Err-put_all-clause-ended
 returns-in-Err-put_all-clause-ended g c =
-    done_cut (check_of c.args.self.now.program.now) _ _ (codes "ok\n") (check_means c.args.self.now.program.now _ c.in-Ok.program c.in-Ok.ensures.told c.in-Ok-check.ensures.faults) refl refl c.in-Err-put_all.ensures.failed c.in-Err-put_all.ensures.cause.failed (refl, refl)
+    done_cut (check_of c.args.self.now.program.now) _ _ (codes "ok\n") (check_means c.args.self.now.program.now _ c.in-Ok.program c.in-Ok.ensures.told c.in-Ok-check.ensures.faults) refl refl c.in-Err-put_all.ensures.failed c.in-Err-put_all.ensures.cause.failed c.in-Err-put_all.ensures.cause.later (refl, refl)

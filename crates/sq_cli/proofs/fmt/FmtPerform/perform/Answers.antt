@@ -19,4 +19,4 @@ returns-in-Ok-put_all-clause-ended g c =
 
 pub returns-clause-ended : goal.returns-clause-ended
 returns-clause-ended g c =
-    done_cut (fmt_of c.args.self.now.program.now) _ _ c.as_slice.result.now (fmt_means c.args.self.now.program.now _ c.in-Ok.program c.in-Ok.ensures.told _ (c.as_slice.ensures ∙ c.in-Ok-print_program.ensures.text)) refl refl c.in-Err-put_all.ensures.failed c.in-Err-put_all.ensures.cause.failed (refl, refl)
+    done_cut (fmt_of c.args.self.now.program.now) _ _ c.as_slice.result.now (fmt_means c.args.self.now.program.now _ c.in-Ok.program c.in-Ok.ensures.told _ (c.as_slice.ensures ∙ c.in-Ok-print_program.ensures.text)) refl refl c.in-Err-put_all.ensures.failed c.in-Err-put_all.ensures.cause.failed c.in-Err-put_all.ensures.cause.later (refl, refl)
