@@ -1,5 +1,5 @@
 -- Canonical expressions and lists before what is read already: their tokens stand for the same trees, places aside, with no more levels.
-use Rattle.std.proofs.Common.{◌≡◌, ℕ, zero, suc, ◌+◌, ◌-◌, ◌≤◌, ◌<◌, Bool, true, false, if◌then◌else◌, nat_le, nat_eq, List, [], ◌∷◌, ◌++◌, map, Option, Some, None, refl, sym, ◌∙◌, ap, subst, arith, eq-eqb}
+use Rattle.std.proofs.Common.{◌≡◌, ℕ, zero, suc, ◌+◌, ◌-◌, ◌≤◌, ◌<◌, Bool, true, false, if◌then◌else◌, nat_le, nat_eq, List, [], ◌∷◌, ◌++◌, map, Option, Some, None, refl, sym, ◌∙◌, ap, subst, arith, eq-eqb, codes}
 use Rattle.std.proofs.lemmas.Bool.{leb-true, leb-false, eqb-true}
 use Rattle.sq_text.specs.declared.place.Place.{Place}
 use Rattle.sq_lexer.specs.declared.token.Sign.{Sign}
@@ -231,11 +231,11 @@ module _ (placing : List ℕ → Place) (most : ℕ) where
       → Spelled placing most bare_expr (λ y. One (Chain f n) e y) (bare_expr x) (in_brackets w.spell rest) r.from
   bracketed_says f n d x w low deep naked e le rest r =
       let close = shut g.ParenClose refl e (omega arith) rest r in
-      let a = naked (suc e) (omega arith) (41 ∷ rest) refl close in
+      let a = naked (suc e) (omega arith) (codes ")" ++ rest) refl close in
       record {
         tree = a.tree;
         same = a.same;
-        ready = shut g.ParenOpen refl (suc e) (omega arith) (w.spell (41 ∷ rest)) a.ready;
+        ready = shut g.ParenOpen refl (suc e) (omega arith) (w.spell (codes ")" ++ rest)) a.ready;
         derived = raised f zero n e a.tree _ r.from (omega arith) (an_operand (brackets (raised f w.level (levels f) (suc e) a.tree a.ready.from close.from low a.derived)));
       }
 
@@ -312,20 +312,20 @@ module _ (placing : List ℕ → Place) (most : ℕ) where
 
   pub record LinkFits (f : Bool) (n d : ℕ) (x : Link) (l : Linked) : Type 0 where
     pub level : op_level l.op ≡ n
-    pub says : Says (grammar.Link f n) bare_link d x (λ later. 32 ∷ (op_text l.op ++ (32 ∷ in_place n l.right later)))
+    pub says : Says (grammar.Link f n) bare_link d x (λ later. codes " " ++ (op_text l.op ++ (codes " " ++ in_place n l.right later)))
 
   link_says : (f : Bool) (n d : ℕ) (p : Place) (op : BinOp) (x : Expr) → d ≤ most → op_level op ≡ n → Fits f n d x (written x)
-      → Says (grammar.Link f n) bare_link d (link_of p op x) (λ later. 32 ∷ (op_text op ++ (32 ∷ in_place n (written x) later)))
+      → Says (grammar.Link f n) bare_link d (link_of p op x) (λ later. codes " " ++ (op_text op ++ (codes " " ++ in_place n (written x) later)))
   link_says f n d p op x le level h e lt rest ends r =
       let a = in_its_place f n d x (written x) h e lt rest ends r in
       let gap = space placing most (in_place n (written x) rest) a.ready in
-      let mark = marked placing most (op_sign op) e (omega arith) (32 ∷ in_place n (written x) rest) (alone (op_sign op) 32 (in_place n (written x) rest) refl) gap in
-      let q : Place = placing (spelling (op_sign op) ++ (32 ∷ in_place n (written x) rest)) in
-      subst (λ text. Spelled placing most bare_link (One (grammar.Link f n) e) (bare_link (link_of p op x)) (32 ∷ (text ++ (32 ∷ in_place n (written x) rest))) r.from) (op_spelled op)
+      let mark = marked placing most (op_sign op) e (omega arith) (codes " " ++ in_place n (written x) rest) (alone (op_sign op) 32 (in_place n (written x) rest) refl) gap in
+      let q : Place = placing (spelling (op_sign op) ++ (codes " " ++ in_place n (written x) rest)) in
+      subst (λ text. Spelled placing most bare_link (One (grammar.Link f n) e) (bare_link (link_of p op x)) (codes " " ++ (text ++ (codes " " ++ in_place n (written x) rest))) r.from) (op_spelled op)
       (record {
         tree = link_of q op a.tree;
         same = link_is q op a.tree ∙ ap (λ y. roll-Link (record { place = nowhere; op = op; right = y })) a.same ∙ sym (link_is p op x);
-        ready = space placing most (spelling (op_sign op) ++ (32 ∷ in_place n (written x) rest)) mark;
+        ready = space placing most (spelling (op_sign op) ++ (codes " " ++ in_place n (written x) rest)) mark;
         derived = a_link (op_found n op level) a.derived;
       })
 
@@ -336,7 +336,7 @@ module _ (placing : List ℕ → Place) (most : ℕ) where
     says = link_says f n d (place_at t) op x le (op_is n (class_at t) op q) h;
   })
 
-  links_join : (f : Bool) (n : ℕ) → Joins (grammar.Link f n) Ends (λ l later. 32 ∷ (op_text (linked l).op ++ (32 ∷ in_place n (linked l).right later))) (λ ls. spell_links n (map linked ls))
+  links_join : (f : Bool) (n : ℕ) → Joins (grammar.Link f n) Ends (λ l later. codes " " ++ (op_text (linked l).op ++ (codes " " ++ in_place n (linked l).right later))) (λ ls. spell_links n (map linked ls))
   links_join f n = record { nil = λ later. refl; cons = λ v vs later. refl; starts = λ v later. refl }
 
   abbrev pub AreLinks : Bool → ℕ → ℕ → List Link → Type 0
@@ -345,7 +345,7 @@ module _ (placing : List ℕ → Place) (most : ℕ) where
   links_say : (f : Bool) (n d : ℕ) (ls : List Link) → AreLinks f n d ls → (e : ℕ) → e ≤ d → (rest : List ℕ) → Ends rest → (r : Ready placing most rest)
       → Spelled placing most (map bare_link) (Many (grammar.Link f n) Any e) (map bare_link ls) (spell_links n (map linked ls) rest) r.from
   links_say f n d ls h e le rest ends r =
-      many (grammar.Link f n) (λ l. LinkFits f n d l (linked l)) bare_link Ends (λ l later. 32 ∷ (op_text (linked l).op ++ (32 ∷ in_place n (linked l).right later)))
+      many (grammar.Link f n) (λ l. LinkFits f n d l (linked l)) bare_link Ends (λ l later. codes " " ++ (op_text (linked l).op ++ (codes " " ++ in_place n (linked l).right later)))
       (λ ls. spell_links n (map linked ls)) (links_join f n) e (λ l p rest ends r. p.says e le rest ends r) h rest ends r
 
   ends_links : (n : ℕ) (ls : List Linked) (rest : List ℕ) → Ends rest → Ends (spell_links n ls rest)

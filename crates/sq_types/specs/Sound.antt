@@ -1,5 +1,6 @@
 -- What a program without a fault is, in the terms of the tree: what each name must be where it stands, construct by construct.
-use Rattle.std.specs.Prelude.{ℕ, ◌+◌, Bool, true, false, not, ◌==◌, ◌&&◌, ◌||◌, List, [], ◌∷◌, Option, Some, None, is_some, map, length}
+use Rattle.std.specs.Prelude.{ℕ, ◌+◌, Bool, true, false, not, ◌==◌, ◌&&◌, ◌||◌, List, [], ◌∷◌, Option, Some, None, is_some, nat_lt, map, length}
+use Rattle.std.specs.Option.{option_map_or}
 use Rattle.sq_text.specs.declared.word.Word.{Word}
 use Rattle.sq_text.specs.Names.{Bytes, same_name}
 use Rattle.sq_ast.specs.declared.expr.ArgUse.{ArgUse, out-ArgUse}
@@ -26,11 +27,12 @@ use Rattle.sq_ast.specs.declared.program.Body.{Body}
 use Rattle.sq_ast.specs.declared.program.Body.TheVariants as body
 use Rattle.sq_ast.specs.declared.program.Variant.{Variant}
 use Rattle.sq_ast.specs.declared.program.Program.{Program}
+use Rattle.sq_types.specs.declared.kind.ArrayType.{ArrayType}
 use Rattle.sq_types.specs.declared.kind.Kind.{Kind}
 use Rattle.sq_types.specs.declared.kind.Kind.TheVariants as kind
 use Rattle.sq_types.specs.Known.{Known, kind_of, with_name}
-use Rattle.sq_types.specs.Table.{is_size, is_number, is_list, is_array, is_argument, is_other, shape_of, array_of, dims_of, indices_of, is_read_only, differs, count_of, param_dims, writes, other_dims, other_elem, other_type, uses_of, has_whole}
-use Rattle.sq_types.specs.Sites.{with_param, param_known, params_known, param_at, decl_known, decls_known, local_known, rchop_known, ichop_known, arrays_after, params_of, ranges_known, with_variable, Twin, twin_of, is_seen, with_seen}
+use Rattle.sq_types.specs.Table.{most_arrays, is_size, is_number, is_list, is_array, is_argument, array_type, array_of, dims_of, indices_of, count_of, same_mode, same_elem, is_written, uses_of, has_whole}
+use Rattle.sq_types.specs.Sites.{with_param, param_known, params_known, param_at, decl_known, decls_known, local_known, rchop_known, ichop_known, arrays_after, params_of, ranges_known, with_variable, VariantKey, key_of, is_seen, with_seen}
 
 -- a test of a part of the tree, where these names are known
 abbrev pub Test : Type 0
@@ -49,12 +51,12 @@ is_kind test (Some kind) = test kind
 
 -- an array of so many dimensions
 abbrev pub has_dims : ℕ → Option Kind → Bool
-has_dims n (Some (kind.Array shape)) = shape.dims == n
+has_dims n (Some (kind.Array array)) = array.dims == n
 has_dims n _ = false
 
 -- an array that may be written
 abbrev pub may_write : Option Kind → Bool
-may_write (Some (kind.Array shape)) = shape.is_writable
+may_write (Some (kind.Array array)) = array.is_writable
 may_write _ = false
 
 -- not known yet
@@ -63,7 +65,7 @@ is_new name known = not (is_some (kind_of known name))
 
 -- not known yet, or a size
 abbrev pub may_be_size : Bytes → Test
-may_be_size name known = not (is_other is_size (kind_of known name))
+may_be_size name known = option_map_or is_size (kind_of known name) true
 
 -- a size, a tunable number, a map's variable or a loop's counter
 abbrev pub names_number : Bytes → Test
@@ -76,12 +78,25 @@ names_list name known = is_kind is_list (kind_of known name)
 abbrev pub names_array : Bytes → Test
 names_array name known = is_kind is_array (kind_of known name)
 
--- an array, or a block of one, that may be passed for this parameter at so many indices
+-- where there is a number, it is this one
+abbrev pub agrees : Option ℕ → ℕ → Bool
+agrees None n = true
+agrees (Some m) n = m == n
+
+-- an array of the parameter's dimensions and element type, which may be written where the parameter is
+abbrev pub suits : Param → ArrayType → Bool
+suits p array = length p.extents == array.dims && (same_elem p.elem array.elem && (array.is_writable || not (is_written p.mode)))
+
+-- where both are known, the array suits the parameter
+abbrev pub both_suit : Option Param → Option ArrayType → Bool
+both_suit (Some p) (Some array) = suits p array
+both_suit _ _ = true
+
+-- an array whole, or a block with as many indices as choose one; and the array suits the parameter
 abbrev pub fits_param : ℕ → Option Param → Bytes → Test
 fits_param indices param name known =
     is_kind (is_argument indices) (kind_of known name)
-    && not (differs (indices_of known (kind_of known name)) indices || other_dims (array_of known (kind_of known name)) param)
-    && not (writes param && is_read_only (array_of known (kind_of known name))) && not (other_elem (array_of known (kind_of known name)) param)
+    && (agrees (indices_of known (kind_of known name)) indices && both_suit param (array_of known (kind_of known name)))
 
 -- an array that may be written, and is one of these arguments, whole and for an `inout` parameter, and none of the others nor a block of it
 abbrev pub may_be_reduced : Option (List Param) → List ArgUse → Bytes → Test
@@ -134,11 +149,15 @@ are_sound_extents [] known = true
 are_sound_extents (extent.Size place name ∷ rest) known = may_be_size name known && are_sound_extents rest (with_name known name kind.Size)
 are_sound_extents (extent.Fixed place n ∷ rest) known = are_sound_extents rest known
 
--- as the first variant's in its position, and at most the 32nd array
+-- the dimensions, mode and element type of the first variant's parameter, where it has one in this position
+abbrev pub is_as_first : Option Param → Param → Bool
+is_as_first None p = true
+is_as_first (Some first) p = length first.extents == length p.extents && (same_mode first.mode p.mode && same_elem first.elem p.elem)
+
+-- a parameter behind so many
 abbrev pub is_sound_param : Option Param → ℕ → Param → Test
 is_sound_param first before p known =
-    is_new p.name known && not (differs (param_dims first) (length p.extents)) && not (other_type first p) && not (before == 32)
-    && are_sound_extents p.extents (with_param known p)
+    is_new p.name known && is_as_first first p && nat_lt before most_arrays && are_sound_extents p.extents (with_param known p)
 
 abbrev pub are_sound_params : Option (List Param) → ℕ → List Param → Test
 are_sound_params first i [] known = true
@@ -146,13 +165,14 @@ are_sound_params first i (p ∷ rest) known = is_sound_param (param_at first i) 
 
 -- ---- declarations
 
+-- a declaration behind so many parameters and locals
 abbrev pub is_sound_decl : ℕ → Decl → Test
 is_sound_decl before (decl.Tunable place name) known = is_new name known
 is_sound_decl before (decl.List place name) known = is_new name known
 is_sound_decl before (decl.Local place elem name extents) known =
-    is_new name known && not (before == 32) && are_sound_exprs extents (local_known elem name extents known)
+    is_new name known && nat_lt before most_arrays && are_sound_exprs extents (local_known elem name extents known)
 is_sound_decl before (decl.Rchop place name array sizes) known =
-    is_new name known && not (differs (dims_of (shape_of (kind_of known array.name))) (length sizes))
+    is_new name known && agrees (dims_of (array_type (kind_of known array.name))) (length sizes)
     && (names_array array.name (rchop_known name array known) && are_sound_exprs sizes (rchop_known name array known))
 is_sound_decl before (decl.Ichop place name array starts ends) known =
     is_new name known && (names_array array.name (ichop_known name array known)
@@ -254,12 +274,12 @@ is_sound_body tasks (body.Leaf list) = are_sound_leaves list
 -- the only one of its task and kind, with as many parameters as the task's first
 abbrev pub is_sound_variant : List Variant → Bool → Variant → Bool
 is_sound_variant tasks again v =
-    not again && not (differs (count_of (params_of tasks v.task)) (length v.params)) && (are_sound_params (params_of tasks v.task) 0 v.params []
+    not again && agrees (count_of (params_of tasks v.task)) (length v.params) && (are_sound_params (params_of tasks v.task) 0 v.params []
     && (are_sound_decls (length v.params) v.decls (params_known v.params []) && is_sound_body tasks v.body (decls_known v.decls (params_known v.params []))))
 
-abbrev pub are_sound_variants : List Variant → List Twin → List Variant → Bool
+abbrev pub are_sound_variants : List Variant → List VariantKey → List Variant → Bool
 are_sound_variants tasks seen [] = true
-are_sound_variants tasks seen (v ∷ rest) = is_sound_variant tasks (is_seen seen (twin_of v)) v && are_sound_variants tasks (with_seen seen (twin_of v)) rest
+are_sound_variants tasks seen (v ∷ rest) = is_sound_variant tasks (is_seen seen (key_of v)) v && are_sound_variants tasks (with_seen seen (key_of v)) rest
 
 abbrev pub is_sound : Program → Bool
 is_sound program = are_sound_variants program.tasks [] program.tasks

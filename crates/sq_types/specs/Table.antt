@@ -5,10 +5,11 @@ use Rattle.std.specs.Option.{option_map_or}
 use Rattle.sq_num.specs.declared.Elem.{Elem}
 use Rattle.sq_num.specs.declared.Elem.TheVariants.{Byte, Int, Long}
 use Rattle.sq_text.specs.declared.place.Place.{Place}
+use Rattle.sq_text.specs.declared.word.Word.{Word}
 use Rattle.sq_text.specs.declared.code.Code.{Code}
 use Rattle.sq_text.specs.declared.code.Code.TheVariants.{DupTask, DupName, UnknownName, WrongKind, DimCount, WriteIn, ArgCount, ArgType, BadReduce, LimitArrays}
 use Rattle.sq_text.specs.declared.code.Phase.TheVariants.{Types}
-use Rattle.sq_text.specs.declared.fault.Arg.TheVariants.{Word}
+use Rattle.sq_text.specs.declared.fault.Arg.TheVariants as arg
 use Rattle.sq_text.specs.declared.fault.Fault.{Fault}
 use Rattle.sq_text.specs.First.{HoldsIn}
 use Rattle.sq_text.specs.Found.{Breach, breach, fault_by, at_name}
@@ -17,10 +18,15 @@ use Rattle.sq_ast.specs.declared.expr.ArgUse.{ArgUse, out-ArgUse}
 use Rattle.sq_ast.specs.declared.program.Mode.{Mode}
 use Rattle.sq_ast.specs.declared.program.Mode.TheVariants.{Input, Output, Both}
 use Rattle.sq_ast.specs.declared.program.Param.{Param}
-use Rattle.sq_types.specs.declared.kind.Shape.{Shape}
+use Rattle.sq_ast.specs.Words.{word}
+use Rattle.sq_types.specs.declared.kind.ArrayType.{ArrayType}
 use Rattle.sq_types.specs.declared.kind.Kind.{Kind}
 use Rattle.sq_types.specs.declared.kind.Kind.TheVariants.{Size, Scalar, List as Listing, Variable, Array, Rchop, Ichop}
 use Rattle.sq_types.specs.Known.{Known, kind_of}
+
+-- how many parameters and locals a variant may have
+abbrev pub most_arrays : ℕ
+most_arrays = 32
 
 -- ---- names where they stand
 
@@ -52,6 +58,10 @@ pub record Site : Type 0 where
 abbrev pub site : Known → Place → Bytes → Role → Site
 site known place name role = record { known = known; place = place; name = name; role = role }
 
+-- the name, and where it stands
+abbrev pub word_of : Site → Word
+word_of s = word s.place s.name
+
 -- ---- kinds
 
 abbrev pub is_size : Kind → Bool
@@ -69,12 +79,12 @@ is_list Listing = true
 is_list _ = false
 
 abbrev pub is_array : Kind → Bool
-is_array (Array shape) = true
+is_array (Array array) = true
 is_array _ = false
 
 -- the kind of an argument with so many indices: an array whole, or a block
 abbrev pub is_argument : ℕ → Kind → Bool
-is_argument indices (Array shape) = indices == 0
+is_argument indices (Array array) = indices == 0
 is_argument indices (Rchop array) = not (indices == 0)
 is_argument indices (Ichop array) = not (indices == 0)
 is_argument indices _ = false
@@ -84,30 +94,30 @@ abbrev pub is_other : (Kind → Bool) → Option Kind → Bool
 is_other test None = false
 is_other test (Some kind) = not (test kind)
 
-abbrev pub shape_of : Option Kind → Option Shape
-shape_of (Some (Array shape)) = Some shape
-shape_of _ = None
+abbrev pub array_type : Option Kind → Option ArrayType
+array_type (Some (Array array)) = Some array
+array_type _ = None
 
 -- the array that an argument is, or is a block of
-abbrev pub array_of : Known → Option Kind → Option Shape
-array_of known (Some (Array shape)) = Some shape
-array_of known (Some (Rchop array)) = shape_of (kind_of known array)
-array_of known (Some (Ichop array)) = shape_of (kind_of known array)
+abbrev pub array_of : Known → Option Kind → Option ArrayType
+array_of known (Some (Array array)) = Some array
+array_of known (Some (Rchop array)) = array_type (kind_of known array)
+array_of known (Some (Ichop array)) = array_type (kind_of known array)
 array_of known _ = None
 
-abbrev pub dims_of : Option Shape → Option ℕ
+abbrev pub dims_of : Option ArrayType → Option ℕ
 dims_of None = None
-dims_of (Some shape) = Some shape.dims
+dims_of (Some array) = Some array.dims
 
 -- how many indices choose a block: one for each dimension, or one for blocks that are listed
 abbrev pub indices_of : Known → Option Kind → Option ℕ
-indices_of known (Some (Rchop array)) = dims_of (shape_of (kind_of known array))
+indices_of known (Some (Rchop array)) = dims_of (array_type (kind_of known array))
 indices_of known (Some (Ichop array)) = Some 1
 indices_of known _ = None
 
-abbrev pub is_read_only : Option Shape → Bool
+abbrev pub is_read_only : Option ArrayType → Bool
 is_read_only None = false
-is_read_only (Some shape) = not shape.is_writable
+is_read_only (Some array) = not array.is_writable
 
 -- there is a number, and it is another
 abbrev pub differs : Option ℕ → ℕ → Bool
@@ -150,13 +160,13 @@ writes None = false
 writes (Some p) = is_written p.mode
 
 -- both are known, and of two numbers of dimensions
-abbrev pub other_dims : Option Shape → Option Param → Bool
-other_dims (Some shape) (Some p) = not (length p.extents == shape.dims)
+abbrev pub other_dims : Option ArrayType → Option Param → Bool
+other_dims (Some array) (Some p) = not (length p.extents == array.dims)
 other_dims _ _ = false
 
 -- both are known, and of two element types
-abbrev pub other_elem : Option Shape → Option Param → Bool
-other_elem (Some shape) (Some p) = not (same_elem p.elem shape.elem)
+abbrev pub other_elem : Option ArrayType → Option Param → Bool
+other_elem (Some array) (Some p) = not (same_elem p.elem array.elem)
 other_elem _ _ = false
 
 -- the first variant's parameter has another mode or element type
@@ -232,18 +242,18 @@ wrong_kind known name _ = false
 -- a wrong number of indices or block sizes; an argument of other dimensions than the parameter, or a parameter than the first variant's
 abbrev pub dim_count : Known → Bytes → Role → Bool
 dim_count known name (Parameter first before param) = differs (param_dims first) (length param.extents)
-dim_count known name (BlockSet array count) = differs (dims_of (shape_of (kind_of known array))) count
-dim_count known name (Element indices) = differs (dims_of (shape_of (kind_of known name))) indices
-dim_count known name (Target indices) = differs (dims_of (shape_of (kind_of known name))) indices
+dim_count known name (BlockSet array count) = differs (dims_of (array_type (kind_of known array))) count
+dim_count known name (Element indices) = differs (dims_of (array_type (kind_of known name))) indices
+dim_count known name (Target indices) = differs (dims_of (array_type (kind_of known name))) indices
 dim_count known name (Argument indices param) =
     differs (indices_of known (kind_of known name)) indices || other_dims (array_of known (kind_of known name)) param
 dim_count known name _ = false
 
 -- an `in` array, or a block of one, that is assigned, passed to be written or reduced into
 abbrev pub write_in : Known → Bytes → Role → Bool
-write_in known name (Target indices) = is_read_only (shape_of (kind_of known name))
+write_in known name (Target indices) = is_read_only (array_type (kind_of known name))
 write_in known name (Argument indices param) = writes param && is_read_only (array_of known (kind_of known name))
-write_in known name (Reduced params args) = is_read_only (shape_of (kind_of known name))
+write_in known name (Reduced params args) = is_read_only (array_type (kind_of known name))
 write_in known name _ = false
 
 -- a wrong number of arguments, or of parameters of a further variant
@@ -263,10 +273,10 @@ abbrev pub bad_reduce : Known → Bytes → Role → Bool
 bad_reduce known name (Reduced params args) = not (uses_of known name args == 1 && has_whole name params 0 args)
 bad_reduce known name _ = false
 
--- the 33rd parameter or local
+-- one parameter or local more than there may be
 abbrev pub limit_arrays : Known → Bytes → Role → Bool
-limit_arrays known name (Parameter first before param) = before == 32
-limit_arrays known name (Local before) = before == 32
+limit_arrays known name (Parameter first before param) = before == most_arrays
+limit_arrays known name (Local before) = before == most_arrays
 limit_arrays known name _ = false
 
 -- ---- faults
@@ -288,7 +298,7 @@ table =
 -- the name breaks this rule where it stands, and this is the fault
 pub record Breaks (s : Site) (r : Rule) (f : Fault) : Type 0 where
   pub broken : r.is_broken s.known s.name s.role ≡ true
-  pub is : f ≡ fault_by Types (breach r.code s.place (Word s.name ∷ []))
+  pub is : f ≡ fault_by Types (breach r.code s.place (arg.Word s.name ∷ []))
 
 -- this fault holds at this name
 abbrev pub HoldsAt : Site → Fault → Type 0
