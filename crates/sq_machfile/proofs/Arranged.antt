@@ -1,11 +1,8 @@
 -- Nodes that stand level by level.
-use Rattle.std.proofs.Common.{◌≡◌, ℕ, zero, suc, ◌+◌, ◌*◌, ◌<◌, ◌≤◌, Bool, true, false, ◌==◌, if◌then◌else◌, List, [], ◌∷◌, ◌++◌, length, map, take, replicate, Option, Some, None, refl, sym, ◌∙◌, ap, subst, arith, append_assoc, append-nil}
+use Rattle.std.proofs.Common.{◌≡◌, ℕ, zero, suc, ◌+◌, ◌≤◌, Bool, true, false, ◌==◌, if◌then◌else◌, List, [], ◌∷◌, ◌++◌, length, map, take, replicate, Option, Some, None, refl, sym, ◌∙◌, ap, subst, arith, append_assoc, append-nil}
 use Rattle.std.specs.List.{slice_get, flat_map}
-use Rattle.sq_text.specs.Names.{Bytes}
 use Rattle.sq_machfile.specs.declared.node.Node.{Node}
-use Rattle.sq_machfile.specs.Nodes.{at_level, total, children_of, capacity_of, below, first_child, AreArranged, linked}
-use Rattle.sq_machfile.specs.Machines.{has_name}
-use Rattle.sq_machfile.proofs.Walks.{total-append}
+use Rattle.sq_machfile.specs.Nodes.{at_level, total, children_of, below, first_child, AreArranged, linked}
 
 -- ---- of each
 
@@ -100,7 +97,7 @@ flat_here k (n ∷ ns) h =
     ap (λ l. replicate n.children (suc l) ++ flat_map below ns) h.0 ∙ ap (λ xs. replicate n.children (suc k) ++ xs) (flat_here k ns h.1)
     ∙ sym (replicate-append n.children (total children_of ns) (suc k))
 
-abbrev level_of : Node → ℕ
+abbrev pub level_of : Node → ℕ
 level_of n = n.level
 
 map_here : (k : ℕ) (here : List Node) → Every (IsAt k) here → map level_of here ≡ replicate (length here) k

@@ -3,7 +3,6 @@ use Rattle.std.proofs.Common.{◌≡◌, ℕ, zero, suc, ◌+◌, ◌-◌, ◌*�
 use Rattle.std.proofs.Math.Nat.{mul-suc}
 use Rattle.std.proofs.lemmas.Bool.Decides.{leb_tells}
 use Rattle.sq_text.specs.declared.code.Code.TheVariants as code
-use Rattle.sq_text.specs.declared.word.Word.{Word}
 use Rattle.sq_text.specs.declared.word.Numeral.{Numeral}
 use Rattle.sq_text.specs.Found.{at_word, at_numeral}
 use Rattle.sq_machfile.specs.declared.text.LevelText.{LevelText}
@@ -13,7 +12,9 @@ use Rattle.sq_machfile.specs.declared.text.MachineText.{MachineText}
 use Rattle.sq_machfile.specs.declared.text.MachineText.TheVariants.{Levels, Nodes}
 use Rattle.sq_machfile.specs.declared.nested.Nested.{Nested}
 use Rattle.sq_machfile.specs.Nesting.{nested}
-use Rattle.sq_machfile.specs.Faults.{Rule, Count, NodeCount, uncut, passes, is_bad_fan, is_over_capacity, level_name, bytes_with, width_below, nodes_with, after_level, after_children, after_below, level_rules, children_rules, one_below, below_rules, levels_rules, at_root, with_node, fan_of, node_rules, after_node, all_node_rules, names_rules, no_names, before_nodes, rules_by, rules_of}
+use Rattle.sq_machfile.specs.Faults.{Rule, passes, is_bad_fan, is_over_capacity, fan_of}
+use Rattle.sq_machfile.specs.Limits.{most_nodes, most_capacity, most_bytes}
+use Rattle.sq_machfile.specs.Walk.{Count, NodeCount, uncut, level_name, bytes_with, width_below, nodes_with, after_level, after_children, after_below, level_rules, children_rules, one_below, below_rules, levels_rules, at_root, with_node, node_rules, after_node, all_node_rules, names_rules, no_names, before_nodes, rules_by}
 use Rattle.sq_machfile.specs.Tallies.{capped}
 
 abbrev most : ℕ
@@ -48,7 +49,7 @@ passes_capped limit x y m lt =
     ap (λ b. b && nat_lt limit (min y m)) (within_capped limit x m lt) ∙ ap (λ b. nat_le x limit && b) (beyond_capped limit y m lt)
 
 over_capped : (capacity before after : ℕ) → is_over_capacity capacity (capped before) (capped after) ≡ is_over_capacity capacity before after
-over_capped capacity before after = ap (λ b. nat_lt (2 ^ 30) capacity || b) (passes_capped (2 ^ 31) before after most (lit< tt))
+over_capped capacity before after = ap (λ b. nat_lt most_capacity capacity || b) (passes_capped most_bytes before after most (lit< tt))
 
 -- ---- version 1
 
@@ -80,8 +81,8 @@ level_cut i c l later =
 
 children_cut : (c : Count) (n : Numeral) (later : List Rule) → children_rules capped (cut_count c) n later ≡ children_rules uncut c n later
 children_cut c n later =
-    let sum : passes 4096 (capped c.nodes) (nodes_with capped (cut_count c) n) ≡ passes 4096 c.nodes (nodes_with uncut c n) =
-    ap (passes 4096 (capped c.nodes)) (nodes_cut c n) ∙ passes_capped 4096 c.nodes (nodes_with uncut c n) most (lit< tt) in
+    let sum : passes most_nodes (capped c.nodes) (nodes_with capped (cut_count c) n) ≡ passes most_nodes c.nodes (nodes_with uncut c n) =
+    ap (passes most_nodes (capped c.nodes)) (nodes_cut c n) ∙ passes_capped most_nodes c.nodes (nodes_with uncut c n) most (lit< tt) in
     ap (λ b. at_numeral code.LimitFan n (is_bad_fan n.value) ∷ at_numeral code.LimitNodes n b ∷ later) sum
 
 one_cut : (i : ℕ) (c : Count) (b : Below) (later : List Rule) → one_below capped i (cut_count c) b later ≡ one_below uncut i c b later
@@ -114,7 +115,7 @@ cut_nodes c = record { names = c.names; bytes = capped c.bytes }
 -- the rules of a node, where this says whether its capacity is too much
 abbrev node_with : ℕ → ℕ → NodeCount → Nested → List Rule → Bool → List Rule
 node_with levels i c n later b =
-    at_word code.DupNode n.name (c.names n.name.name) ∷ at_word code.NodeDepth n.name (nat_le levels n.depth) ∷ at_word code.LimitNodes n.name (i == 4096)
+    at_word code.DupNode n.name (c.names n.name.name) ∷ at_word code.NodeDepth n.name (nat_le levels n.depth) ∷ at_word code.LimitNodes n.name (i == most_nodes)
     ∷ at_numeral code.LimitFan (fan_of n) (nat_lt n.depth (levels - 1) && is_bad_fan n.children) ∷ at_numeral code.LimitCapacity n.capacity b ∷ later
 
 node_bytes_cut : (c : NodeCount) (n : Nested) → with_node capped (cut_nodes c) n ≡ capped (with_node uncut c n)
@@ -133,6 +134,6 @@ nodes_all_cut levels i c (n ∷ ns) =
     ∙ ap (node_rules capped levels i (cut_nodes c) n) (nodes_all_cut levels (suc i) (after_node uncut c n) ns)
     ∙ node_cut levels i c n (all_node_rules uncut levels (suc i) (after_node uncut c n) ns)
 
-pub same_rules : (machine : MachineText) → rules_by capped machine ≡ rules_of machine
+pub same_rules : (machine : MachineText) → rules_by capped machine ≡ rules_by uncut machine
 same_rules (Levels text) = levels_cut text
 same_rules (Nodes text) = ap (names_rules 0 no_names text.names) (nodes_all_cut (length text.names) 0 before_nodes (nested text.nodes))

@@ -1,5 +1,5 @@
 -- What it means that no rule is broken.
-use Rattle.std.proofs.Common.{◌≡◌, ℕ, zero, suc, ◌-◌, ◌^◌, Bool, true, false, ◌&&◌, ◌==◌, nat_lt, nat_le, if◌then◌else◌, List, [], ◌∷◌, length, Option, Some, None, option_map, refl, sym, ◌∙◌, ap, inl, inr}
+use Rattle.std.proofs.Common.{◌≡◌, ℕ, suc, ◌-◌, Bool, true, false, ◌&&◌, ◌==◌, nat_lt, nat_le, List, [], ◌∷◌, Some, None, option_map, refl, ap, inl, inr}
 use Rattle.sq_text.specs.declared.code.Phase.TheVariants.{Machine}
 use Rattle.sq_text.specs.declared.code.Code.{Code}
 use Rattle.sq_text.specs.declared.code.Code.TheVariants.{LimitCapacity}
@@ -10,7 +10,9 @@ use Rattle.sq_text.specs.Found.{at_word, at_numeral, fault_by, BreaksIn}
 use Rattle.sq_machfile.specs.declared.text.LevelText.{LevelText}
 use Rattle.sq_machfile.specs.declared.text.Below.{Below}
 use Rattle.sq_machfile.specs.declared.nested.Nested.{Nested}
-use Rattle.sq_machfile.specs.Faults.{Rule, NameSet, with_name, passes, is_bad_fan, is_over_capacity, level_name, Count, NodeCount, bytes_with, nodes_with, after_level, after_children, after_node, level_rules, children_rules, below_rules, names_rules, with_node, fan_of, node_rules, all_node_rules, uncut, judge}
+use Rattle.sq_machfile.specs.Faults.{Rule, passes, is_bad_fan, is_over_capacity, fan_of, judge}
+use Rattle.sq_machfile.specs.Limits.{most_levels, most_nodes}
+use Rattle.sq_machfile.specs.Walk.{NameSet, with_name, level_name, Count, NodeCount, bytes_with, nodes_with, after_level, after_children, after_node, level_rules, below_rules, names_rules, with_node, node_rules, all_node_rules, uncut}
 
 abbrev pub Clear : List Rule → Type 0
 Clear [] = Unit {0}
@@ -51,7 +53,7 @@ number_clear code number b e = ap (at_numeral code number) e
 
 pub record NameKept (index : ℕ) (names : NameSet) (word : Word) : Type 0 where
   pub fresh : names word.name ≡ false
-  pub few : (index == 8) ≡ false
+  pub few : (index == most_levels) ≡ false
 
 pub record LevelKept (index : ℕ) (c : Count) (level : LevelText) : Type 0 where
   pub name : NameKept index c.names level.name
@@ -59,7 +61,7 @@ pub record LevelKept (index : ℕ) (c : Count) (level : LevelText) : Type 0 wher
 
 pub record ChildrenKept (c : Count) (children : Numeral) : Type 0 where
   pub fan : is_bad_fan children.value ≡ false
-  pub nodes : passes 4096 c.nodes (nodes_with uncut c children) ≡ false
+  pub nodes : passes most_nodes c.nodes (nodes_with uncut c children) ≡ false
 
 abbrev pub Kept : ℕ → Count → LevelText → List Below → Type 0
 Kept index c level [] = LevelKept index c level
@@ -68,7 +70,7 @@ Kept index c level (below ∷ rest) = LevelKept index c level × ChildrenKept (a
 pub record NodeKept (levels index : ℕ) (c : NodeCount) (node : Nested) : Type 0 where
   pub fresh : c.names node.name.name ≡ false
   pub level : nat_le levels node.depth ≡ false
-  pub few : (index == 4096) ≡ false
+  pub few : (index == most_nodes) ≡ false
   pub fan : (nat_lt node.depth (levels - 1) && is_bad_fan node.children) ≡ false
   pub capacity : is_over_capacity node.capacity.value c.bytes (with_node uncut c node) ≡ false
 

@@ -1,7 +1,6 @@
 -- Nodes in the order of a text, and the same by their depths.
-use Rattle.std.proofs.Common.{◌≡◌, ℕ, zero, suc, ◌+◌, ◌<◌, ◌≤◌, Bool, true, false, ◌==◌, nat_lt, if◌then◌else◌, List, [], ◌∷◌, ◌++◌, length, ◌⊎◌, inl, inr, refl, sym, ◌∙◌, ap, subst, arith, pos, codes, length-append}
+use Rattle.std.proofs.Common.{◌≡◌, ℕ, zero, suc, ◌+◌, ◌<◌, ◌≤◌, Bool, true, false, ◌==◌, nat_lt, if◌then◌else◌, List, [], ◌∷◌, length, ◌⊎◌, inl, inr, refl, sym, ◌∙◌, ap, subst, arith}
 use Rattle.std.proofs.lemmas.Bool.Decides.{leb_tells, eqb_tells}
-use Rattle.sq_text.specs.declared.place.Place.{Place}
 use Rattle.sq_lexer.specs.declared.token.Token.{Token}
 use Rattle.sq_lexer.specs.declared.token.Kind.TheVariants as kind
 use Rattle.sq_lexer.specs.declared.token.Sign.TheVariants as g
@@ -12,7 +11,7 @@ use Rattle.sq_machfile.specs.declared.text.NodesText.{NodesText}
 use Rattle.sq_machfile.specs.declared.text.MachineText.TheVariants.{Nodes}
 use Rattle.sq_machfile.specs.declared.nested.Nested.{Nested}
 use Rattle.sq_machfile.specs.Grammar.{word, numeral, node_text, Phrase, ANode, SomeNodes, AMachine, Derives, a_node, of_nodes, IsText}
-use Rattle.sq_machfile.specs.Nesting.{siblings, siblings_behind, nested_node, nested}
+use Rattle.sq_machfile.specs.Nesting.{siblings, nested_node, nested}
 use Rattle.sq_machfile.specs.Nodes.{total, children_of}
 use Rattle.sq_machfile.specs.Machines.{node_of, nodes_of_depth, by_level}
 use Rattle.sq_machfile.proofs.Closings.{AreNested, are_nested, closing_inside}

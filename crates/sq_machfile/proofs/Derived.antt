@@ -1,5 +1,5 @@
 -- The reader gives exactly what the grammar derives, and the machine goes on after it as it does.
-use Rattle.std.proofs.Common.{◌≡◌, ℕ, zero, suc, ◌+◌, ◌≤◌, List, [], ◌∷◌, ◌++◌, length, refl, sym, ◌∙◌, ap, subst, arith, append_assoc, append-nil, codes, pos}
+use Rattle.std.proofs.Common.{◌≡◌, ℕ, zero, suc, ◌≤◌, List, [], ◌∷◌, ◌++◌, length, refl, sym, ◌∙◌, ap, subst, arith, append_assoc, append-nil, codes}
 use Rattle.std.specs.List.{slice_get}
 use Rattle.sq_text.specs.declared.place.Place.{Place}
 use Rattle.sq_text.specs.declared.word.Word.{Word}
@@ -8,15 +8,13 @@ use Rattle.sq_lexer.specs.declared.token.Kind.TheVariants as k
 use Rattle.sq_lexer.specs.declared.token.Sign.TheVariants as g
 use Rattle.sq_lexer.specs.Tokens.{token}
 use Rattle.sq_shapes.specs.declared.pattern.Pattern.TheVariants as s
-use Rattle.sq_shapes.specs.Reading.{Outcome, Reader, and_then, all, until, choice, word_in, numeral_in}
+use Rattle.sq_shapes.specs.Reading.{Reader, and_then, all, until, word_in, numeral_in}
 use Rattle.sq_shapes.proofs.Owing.{Owed, Want, At, wants}
 use Rattle.sq_shapes.proofs.Matching.{Front, none, next, machine, level, levels, node, capacity, children, a_word, a_number, exactly, a_sign}
 use Rattle.sq_shapes.proofs.Readings.{Reading, given, gives_more, phrase, weaken, all_reads, patterns_read, choice_reads, until_reads, IsLast, last_front, finish_reads}
 use Rattle.sq_machfile.specs.declared.text.LevelText.{LevelText}
 use Rattle.sq_machfile.specs.declared.text.Below.{Below}
-use Rattle.sq_machfile.specs.declared.text.LevelsText.{LevelsText}
 use Rattle.sq_machfile.specs.declared.text.NodeText.{NodeText}
-use Rattle.sq_machfile.specs.declared.text.NodesText.{NodesText}
 use Rattle.sq_machfile.specs.declared.text.MachineText.{MachineText}
 use Rattle.sq_machfile.specs.declared.text.MachineText.TheVariants.{Levels, Nodes}
 use Rattle.sq_machfile.specs.Grammar.{level_text, below_text, levels_text, node_text, nodes_text, Derives, IsText}

@@ -1,18 +1,17 @@
 -- Of version 1: the machine of levels that keep the limits keeps them.
-use Rattle.std.proofs.Common.{◌≡◌, ℕ, zero, suc, ◌+◌, ◌*◌, ◌^◌, ◌<◌, ◌≤◌, min, max, Bool, true, false, ◌==◌, if◌then◌else◌, List, [], ◌∷◌, ◌++◌, length, map, replicate, Option, Some, None, refl, sym, ◌∙◌, ap, subst, arith, inl, inr, append-nil, length-append}
+use Rattle.std.proofs.Common.{◌≡◌, ℕ, zero, suc, ◌+◌, ◌*◌, ◌<◌, ◌≤◌, min, max, Bool, true, false, ◌==◌, if◌then◌else◌, List, [], ◌∷◌, ◌++◌, length, map, replicate, Some, None, refl, sym, ◌∙◌, ap, arith, append-nil, length-append}
 use Rattle.std.proofs.lemmas.List.{length-replicate}
 use Rattle.std.specs.List.{slice_get, fold}
 use Rattle.std.specs.Option.{option_map_or}
 use Rattle.std.proofs.Math.Nat.{mul-suc}
 use Rattle.std.proofs.lemmas.Bool.Decides.{eqb_tells}
 use Rattle.sq_text.specs.Names.{Bytes, same_name}
+use Rattle.sq_machfile.specs.Limits.{most_children}
 use Rattle.sq_machfile.specs.declared.level.Level.{Level}
 use Rattle.sq_machfile.specs.declared.node.Node.{Node}
-use Rattle.sq_machfile.specs.declared.text.LevelText.{LevelText}
-use Rattle.sq_machfile.specs.declared.text.Below.{Below}
 use Rattle.sq_machfile.specs.declared.text.LevelsText.{LevelsText}
 use Rattle.sq_machfile.specs.Nodes.{at_level, total, children_of, capacity_of, linked}
-use Rattle.sq_machfile.specs.Machines.{Hierarchy, has_name, least, greatest, NodeFits, Sums, WithinLimits, even_node, even_nodes, levels_from, levels_of, even_machine}
+use Rattle.sq_machfile.specs.Machines.{has_name, least, greatest, NodeFits, Sums, WithinLimits, even_node, even_nodes, levels_of, even_machine}
 use Rattle.sq_machfile.proofs.Walks.{total-append, total-replicate}
 use Rattle.sq_machfile.proofs.EvenLimits.{EvenLimits, nodes_from, bytes_from}
 use Rattle.sq_machfile.proofs.Arranged.{Every, every-append, every-replicate, every_at, same_in, every_linked, length_linked, total_linked, level_linked, IsAt, Levelled, last, more, arranged}
@@ -52,7 +51,7 @@ some_wide zero n a b = absurd (omega arith)
 some_wide (suc w) zero a b = absurd (omega arith)
 
 module _ (whole : List Level) (limits : EvenLimits whole) where
-  few_children : (k : ℕ) (l : Level) (levels : List Level) → Suffix whole k (l ∷ levels) → l.children ≤ 64
+  few_children : (k : ℕ) (l : Level) (levels : List Level) → Suffix whole k (l ∷ levels) → l.children ≤ most_children
   few_children k l [] h = let n : l.children ≡ 0 = limits.leaves k l (omega (arith, h.sum)) (here whole k l [] h) in omega arith
   few_children k l (m ∷ levels) h = (limits.children k l (omega (arith, h.sum)) (here whole k l (m ∷ levels) h)).1
 

@@ -12,12 +12,14 @@ use Rattle.sq_text.specs.Faults.{IsFirst}
 use Rattle.sq_text.specs.Found.{firsts, nothing_found}
 use Rattle.sq_text.proofs.Breaches.{first_breach}
 use Rattle.sq_machfile.specs.declared.text.MachineText.{MachineText}
-use Rattle.sq_machfile.specs.Faults.{judge, rules_by, rules_of, levels_rules, nodes_rules, LimitFault}
+use Rattle.sq_machfile.specs.Faults.{judge, rules_of, LimitFault}
+use Rattle.sq_machfile.specs.Walk.{rules_by, levels_rules, nodes_rules}
 use Rattle.sq_machfile.specs.Tallies.{capped}
+use Rattle.sq_machfile.proofs.Before.{counts_before}
 use Rattle.sq_machfile.proofs.Caps.{same_rules}
 
 pub first_limit : (machine : MachineText) → IsFirst (LimitFault machine) (firsts judge (nothing_found Machine) (rules_by capped machine)).fault
-first_limit machine = subst (λ rules. IsFirst (LimitFault machine) (firsts judge (nothing_found Machine) rules).fault) (sym (same_rules machine)) (first_breach judge Machine (rules_of machine))
+first_limit machine = subst (λ rules. IsFirst (LimitFault machine) (firsts judge (nothing_found Machine) rules).fault) (sym (same_rules machine ∙ counts_before machine)) (first_breach judge Machine (rules_of machine))
 
 -- the same of what is found for each version
 pub even_first : (text : LevelsText) (o : Option Fault) → o ≡ (firsts judge (nothing_found Machine) (levels_rules capped text)).fault → IsFirst (LimitFault (Levels text)) o

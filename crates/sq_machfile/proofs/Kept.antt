@@ -1,31 +1,29 @@
 -- A machine that keeps the limits has no fault of them.
-use Rattle.std.proofs.Common.{◌≡◌, ℕ, zero, suc, ◌+◌, ◌-◌, ◌*◌, ◌^◌, ◌<◌, ◌≤◌, Bool, true, false, ◌&&◌, ◌||◌, ◌==◌, nat_lt, nat_le, if◌then◌else◌, List, [], ◌∷◌, ◌++◌, length, replicate, Some, refl, sym, ◌∙◌, ap, subst, arith, inl, inr}
+use Rattle.std.proofs.Common.{◌≡◌, ℕ, zero, suc, ◌+◌, ◌-◌, ◌*◌, ◌<◌, ◌≤◌, Bool, true, false, ◌&&◌, ◌||◌, nat_lt, if◌then◌else◌, List, [], ◌∷◌, ◌++◌, length, replicate, Some, refl, sym, ◌∙◌, ap, subst, arith, inl, inr}
 use Rattle.std.specs.List.{slice_get}
 use Rattle.std.proofs.lemmas.Slice.Eq.{bytes_eq-Decides}
 use Rattle.std.proofs.lemmas.Bool.Decides.{leb_tells, eqb_tells}
 use Rattle.sq_text.specs.Names.{Bytes, same_name}
 use Rattle.sq_text.specs.declared.fault.Fault.{Fault}
 use Rattle.sq_text.specs.declared.word.Word.{Word}
-use Rattle.sq_lexer.specs.declared.token.Token.{Token}
+use Rattle.sq_machfile.specs.Limits.{most_levels, most_nodes, most_bytes}
 use Rattle.sq_machfile.specs.declared.level.Level.{Level}
 use Rattle.sq_machfile.specs.declared.node.Node.{Node}
 use Rattle.sq_machfile.specs.declared.nested.Nested.{Nested}
-use Rattle.sq_machfile.specs.declared.text.LevelText.{LevelText}
-use Rattle.sq_machfile.specs.declared.text.Below.{Below}
-use Rattle.sq_machfile.specs.declared.text.LevelsText.{LevelsText}
 use Rattle.sq_machfile.specs.declared.text.NodesText.{NodesText}
 use Rattle.sq_machfile.specs.declared.text.MachineText.{MachineText}
 use Rattle.sq_machfile.specs.declared.text.MachineText.TheVariants.{Levels, Nodes}
-use Rattle.sq_machfile.specs.Grammar.{IsText}
 use Rattle.sq_machfile.specs.Nesting.{nested}
 use Rattle.sq_machfile.specs.Nodes.{total, capacity_of, linked}
-use Rattle.sq_machfile.specs.Faults.{NameSet, NodeCount, no_names, before_nodes, with_name, is_bad_fan, after_node, with_node, uncut, LimitFault, rules_of, all_node_rules}
-use Rattle.sq_machfile.specs.Machines.{HasLevels, WithinLimits, NodeFits, machine_of, has_name, level_with, levels_from, levels_of, even_node, even_nodes, node_of, nodes_of_depth, by_level, named_levels, uneven_nodes}
+use Rattle.sq_machfile.specs.Faults.{is_bad_fan, LimitFault}
+use Rattle.sq_machfile.proofs.Before.{clear_all}
+use Rattle.sq_machfile.specs.Walk.{NameSet, NodeCount, no_names, before_nodes, with_name, after_node, with_node, uncut, all_node_rules}
+use Rattle.sq_machfile.specs.Machines.{HasLevels, WithinLimits, NodeFits, machine_of, has_name, levels_of, even_node, even_nodes, node_of, nodes_of_depth, by_level, named_levels, uneven_nodes}
 use Rattle.sq_machfile.proofs.NameSets.{not_same}
-use Rattle.sq_machfile.proofs.Clear.{Clear, NameKept, NodeKept, NamesKept, NodesKept, none_breaks, kept_levels, kept_names, kept_nodes}
+use Rattle.sq_machfile.proofs.Clear.{NamesKept, NodesKept, kept_levels, kept_names, kept_nodes}
 use Rattle.sq_machfile.proofs.EvenLimits.{EvenLimits, some_levels, even_kept, fan_clear, capacity_clear, not_ninth}
 use Rattle.sq_machfile.proofs.EvenWhole.{some_wide, length_even, bytes_even}
-use Rattle.sq_machfile.proofs.Arranged.{Every, every_at, same_in, length_linked, total_linked}
+use Rattle.sq_machfile.proofs.Arranged.{Every, same_in, length_linked, total_linked}
 use Rattle.sq_machfile.proofs.Depths.{IsWithin, same_total}
 use Rattle.sq_machfile.proofs.UnevenWhole.{length_named, length_total, length_nested, known}
 
@@ -90,7 +88,7 @@ even_of_levels (l ∷ levels) some w = even_of l levels w
 
 -- ---- version 2
 
-words_kept : (i : ℕ) (names : NameSet) (words : List Word) → i + length words ≤ 8 → ((k : ℕ) (w : Word) → slice_get words k ≡ Some w → names w.name ≡ false)
+words_kept : (i : ℕ) (names : NameSet) (words : List Word) → i + length words ≤ most_levels → ((k : ℕ) (w : Word) → slice_get words k ≡ Some w → names w.name ≡ false)
     → ((j k : ℕ) (a b : Word) → j < k → slice_get words j ≡ Some a → slice_get words k ≡ Some b → a.name ≡ b.name → ⊥) → NamesKept i names words
 words_kept i names [] few fresh differ = tt
 words_kept i names (w ∷ ws) few fresh differ = (
@@ -159,11 +157,11 @@ either_known false b n le = omega (arith, le)
 one_itself : (name : Bytes) (n : ℕ) → (if same_name name name then 1 else 0) + n ≡ 1 + n
 one_itself name n = ap (λ b. (if b then 1 else 0) + n) ((bytes_eq-Decides name name).1 refl)
 
-nodes_kept : (levels i : ℕ) (c : NodeCount) (ns : List Nested) → i + length ns ≤ 4096 → Every (IsWithin levels) ns → Every (λ n. NodeFits levels (node_of n)) ns
-    → c.bytes + total (λ n. capacity_of (node_of n)) ns ≤ 2 ^ 31 → ((name : Bytes) → known c.names name + total (λ n. has_name name (node_of n)) ns ≤ 1) → NodesKept levels i c ns
+nodes_kept : (levels i : ℕ) (c : NodeCount) (ns : List Nested) → i + length ns ≤ most_nodes → Every (IsWithin levels) ns → Every (λ n. NodeFits levels (node_of n)) ns
+    → c.bytes + total (λ n. capacity_of (node_of n)) ns ≤ most_bytes → ((name : Bytes) → known c.names name + total (λ n. has_name name (node_of n)) ns ≤ 1) → NodesKept levels i c ns
 nodes_kept levels i c [] few deep fit bytes names = tt
 nodes_kept levels i c (n ∷ ns) few deep fit bytes names =
-    let sum : c.bytes + n.capacity.value ≤ 2 ^ 31 = omega (arith, bytes) in
+    let sum : c.bytes + n.capacity.value ≤ most_bytes = omega (arith, bytes) in
     let own = names n.name.name in
     let itself = one_itself n.name.name (total (λ m. has_name n.name.name (node_of m)) ns) in (
       record {
@@ -198,9 +196,9 @@ uneven_kept text levels w =
 -- ---- either
 
 pub no_fault : (a : MachineText) → HasLevels a → WithinLimits (machine_of a) → (f : Fault) → LimitFault a f → ⊥
-no_fault (Levels text) deep w = none_breaks (rules_of (Levels text))
+no_fault (Levels text) deep w = clear_all (Levels text)
     (kept_levels 0 _ text.root text.below (even_kept text (even_of_levels (levels_of text) (some_levels text.root text.below) w)))
 no_fault (Nodes text) deep w =
     let k = uneven_kept text deep w in
-    none_breaks (rules_of (Nodes text)) (kept_names 0 no_names text.names (all_node_rules uncut (length text.names) 0 before_nodes (nested text.nodes)) k.0
+    clear_all (Nodes text) (kept_names 0 no_names text.names (all_node_rules uncut (length text.names) 0 before_nodes (nested text.nodes)) k.0
     (kept_nodes (length text.names) 0 before_nodes (nested text.nodes) k.1))

@@ -11,9 +11,12 @@ pub mod EvenLimits
 pub mod Arranged
 pub mod EvenWhole
 pub mod Caps
+pub mod Before
 pub mod Firsts
 pub mod Depths
 pub mod UnevenWhole
 pub mod Faultless
 pub mod Kept
 pub mod Whole
+pub mod Families
+pub mod Hierarchies

@@ -1,9 +1,8 @@
 -- Sets of names that stand before.
-use Rattle.std.proofs.Common.{◌≡◌, ◌≢◌, ℕ, Bool, true, false, ◌||◌, List, refl, sym, ◌∙◌, ap, true≢false, nat_eq}
-use Rattle.std.specs.Str.{bytes_eq}
+use Rattle.std.proofs.Common.{◌≡◌, Bool, true, false, ◌||◌, refl, ◌∙◌, ap, true≢false}
 use Rattle.std.proofs.lemmas.Slice.Eq.{bytes_eq-Decides}
 use Rattle.sq_text.specs.Names.{Bytes, same_name}
-use Rattle.sq_machfile.specs.Faults.{NameSet, with_name}
+use Rattle.sq_machfile.specs.Walk.{NameSet, with_name}
 
 pub or_first : (a b : Bool) → (a || b) ≡ false → a ≡ false
 or_first true b e = e

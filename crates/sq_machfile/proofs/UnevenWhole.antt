@@ -1,9 +1,10 @@
 -- Of version 2: a machine of which no rule is broken keeps the limits.
-use Rattle.std.proofs.Common.{◌≡◌, ℕ, zero, suc, ◌+◌, ◌-◌, ◌^◌, ◌<◌, ◌≤◌, Bool, true, false, ◌&&◌, ◌||◌, ◌==◌, nat_lt, nat_le, if◌then◌else◌, List, [], ◌∷◌, ◌++◌, length, ◌⊎◌, Option, Some, None, refl, sym, ◌∙◌, ap, subst, arith, inl, inr, true≢false, lit≤}
+use Rattle.std.proofs.Common.{◌≡◌, ℕ, zero, suc, ◌+◌, ◌-◌, ◌<◌, ◌≤◌, Bool, true, false, ◌&&◌, ◌||◌, ◌==◌, nat_lt, nat_le, if◌then◌else◌, List, [], ◌∷◌, ◌++◌, length, Some, None, refl, sym, ◌∙◌, ap, subst, arith, inl, inr, true≢false, lit≤}
 use Rattle.std.specs.List.{slice_get}
 use Rattle.std.proofs.lemmas.Bool.Decides.{leb_tells, eqb_tells}
 use Rattle.sq_text.specs.Names.{Bytes, same_name}
 use Rattle.sq_text.specs.declared.word.Word.{Word}
+use Rattle.sq_machfile.specs.Limits.{most_levels, most_nodes, most_children, most_capacity, most_bytes}
 use Rattle.sq_machfile.specs.declared.level.Level.{Level}
 use Rattle.sq_machfile.specs.declared.node.Node.{Node}
 use Rattle.sq_machfile.specs.declared.text.NodeText.{NodeText}
@@ -11,24 +12,25 @@ use Rattle.sq_machfile.specs.declared.text.NodesText.{NodesText}
 use Rattle.sq_machfile.specs.declared.text.MachineText.TheVariants.{Nodes}
 use Rattle.sq_machfile.specs.declared.nested.Nested.{Nested}
 use Rattle.sq_machfile.specs.Nesting.{siblings, nested_node, nested}
-use Rattle.sq_machfile.specs.Nodes.{total, children_of, capacity_of, AreArranged, linked}
+use Rattle.sq_machfile.specs.Nodes.{total, capacity_of, AreArranged, linked}
 use Rattle.sq_machfile.proofs.Closings.{AreNested}
-use Rattle.sq_machfile.specs.Faults.{NameSet, NodeCount, no_names, before_nodes, with_name, is_bad_fan, is_over_capacity, after_node, with_node, uncut}
-use Rattle.sq_machfile.specs.Machines.{Hierarchy, has_name, NodeFits, Sums, WithinLimits, HasLevels, node_of, nodes_of_depth, by_level, named_levels, uneven_nodes, uneven_machine}
+use Rattle.sq_machfile.specs.Faults.{is_bad_fan}
+use Rattle.sq_machfile.specs.Walk.{NameSet, NodeCount, no_names, before_nodes, with_name, after_node, with_node, uncut}
+use Rattle.sq_machfile.specs.Machines.{has_name, NodeFits, Sums, WithinLimits, HasLevels, node_of, nodes_of_depth, by_level, named_levels, uneven_nodes, uneven_machine}
 use Rattle.sq_machfile.proofs.NameSets.{same_itself, same_only}
-use Rattle.sq_machfile.proofs.Clear.{NameKept, NamesKept, NodeKept, NodesKept}
+use Rattle.sq_machfile.proofs.Clear.{NamesKept, NodesKept}
 use Rattle.sq_machfile.proofs.EvenLimits.{small_fan, small_capacity}
 use Rattle.sq_machfile.proofs.Arranged.{Every, every_at, same_in, every_linked, length_linked, total_linked, Levelled, arranged}
 use Rattle.sq_machfile.proofs.Depths.{Rooted, IsWithin, children_below, levelled, same_total, every_by_level}
 
 -- ---- names of levels
 
-pub words_few : (i : ℕ) (names : NameSet) (words : List Word) → NamesKept i names words → i ≤ 8 → i + length words ≤ 8
+pub words_few : (i : ℕ) (names : NameSet) (words : List Word) → NamesKept i names words → i ≤ most_levels → i + length words ≤ most_levels
 words_few i names [] h le = omega arith
 words_few i names (w ∷ ws) h le =
-    let other : (i == 8) ≡ false = h.0.few in
-    let less : i < 8 = grind (arith, eqb_tells) in
-    let more : suc i + length ws ≤ 8 = words_few (suc i) (with_name w.name names) ws h.1 (omega arith) in omega arith
+    let other : (i == most_levels) ≡ false = h.0.few in
+    let less : i < most_levels = grind (arith, eqb_tells) in
+    let more : suc i + length ws ≤ most_levels = words_few (suc i) (with_name w.name names) ws h.1 (omega arith) in omega arith
 
 words_fresh : (i : ℕ) (names : NameSet) (words : List Word) → NamesKept i names words → (name : Bytes) → names name ≡ true
     → (k : ℕ) (w : Word) → slice_get words k ≡ Some w → w.name ≡ name → ⊥
@@ -68,18 +70,18 @@ within_all levels i c [] h = tt
 within_all levels i c (n ∷ ns) h =
     let deep : nat_le levels n.depth ≡ false = h.0.level in (grind (arith, leb_tells), within_all levels (suc i) (after_node uncut c n) ns h.1)
 
-few_nodes : (levels i : ℕ) (c : NodeCount) (ns : List Nested) → NodesKept levels i c ns → i ≤ 4096 → i + length ns ≤ 4096
+few_nodes : (levels i : ℕ) (c : NodeCount) (ns : List Nested) → NodesKept levels i c ns → i ≤ most_nodes → i + length ns ≤ most_nodes
 few_nodes levels i c [] h le = omega arith
 few_nodes levels i c (n ∷ ns) h le =
-    let other : (i == 4096) ≡ false = h.0.few in
-    let less : i < 4096 = grind (arith, eqb_tells) in
-    let more : suc i + length ns ≤ 4096 = few_nodes levels (suc i) (after_node uncut c n) ns h.1 (omega arith) in omega arith
+    let other : (i == most_nodes) ≡ false = h.0.few in
+    let less : i < most_nodes = grind (arith, eqb_tells) in
+    let more : suc i + length ns ≤ most_nodes = few_nodes levels (suc i) (after_node uncut c n) ns h.1 (omega arith) in omega arith
 
-few_bytes : (levels i : ℕ) (c : NodeCount) (ns : List Nested) → NodesKept levels i c ns → c.bytes ≤ 2 ^ 31 → c.bytes + total (λ n. capacity_of (node_of n)) ns ≤ 2 ^ 31
+few_bytes : (levels i : ℕ) (c : NodeCount) (ns : List Nested) → NodesKept levels i c ns → c.bytes ≤ most_bytes → c.bytes + total (λ n. capacity_of (node_of n)) ns ≤ most_bytes
 few_bytes levels i c [] h le = omega arith
 few_bytes levels i c (n ∷ ns) h le =
     let fit = small_capacity n.capacity.value c.bytes (with_node uncut c n) h.0.capacity le in
-    let more : (c.bytes + n.capacity.value) + total (λ n. capacity_of (node_of n)) ns ≤ 2 ^ 31 = few_bytes levels (suc i) (after_node uncut c n) ns h.1 fit.1 in omega (arith, more)
+    let more : (c.bytes + n.capacity.value) + total (λ n. capacity_of (node_of n)) ns ≤ most_bytes = few_bytes levels (suc i) (after_node uncut c n) ns h.1 fit.1 in omega (arith, more)
 
 -- a name that is known is no node's from here on, and any other is that of one at most
 abbrev pub known : NameSet → Bytes → ℕ
@@ -111,11 +113,11 @@ and_second : (a b : Bool) → a ≡ true → (a && b) ≡ false → b ≡ false
 and_second true b t e = e
 and_second false b t e = absurd (cc)
 
-fan_of_kept : (levels : ℕ) (n : Nested) → (nat_lt n.depth (levels - 1) && is_bad_fan n.children) ≡ false → suc n.depth < levels → (1 ≤ n.children) × (n.children ≤ 64)
+fan_of_kept : (levels : ℕ) (n : Nested) → (nat_lt n.depth (levels - 1) && is_bad_fan n.children) ≡ false → suc n.depth < levels → (1 ≤ n.children) × (n.children ≤ most_children)
 fan_of_kept levels n e lt =
     let inner : nat_lt n.depth (levels - 1) ≡ true = grind (arith, leb_tells) in small_fan n.children (and_second (nat_lt n.depth (levels - 1)) (is_bad_fan n.children) inner e)
 
-fits_here : (levels : ℕ) (n : Nested) → n.depth < levels → n.capacity.value ≤ 2 ^ 30 → (nat_lt n.depth (levels - 1) && is_bad_fan n.children) ≡ false → (suc n.depth ≡ levels → n.children ≡ 0)
+fits_here : (levels : ℕ) (n : Nested) → n.depth < levels → n.capacity.value ≤ most_capacity → (nat_lt n.depth (levels - 1) && is_bad_fan n.children) ≡ false → (suc n.depth ≡ levels → n.children ≡ 0)
     → NodeFits levels (node_of n)
 fits_here levels n lt cap fan leaf = record {
   level = lt;
@@ -128,7 +130,7 @@ fits_here levels n lt cap fan leaf = record {
   leaf = leaf;
 }
 
-fits_all : (levels i : ℕ) (c : NodeCount) (xs : List NodeText) → NodesKept levels i c (nested xs) → c.bytes ≤ 2 ^ 31 → Every (IsWithin levels) (nested xs) → Every (λ n. NodeFits levels (node_of n)) (nested xs)
+fits_all : (levels i : ℕ) (c : NodeCount) (xs : List NodeText) → NodesKept levels i c (nested xs) → c.bytes ≤ most_bytes → Every (IsWithin levels) (nested xs) → Every (λ n. NodeFits levels (node_of n)) (nested xs)
 fits_all levels i c [] h le deep = tt
 fits_all levels i c (x ∷ xs) h le deep =
     let n = nested_node x (siblings (suc x.depth) xs) in
@@ -199,11 +201,11 @@ within_uneven text some r names kept =
     let fit = every_linked (NodeFits levels) (λ n first h. record { level = h.level; capacity = h.capacity; some = h.some; few = h.few; leaf = h.leaf }) 1 drafts
     (every_by_level (NodeFits levels) 0 levels ns (fits_all levels 0 before_nodes text.nodes kept (lit≤ tt) deep)) in
     let named = every_linked IsNamed (λ n first h. h) 1 drafts (every_by_level IsNamed 0 levels ns (named_all ns)) in
-    let all_bytes : 0 + total (λ n. capacity_of (node_of n)) ns ≤ 2 ^ 31 = few_bytes levels 0 before_nodes ns kept (lit≤ tt) in
-    let all_nodes : 0 + length ns ≤ 4096 = few_nodes levels 0 before_nodes ns kept (lit≤ tt) in
+    let all_bytes : 0 + total (λ n. capacity_of (node_of n)) ns ≤ most_bytes = few_bytes levels 0 before_nodes ns kept (lit≤ tt) in
+    let all_nodes : 0 + length ns ≤ most_nodes = few_nodes levels 0 before_nodes ns kept (lit≤ tt) in
     record {
       some = omega (arith, counted, some);
-      few = (let f : 0 + length text.names ≤ 8 = words_few 0 no_names text.names names (lit≤ tt) in omega (arith, counted));
+      few = (let f : 0 + length text.names ≤ most_levels = words_few 0 no_names text.names names (lit≤ tt) in omega (arith, counted));
       names = λ i j a b lt ea eb same. (let x = named_get 0 nodes text.names i a ea in let y = named_get 0 nodes text.names j b eb in
           words_distinct 0 no_names text.names names i j x.0 y.0 lt x.1 y.1 (sym x.2 ∙ same ∙ y.2));
       sums = λ k level e. (let at : 0 + k ≡ k = omega arith in subst (λ i. Sums nodes i level) at (named_get 0 nodes text.names k level e).3);

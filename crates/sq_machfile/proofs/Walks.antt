@@ -1,5 +1,5 @@
 -- Single turns of the reader's loops.
-use Rattle.std.proofs.Common.{◌≡◌, ◌≢◌, ℕ, zero, suc, ◌+◌, ◌-◌, ◌*◌, ◌<◌, ◌≤◌, Bool, true, false, ◌==◌, nat_lt, if◌then◌else◌, List, [], ◌∷◌, ◌++◌, length, take, drop, get_or, replicate, reverse, Ok, Err, refl, sym, ◌∙◌, ap, subst, arith, drop-cons, length-append}
+use Rattle.std.proofs.Common.{◌≡◌, ℕ, zero, suc, ◌+◌, ◌-◌, ◌*◌, ◌<◌, ◌≤◌, Bool, true, false, ◌==◌, nat_lt, if◌then◌else◌, List, [], ◌∷◌, ◌++◌, length, take, drop, get_or, replicate, reverse, Ok, Err, refl, sym, ◌∙◌, ap, subst, arith, drop-cons, length-append}
 use Rattle.std.proofs.Math.Nat.{suc-mul}
 use Rattle.std.proofs.lemmas.Bool.Decides.{leb_tells, eqb_tells}
 use Rattle.std.proofs.lemmas.List.{reverse-append}
@@ -18,7 +18,8 @@ use Rattle.sq_machfile.specs.declared.nested.Nested.{Nested}
 use Rattle.sq_machfile.specs.declared.level.Level.{Level}
 use Rattle.sq_machfile.specs.declared.node.Node.{Node}
 use Rattle.sq_machfile.specs.declared.tree.Tree.{Tree}
-use Rattle.sq_machfile.specs.Faults.{Count, judge, at_root, level_rules, below_rules, levels_rules, one_below, after_level, after_below}
+use Rattle.sq_machfile.specs.Faults.{judge}
+use Rattle.sq_machfile.specs.Walk.{Count, at_root, level_rules, below_rules, levels_rules, one_below, after_level, after_below}
 use Rattle.sq_machfile.specs.Tallies.{capped, Adds}
 use Rattle.sq_machfile.specs.Nesting.{siblings, siblings_behind, nested_node, nested}
 use Rattle.sq_machfile.specs.Nodes.{total, children_of, linked}

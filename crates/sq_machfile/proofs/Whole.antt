@@ -1,5 +1,5 @@
 -- The first fault of a machine file, group by group.
-use Rattle.std.proofs.Common.{◌≡◌, ℕ, List, Option, Some, None, IfOk, Result, Ok, Err, refl, sym, ◌∙◌, ap, subst, arith, inr}
+use Rattle.std.proofs.Common.{◌≡◌, ℕ, List, Option, Some, None, IfOk, Result, Ok, Err, sym, ◌∙◌, ap, subst, arith, inr}
 use Rattle.sq_text.specs.declared.code.Phase.TheVariants.{Machine}
 use Rattle.sq_text.specs.declared.fault.Fault.{Fault}
 use Rattle.sq_text.specs.First.{AtOrBefore}

@@ -1,9 +1,9 @@
 -- Which limits a machine file may break: for each rule its code, place and argument, where it is broken.
-use Rattle.std.specs.Prelude.{ℕ, zero, suc, ◌+◌, ◌-◌, ◌*◌, ◌^◌, Bool, false, ◌||◌, ◌&&◌, ◌==◌, nat_lt, nat_le, List, [], ◌∷◌, length, Option}
+use Rattle.std.specs.Prelude.{ℕ, ◌+◌, ◌-◌, ◌*◌, Bool, ◌||◌, ◌&&◌, ◌==◌, nat_lt, nat_le, List, [], ◌∷◌, ◌++◌, length, map, Option}
+use Rattle.std.specs.List.{list_any}
 use Rattle.sq_text.specs.declared.code.Phase.TheVariants as phase
 use Rattle.sq_text.specs.declared.code.Code.TheVariants as code
 use Rattle.sq_text.specs.declared.fault.Fault.{Fault}
-use Rattle.sq_text.specs.declared.place.Place.{Place}
 use Rattle.sq_text.specs.declared.word.Word.{Word}
 use Rattle.sq_text.specs.declared.word.Numeral.{Numeral}
 use Rattle.sq_text.specs.Found.{Breach, at_word, at_numeral, BreaksIn}
@@ -15,159 +15,99 @@ use Rattle.sq_machfile.specs.declared.text.NodesText.{NodesText}
 use Rattle.sq_machfile.specs.declared.text.MachineText.{MachineText}
 use Rattle.sq_machfile.specs.declared.text.MachineText.TheVariants.{Levels, Nodes}
 use Rattle.sq_machfile.specs.declared.nested.Nested.{Nested}
+use Rattle.sq_machfile.specs.Limits.{most_levels, most_nodes, most_children, most_capacity, most_bytes}
 use Rattle.sq_machfile.specs.Nesting.{nested}
+use Rattle.sq_machfile.specs.Nodes.{total}
 
 -- the breach of a rule, where it is broken
 abbrev pub Rule : Type 0
 Rule = Option Breach
 
--- ---- names that stand before a place
+-- the rules of each, by those that stand before it
+abbrev pub of_each : {X : Type 0} → (List X → X → List Rule) → List X → List X → List Rule
+of_each rules before [] = []
+of_each rules before (x ∷ later) = rules before x ++ of_each rules (before ++ x ∷ []) later
 
-abbrev pub NameSet : Type 0
-NameSet = Bytes → Bool
+abbrev pub is_among : List Bytes → Bytes → Bool
+is_among names name = list_any (same_name name) names
 
-abbrev pub no_names : NameSet
-no_names name = false
-
-abbrev pub with_name : Bytes → NameSet → NameSet
-with_name name names = λ n. names n || same_name n name
-
--- ---- sums
+-- ---- limits
 
 -- a sum passes a limit where it grows from within it to beyond it
 abbrev pub passes : ℕ → ℕ → ℕ → Bool
 passes limit before after = nat_le before limit && nat_lt limit after
 
 abbrev pub is_bad_fan : ℕ → Bool
-is_bad_fan children = nat_lt children 1 || nat_lt 64 children
+is_bad_fan children = nat_lt children 1 || nat_lt most_children children
 
 -- a capacity, where the bytes of all memories grow by it
 abbrev pub is_over_capacity : ℕ → ℕ → ℕ → Bool
-is_over_capacity capacity before after = nat_lt (2 ^ 30) capacity || passes (2 ^ 31) before after
+is_over_capacity capacity before after = nat_lt most_capacity capacity || passes most_bytes before after
 
--- ---- names of levels
+-- ---- either version
 
--- the name of a level, the index-th from the root, and then other rules
-abbrev pub level_name : ℕ → NameSet → Word → List Rule → List Rule
-level_name index names word later =
-    at_word code.DupLevel word (names word.name)
-    -- there are at most eight levels
-    ∷ at_word code.LimitLevels word (index == 8)
-    ∷ later
+-- a level's name, where these are above it
+abbrev pub level_name : List Bytes → Word → List Rule
+level_name above word = at_word code.DupLevel word (is_among above word.name) ∷ at_word code.LimitLevels word (length above == most_levels) ∷ []
 
--- the names of levels, from the index-th on, and then other rules
-abbrev pub names_rules : ℕ → NameSet → List Word → List Rule → List Rule
-names_rules index names [] later = later
-names_rules index names (word ∷ words) later = level_name index names word (names_rules (suc index) (with_name word.name names) words later)
+-- ---- version 1
 
--- what is counted down to a level, in version 1
-pub record Count : Type 0 where
-  -- the names of the levels above
-  pub names : NameSet
-  -- the nodes of the level
-  pub width : ℕ
-  -- the nodes of the level and of those above
-  pub nodes : ℕ
-  -- the bytes of all memories above the level
-  pub bytes : ℕ
+-- the nodes of a machine with these levels below its root
+abbrev pub nodes_to : List Below → ℕ
+nodes_to [] = 1
+nodes_to (b ∷ below) = 1 + b.children.value * nodes_to below
 
-abbrev pub at_root : Count
-at_root = record { names = no_names; width = 1; nodes = 1; bytes = 0 }
+-- the bytes of a node of this level and of all nodes in it, where these are the levels below
+abbrev pub bytes_to : LevelText → List Below → ℕ
+bytes_to level [] = level.capacity.value
+bytes_to level (b ∷ below) = level.capacity.value + b.children.value * bytes_to b.level below
 
--- what is counted up to a node in the order of the text, in version 2
-pub record NodeCount : Type 0 where
-  -- the names of the nodes before
-  pub names : NameSet
-  -- the bytes of the memories before
-  pub bytes : ℕ
+abbrev pub names_to : LevelText → List Below → List Bytes
+names_to root below = root.name.name ∷ map (λ b. b.level.name.name) below
 
-abbrev pub before_nodes : NodeCount
-before_nodes = record { names = no_names; bytes = 0 }
+abbrev pub root_rules : LevelText → List Rule
+root_rules root = level_name [] root.name ++ at_numeral code.LimitCapacity root.capacity (is_over_capacity root.capacity.value 0 root.capacity.value) ∷ []
+
+-- a number of children and their level, where these are between the root and them
+abbrev pub below_rules : LevelText → List Below → Below → List Rule
+below_rules root above b =
+    at_numeral code.LimitFan b.children (is_bad_fan b.children.value)
+    ∷ at_numeral code.LimitNodes b.children (passes most_nodes (nodes_to above) (nodes_to (above ++ b ∷ [])))
+    ∷ level_name (names_to root above) b.level.name
+    ++ at_numeral code.LimitCapacity b.level.capacity (is_over_capacity b.level.capacity.value (bytes_to root above) (bytes_to root (above ++ b ∷ [])))
+    ∷ []
+
+abbrev pub levels_rules : LevelsText → List Rule
+levels_rules text = root_rules text.root ++ of_each (below_rules text.root) [] text.below
+
+-- ---- version 2
 
 -- the number of a node's children, at its name
 abbrev pub fan_of : Nested → Numeral
 fan_of node = record { place = node.name.place; value = node.children }
 
--- `cut` is what a sum is cut to: the reader's numbers have an end, and in the definition they have none.
-module _ (cut : ℕ → ℕ) where
-  -- ---- version 1
+-- the bytes of these nodes' memories
+abbrev pub bytes_in : List Nested → ℕ
+bytes_in = total (λ n. n.capacity.value)
 
-  abbrev pub bytes_with : Count → LevelText → ℕ
-  bytes_with c level = cut (c.bytes + cut (c.width * level.capacity.value))
+-- a node, where there are so many levels and these nodes stand before it in the text
+abbrev pub node_rules : ℕ → List Nested → Nested → List Rule
+node_rules levels before node =
+    at_word code.DupNode node.name (is_among (map (λ n. n.name.name) before) node.name.name)
+    ∷ at_word code.NodeDepth node.name (nat_le levels node.depth)
+    ∷ at_word code.LimitNodes node.name (length before == most_nodes)
+    -- at the last level the children are too deep
+    ∷ at_numeral code.LimitFan (fan_of node) (nat_lt node.depth (levels - 1) && is_bad_fan node.children)
+    ∷ at_numeral code.LimitCapacity node.capacity (is_over_capacity node.capacity.value (bytes_in before) (bytes_in before + node.capacity.value))
+    ∷ []
 
-  abbrev pub width_below : Count → Numeral → ℕ
-  width_below c children = cut (c.width * children.value)
-
-  abbrev pub nodes_with : Count → Numeral → ℕ
-  nodes_with c children = cut (c.nodes + width_below c children)
-
-  abbrev pub after_level : Count → LevelText → Count
-  after_level c level = record c { names = with_name level.name.name c.names; bytes = bytes_with c level }
-
-  abbrev pub after_children : Count → Numeral → Count
-  after_children c children = record c { width = width_below c children; nodes = nodes_with c children }
-
-  -- a level, which is the index-th from the root, and then other rules
-  abbrev pub level_rules : ℕ → Count → LevelText → List Rule → List Rule
-  level_rules index c level later =
-      level_name index c.names level.name
-      (at_numeral code.LimitCapacity level.capacity (is_over_capacity level.capacity.value c.bytes (bytes_with c level)) ∷ later)
-
-  -- a number of children, and then other rules
-  abbrev pub children_rules : Count → Numeral → List Rule → List Rule
-  children_rules c children later =
-      at_numeral code.LimitFan children (is_bad_fan children.value)
-      ∷ at_numeral code.LimitNodes children (passes 4096 c.nodes (nodes_with c children))
-      ∷ later
-
-  abbrev pub one_below : ℕ → Count → Below → List Rule → List Rule
-  one_below index c below later = children_rules c below.children (level_rules index (after_children c below.children) below.level later)
-
-  abbrev pub after_below : Count → Below → Count
-  after_below c below = after_level (after_children c below.children) below.level
-
-  abbrev pub below_rules : ℕ → Count → List Below → List Rule
-  below_rules index c [] = []
-  below_rules index c (below ∷ rest) = one_below index c below (below_rules (suc index) (after_below c below) rest)
-
-  abbrev pub levels_rules : LevelsText → List Rule
-  levels_rules text = level_rules 0 at_root text.root (below_rules 1 (after_level at_root text.root) text.below)
-
-  -- ---- version 2
-
-  abbrev pub with_node : NodeCount → Nested → ℕ
-  with_node c node = cut (c.bytes + node.capacity.value)
-
-  -- the index-th node in the order of the text, where there are so many levels, and then other rules
-  abbrev pub node_rules : ℕ → ℕ → NodeCount → Nested → List Rule → List Rule
-  node_rules levels index c node later =
-      at_word code.DupNode node.name (c.names node.name.name)
-      ∷ at_word code.NodeDepth node.name (nat_le levels node.depth)
-      ∷ at_word code.LimitNodes node.name (index == 4096)
-      -- at the last level the children are too deep
-      ∷ at_numeral code.LimitFan (fan_of node) (nat_lt node.depth (levels - 1) && is_bad_fan node.children)
-      ∷ at_numeral code.LimitCapacity node.capacity (is_over_capacity node.capacity.value c.bytes (with_node c node))
-      ∷ later
-
-  abbrev pub after_node : NodeCount → Nested → NodeCount
-  after_node c node = record { names = with_name node.name.name c.names; bytes = with_node c node }
-
-  abbrev pub all_node_rules : ℕ → ℕ → NodeCount → List Nested → List Rule
-  all_node_rules levels index c [] = []
-  all_node_rules levels index c (node ∷ nodes) = node_rules levels index c node (all_node_rules levels (suc index) (after_node c node) nodes)
-
-  abbrev pub nodes_rules : List Word → List Nested → List Rule
-  nodes_rules names nodes = names_rules 0 no_names names (all_node_rules (length names) 0 before_nodes nodes)
-
-  abbrev pub rules_by : MachineText → List Rule
-  rules_by (Levels text) = levels_rules text
-  rules_by (Nodes text) = nodes_rules text.names (nested text.nodes)
-
-abbrev pub uncut : ℕ → ℕ
-uncut n = n
+abbrev pub nodes_rules : NodesText → List Rule
+nodes_rules text =
+    of_each (λ above word. level_name (map (λ w. w.name) above) word) [] text.names ++ of_each (node_rules (length text.names)) [] (nested text.nodes)
 
 abbrev pub rules_of : MachineText → List Rule
-rules_of machine = rules_by uncut machine
+rules_of (Levels text) = levels_rules text
+rules_of (Nodes text) = nodes_rules text
 
 -- the rule's breach is judged by itself
 abbrev pub judge : Rule → Option Breach

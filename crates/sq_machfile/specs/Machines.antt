@@ -1,5 +1,5 @@
 -- Machines, the limits that they keep, which machine a text stands for, and every fault of a machine file.
-use Rattle.std.specs.Prelude.{◌≡◌, ℕ, zero, suc, ◌+◌, ◌*◌, ◌^◌, ◌<◌, ◌≤◌, min, max, List, [], ◌∷◌, ◌++◌, length, map, replicate, Option, Some, None, Result, Ok, Err, ◌==◌, if◌then◌else◌}
+use Rattle.std.specs.Prelude.{◌≡◌, ℕ, zero, suc, ◌*◌, ◌<◌, ◌≤◌, min, max, List, [], ◌∷◌, ◌++◌, length, map, replicate, Some, None, Result, Ok, Err, ◌==◌, if◌then◌else◌}
 use Rattle.std.specs.List.{slice_get, fold}
 use Rattle.std.specs.Option.{option_map_or}
 use Rattle.sq_text.specs.Names.{Bytes, same_name}
@@ -23,6 +23,7 @@ use Rattle.sq_machfile.specs.declared.text.MachineText.TheVariants.{Levels, Node
 use Rattle.sq_machfile.specs.declared.nested.Nested.{Nested}
 use Rattle.sq_machfile.specs.declared.level.Level.{Level}
 use Rattle.sq_machfile.specs.declared.node.Node.{Node}
+use Rattle.sq_machfile.specs.Limits.{most_levels, most_nodes, most_children, most_capacity, most_bytes}
 use Rattle.sq_machfile.specs.Nodes.{at_level, total, capacity_of, children_of, AreArranged, linked}
 use Rattle.sq_machfile.specs.Nesting.{nested}
 use Rattle.sq_machfile.specs.Grammar.{IsText}
@@ -53,9 +54,9 @@ has_name name n = option_map_or (λ own. if same_name name own then 1 else 0) n.
 -- a node of a machine of so many levels
 pub record NodeFits (levels : ℕ) (n : Node) : Type 0 where
   pub level : n.level < levels
-  pub capacity : n.capacity ≤ 2 ^ 30
+  pub capacity : n.capacity ≤ most_capacity
   pub some : suc n.level < levels → 1 ≤ n.children
-  pub few : n.children ≤ 64
+  pub few : n.children ≤ most_children
   pub leaf : suc n.level ≡ levels → n.children ≡ 0
 
 -- a level is of the least capacity and of the greatest number of children of its nodes
@@ -66,14 +67,14 @@ pub record Sums (nodes : List Node) (k : ℕ) (level : Level) : Type 0 where
 pub record WithinLimits (machine : Hierarchy) : Type 0 where
   -- ---- levels
   pub some : 1 ≤ length machine.levels
-  pub few : length machine.levels ≤ 8
+  pub few : length machine.levels ≤ most_levels
   pub names : (i j : ℕ) (a b : Level) → i < j → slice_get machine.levels i ≡ Some a → slice_get machine.levels j ≡ Some b → a.name ≡ b.name → ⊥
   pub sums : (k : ℕ) (level : Level) → slice_get machine.levels k ≡ Some level → Sums machine.nodes k level
   -- ---- nodes
   pub arranged : AreArranged machine.nodes
-  pub nodes : length machine.nodes ≤ 4096
+  pub nodes : length machine.nodes ≤ most_nodes
   pub fits : (i : ℕ) (n : Node) → slice_get machine.nodes i ≡ Some n → NodeFits (length machine.levels) n
-  pub bytes : total capacity_of machine.nodes ≤ 2 ^ 31
+  pub bytes : total capacity_of machine.nodes ≤ most_bytes
   -- at most one node has a given name
   pub node_names : (name : Bytes) → total (has_name name) machine.nodes ≤ 1
   -- all nodes have names or none has; and a node without one is as every other of its level

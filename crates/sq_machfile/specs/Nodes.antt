@@ -1,5 +1,5 @@
 -- The nodes of a machine: level by level, and in each level from the left.
-use Rattle.std.specs.Prelude.{◌≡◌, ℕ, suc, ◌+◌, ◌≤◌, Bool, ◌==◌, if◌then◌else◌, List, [], ◌∷◌, length, take, map, replicate, filter, Some}
+use Rattle.std.specs.Prelude.{◌≡◌, ℕ, suc, ◌+◌, ◌≤◌, ◌==◌, if◌then◌else◌, List, [], ◌∷◌, take, map, replicate, filter, Some}
 use Rattle.std.specs.List.{slice_get, flat_map}
 use Rattle.sq_machfile.specs.declared.node.Node.{Node}
 

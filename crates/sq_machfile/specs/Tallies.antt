@@ -8,7 +8,8 @@ use Rattle.sq_machfile.specs.declared.uneven.NodeTally.{NodeTally}
 use Rattle.sq_machfile.specs.declared.node.Node.{Node}
 use Rattle.sq_machfile.specs.declared.tree.Tree.{Tree}
 use Rattle.sq_machfile.specs.Nodes.{linked}
-use Rattle.sq_machfile.specs.Faults.{Count, NodeCount, NameSet}
+use Rattle.sq_machfile.specs.Limits.{most_children}
+use Rattle.sq_machfile.specs.Walk.{Count, NodeCount, NameSet}
 
 -- the reader's numbers end here
 abbrev pub capped : ℕ → ℕ
@@ -30,4 +31,4 @@ Adds old new part = (later : List Node) → new.nodes ++ linked new.next later �
 
 -- numbers of children that the reader's numbers hold
 abbrev pub FewChildren : List Below → Type 0
-FewChildren below = (i : ℕ) (b : Below) → slice_get below i ≡ Some b → b.children.value ≤ 64
+FewChildren below = (i : ℕ) (b : Below) → slice_get below i ≡ Some b → b.children.value ≤ most_children

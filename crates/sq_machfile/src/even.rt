@@ -3,8 +3,9 @@
 ghost use Rattle.std.specs.Prelude.{◌≡◌, IfOk, OnOk};
 ghost use Rattle.sq_text.specs.Found.{Finds, firsts, nothing_found};
 ghost use Rattle.sq_text.specs.declared.code.Phase.TheVariants as phase;
-ghost use Rattle.sq_machfile.specs.Faults as spec;
-ghost use Rattle.sq_machfile.specs.Faults.{judge, level_rules, after_level, children_rules, after_children, one_below, after_below, levels_rules};
+ghost use Rattle.sq_machfile.specs.Walk as spec;
+ghost use Rattle.sq_machfile.specs.Faults.{judge};
+ghost use Rattle.sq_machfile.specs.Walk.{level_rules, after_level, children_rules, after_children, one_below, after_below, levels_rules};
 ghost use Rattle.sq_machfile.specs.Tallies.{capped, count_of};
 
 use crate::limits::{is_bad_fan, is_over_capacity, level_name, passes};

@@ -2,6 +2,7 @@
 #![tactic(auto)]
 
 mod even;
+pub mod laws;
 mod level;
 mod levels;
 mod limits;

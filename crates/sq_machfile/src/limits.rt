@@ -3,7 +3,8 @@
 ghost use Rattle.std.specs.Prelude.{◌≡◌, OnOk};
 ghost use Rattle.sq_text.specs.Found.{Finds};
 ghost use Rattle.sq_machfile.specs.Faults as spec;
-ghost use Rattle.sq_machfile.specs.Faults.{judge, level_name, with_name};
+ghost use Rattle.sq_machfile.specs.Faults.{judge};
+ghost use Rattle.sq_machfile.specs.Walk.{level_name, with_name};
 ghost use Rattle.sq_machfile.specs.Tallies.{names_in};
 
 use crate::names::is_again;

@@ -1,7 +1,7 @@
 //! Names that stood before.
 
 ghost use Rattle.std.specs.Prelude.{◌≡◌, IfOk, OnOk};
-ghost use Rattle.sq_machfile.specs.Faults.{with_name};
+ghost use Rattle.sq_machfile.specs.Walk.{with_name};
 ghost use Rattle.sq_machfile.specs.Tallies.{names_in};
 
 use sq_text::{FirstItems, Name};

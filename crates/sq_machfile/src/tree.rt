@@ -1,6 +1,7 @@
 //! The nodes of a machine, level by level from the left.
 
 ghost use Rattle.std.specs.Prelude.{◌≡◌, ◌+◌, ◌<◌, ◌≤◌, ◌^◌, [], ◌∷◌, IfOk, OnOk, length, replicate};
+ghost use Rattle.sq_machfile.specs.Limits.{most_levels, most_nodes};
 ghost use Rattle.sq_machfile.specs.Nodes.{total, children_of, linked};
 ghost use Rattle.sq_machfile.specs.Machines.{even_node, even_nodes, node_of, nodes_of_depth, by_level};
 ghost use Rattle.sq_machfile.specs.Tallies.{Adds};
@@ -101,8 +102,8 @@ impl Tree {
 
 /// The nodes of levels in each of which all nodes are alike.
 pub fn even_nodes(alloc: Global, levels: &[Level]) -> Result<Items<Node>, AllocError>
-    requires few { length levels.now ≤ 8 }
-    requires children { total children_of (even_nodes 0 1 levels.now) ≤ 4096 }
+    requires few { length levels.now ≤ most_levels }
+    requires children { total children_of (even_nodes 0 1 levels.now) ≤ most_nodes }
     ensures { IfOk result (λ nodes. nodes ≡ linked 1 (even_nodes 0 1 levels.now)) }
 {
     let mut tree = Tree::new(alloc);
@@ -118,7 +119,7 @@ pub fn even_nodes(alloc: Global, levels: &[Level]) -> Result<Items<Node>, AllocE
 
 /// The nodes of a text by their depths, for so many levels.
 pub fn uneven_nodes(alloc: Global, levels: u32, nodes: &[Nested]) -> Result<Items<Node>, AllocError>
-    requires { total children_of (by_level 0 levels nodes.now) ≤ 4096 }
+    requires { total children_of (by_level 0 levels nodes.now) ≤ most_nodes }
     ensures { IfOk result (λ found. found ≡ linked 1 (by_level 0 levels nodes.now)) }
 {
     let mut tree = Tree::new(alloc);

@@ -4,7 +4,8 @@ ghost use Rattle.std.specs.Prelude.{◌≡◌, IfOk, OnOk};
 ghost use Rattle.sq_text.specs.Found.{Finds, firsts, nothing_found};
 ghost use Rattle.sq_text.specs.declared.code.Phase.TheVariants as phase;
 ghost use Rattle.sq_machfile.specs.Faults as spec;
-ghost use Rattle.sq_machfile.specs.Faults.{judge, no_names, before_nodes, names_rules, node_rules, after_node, all_node_rules, nodes_rules};
+ghost use Rattle.sq_machfile.specs.Faults.{judge};
+ghost use Rattle.sq_machfile.specs.Walk.{no_names, before_nodes, names_rules, node_rules, after_node, all_node_rules, nodes_rules};
 ghost use Rattle.sq_machfile.specs.Tallies.{capped, node_count_of};
 
 use crate::limits::{is_bad_fan, is_over_capacity, level_name};

@@ -5,16 +5,15 @@ use Rattle.sq_text.specs.declared.fault.Fault.{Fault}
 use Rattle.sq_text.specs.declared.word.Word.{Word}
 use Rattle.sq_text.specs.First.{HoldsIn}
 use Rattle.sq_machfile.specs.declared.level.Level.{Level}
-use Rattle.sq_ast.specs.declared.program.Program.{Program}
-use Rattle.sq_mapfile.specs.declared.mapping.Route.{Route}
-use Rattle.sq_mapfile.specs.declared.mapping.Instance.{Instance}
 use Rattle.sq_mapfile.specs.declared.mapping.Mapping.{Mapping}
 use Rattle.sq_mapfile.specs.declared.text.ItemText.{ItemText}
 use Rattle.sq_mapfile.specs.declared.text.ItemText.TheVariants.{Tunable, Call, Spread}
 use Rattle.sq_mapfile.specs.declared.text.InstanceText.{InstanceText}
 use Rattle.sq_mapfile.specs.declared.text.MappingText.{MappingText}
 use Rattle.sq_mapfile.specs.Names.{stands_before, index_of, call_index}
-use Rattle.sq_mapfile.specs.Cycles.{CallText, Calls, Leads, here, further, IsOnCycle, CycleFault, call_to, items_calls, instance_calls, calls_from, calls_of}
+use Rattle.sq_mapfile.specs.Cycles.{CallText, Calls, Leads, here, further, IsOnCycle, CycleFault}
+use Rattle.sq_mapfile.specs.Graph.{call_to, items_calls, calls_from, gathered}
+use Rattle.sq_mapfile.proofs.Listed.{gathered_listed}
 use Rattle.sq_mapfile.specs.Mappings.{Resolves}
 use Rattle.sq_mapfile.specs.Sound as sound
 use Rattle.sq_mapfile.specs.Sound.{LeadsTo}
@@ -91,7 +90,7 @@ held_at At (s ∷ sites) f (inl h) = record { index = 0; site = s; there = refl;
 held_at At (s ∷ sites) f (inr h) = let r = held_at At sites f h in record { index = suc r.index; site = r.site; there = r.there; holds = r.holds }
 
 module _ (levels : List Level) (m : MappingText) (mapping : Mapping) (resolves : Resolves levels m mapping) where
-  call_of : (a b : ℕ) → Calls (calls_of m) a b → sound.Calls mapping.instances a b
+  call_of : (a b : ℕ) → Calls (gathered m.instances) a b → sound.Calls mapping.instances a b
   call_of a b c =
       let o = all_of m.instances 0 m.instances c.index c.call c.there in
       let made = made_at resolves.instances o.index o.text o.there in
@@ -108,12 +107,12 @@ module _ (levels : List Level) (m : MappingText) (mapping : Mapping) (resolves :
         to = callee;
       }
 
-  go_on : (a b c : ℕ) → LeadsTo mapping.instances a b → Leads (calls_of m) b c → LeadsTo mapping.instances a c
+  go_on : (a b c : ℕ) → LeadsTo mapping.instances a b → Leads (gathered m.instances) b c → LeadsTo mapping.instances a c
   go_on a b c p here = p
   go_on a b c p (further {b = between} q call) = sound.further (go_on a b between p q) (call_of between c call)
 
   pub no_cycle_fault : ((a : ℕ) → LeadsTo mapping.instances a a → ⊥) → (g : Fault) → CycleFault m g → ⊥
   no_cycle_fault none g h =
-      let at = held_at (IsOnCycle (calls_of m)) (calls_of m) g h in
+      let at = held_at (IsOnCycle (gathered m.instances)) (gathered m.instances) g (subst (λ calls. HoldsIn (IsOnCycle calls) calls g) (sym (gathered_listed m.instances)) h) in
       let call = call_of at.site.caller at.site.callee (record { index = at.index; call = at.site; there = at.there; caller = refl; callee = refl }) in
       none at.site.caller (go_on at.site.caller at.site.callee at.site.caller (sound.by_call call) at.holds.back)

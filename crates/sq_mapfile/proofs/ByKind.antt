@@ -1,11 +1,10 @@
 -- A task is there where a variant of either kind is; and what a variant wants is found at its index.
-use Rattle.std.proofs.Common.{◌≡◌, ℕ, suc, Bool, true, false, not, ◌||◌, List, [], ◌∷◌, map, Option, Some, None, is_some, is_none, option_map, slice_get, refl, sym, ◌∙◌, ap}
-use Rattle.std.proofs.lemmas.Option.{slice_get-map}
+use Rattle.std.proofs.Common.{◌≡◌, ℕ, suc, Bool, true, false, ◌||◌, List, [], ◌∷◌, is_some, refl, ◌∙◌, ap}
 use Rattle.sq_ast.specs.declared.program.VariantKind.{VariantKind}
 use Rattle.sq_ast.specs.declared.program.VariantKind.TheVariants.{Inner, Leaf}
 use Rattle.sq_ast.specs.declared.program.Variant.{Variant}
 use Rattle.sq_text.specs.Names.{Bytes, same_name}
-use Rattle.sq_mapfile.specs.Names.{first_from, at_index, is_variant, has_task, variant_index}
+use Rattle.sq_mapfile.specs.Names.{first_from, is_variant, has_task, variant_index}
 
 or_true : (b : Bool) → (b || true) ≡ true
 or_true true = refl

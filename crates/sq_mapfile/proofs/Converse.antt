@@ -1,38 +1,26 @@
 -- A text whose mapping is sound breaks no rule of names.
-use Rattle.std.proofs.Common.{◌≡◌, ℕ, zero, suc, ◌+◌, ◌<◌, Bool, true, false, not, ◌&&◌, ◌||◌, eqb, nat_lt, ◌⊎◌, inl, inr, List, [], ◌∷◌, map, length, Option, Some, None, is_some, is_none, option_map, if◌then◌else◌, refl, sym, ◌∙◌, ap, subst, arith, true≢false}
+use Rattle.std.proofs.Common.{◌≡◌, ℕ, zero, suc, Bool, true, false, ◌&&◌, ◌||◌, nat_lt, inl, inr, List, [], ◌∷◌, map, Option, Some, None, refl, sym, ◌∙◌, ap, subst, arith, true≢false}
 use Rattle.std.specs.List.{slice_get, list_any}
-use Rattle.std.specs.Map.{lookup}
-use Rattle.std.specs.Cmp.{booleans_Decides}
-use Rattle.std.proofs.Math.Bool.{beq}
-use Rattle.std.proofs.lemmas.Bool.Decides.{leb_tells, Decides-eqb}
-use Rattle.std.proofs.lemmas.Option.{slice_get-map}
+use Rattle.std.proofs.lemmas.Bool.Decides.{leb_tells}
 use Rattle.sq_text.specs.Names.{Bytes, same_name}
-use Rattle.sq_text.specs.declared.spread.SpreadRule.{SpreadRule}
 use Rattle.sq_text.specs.declared.word.Word.{Word}
 use Rattle.sq_ast.specs.declared.program.VariantKind.{VariantKind}
 use Rattle.sq_ast.specs.declared.program.Variant.{Variant}
-use Rattle.sq_ast.specs.declared.program.Program.{Program}
 use Rattle.sq_machfile.specs.declared.level.Level.{Level}
 use Rattle.sq_mapfile.specs.declared.mapping.Setting.{Setting}
 use Rattle.sq_mapfile.specs.declared.mapping.Tuning.{Tuning}
 use Rattle.sq_mapfile.specs.declared.mapping.Route.{Route}
 use Rattle.sq_mapfile.specs.declared.mapping.Instance.{Instance}
-use Rattle.sq_mapfile.specs.declared.mapping.Mapping.{Mapping}
-use Rattle.sq_mapfile.specs.declared.text.SizeText.{SizeText}
 use Rattle.sq_mapfile.specs.declared.text.ItemText.{ItemText}
 use Rattle.sq_mapfile.specs.declared.text.ItemText.TheVariants.{Tunable, Call, Spread}
 use Rattle.sq_mapfile.specs.declared.text.InstanceText.{InstanceText}
-use Rattle.sq_mapfile.specs.declared.text.MappingText.{MappingText}
-use Rattle.sq_mapfile.specs.Names.{is_among, first_from, at_index, stands_before, index_of, instance_of, has_task, is_variant, variant_index, variant_of, level_of, call_index, tunable_index, size_index}
-use Rattle.sq_mapfile.specs.Required.{Required, required_by}
-use Rattle.sq_mapfile.specs.Faults as f
-use Rattle.sq_mapfile.specs.Faults.{Rule, Scope, scope, Inside, inside, required_of, required_at, level_at, first_missing, is_list, is_other}
-use Rattle.sq_mapfile.specs.Mappings.{Resolves, SpreadsOnce, AreRoutes, no_route, no_call, no_rule, a_route, IsInstance, AreInstances, none_left, one_more, tunings_of, size_set}
-use Rattle.sq_mapfile.specs.Sound.{EachOnce, Exactly, RouteFits, InstanceFits, EntryFits, Sound}
-use Rattle.sq_mapfile.proofs.Indices.{At, found_at}
-use Rattle.sq_mapfile.proofs.Once.{same, itself, among_first, among_rest, has_name, with_first, names, first_same}
-use Rattle.sq_mapfile.proofs.Facts.{call_name, tunable_name, size_name, call_first, tunable_first, has_call_among, has_tunable_among, has_size_among, tuning_names, set_names}
-use Rattle.sq_mapfile.proofs.Kept.{AllNone, unbroken}
+use Rattle.sq_mapfile.specs.Names.{is_among, first_from, at_index, stands_before, index_of, has_task, is_variant, variant_index, variant_of}
+use Rattle.sq_mapfile.specs.Faults.{first_missing}
+use Rattle.sq_mapfile.specs.Mappings.{AreRoutes, no_route, no_call, no_rule, a_route, IsInstance, AreInstances, none_left, one_more, tunings_of}
+use Rattle.sq_mapfile.specs.Sound.{EachOnce}
+use Rattle.sq_mapfile.proofs.Indices.{found_at}
+use Rattle.sq_mapfile.proofs.Once.{same, among_first, among_rest, has_name, with_first, names}
+use Rattle.sq_mapfile.proofs.Facts.{call_name}
 
 pub not_itself : (i : ℕ) → nat_lt i i ≡ false
 not_itself i = elim (leb_tells (suc i) i) [ inl k ↦ absurd (omega (arith, k.1)) | inr k ↦ k.0 ]

@@ -1,5 +1,5 @@
 -- What the rules of names say of the items of an instance, of instances and of sizes.
-use Rattle.std.proofs.Common.{◌≡◌, ℕ, zero, suc, ◌+◌, ◌^◌, ◌<◌, Bool, true, false, not, ◌&&◌, ◌||◌, eqb, ◌⊎◌, inl, inr, List, [], ◌∷◌, map, length, Option, Some, None, is_some, if◌then◌else◌, refl, sym, ◌∙◌, ap, subst, arith, true≢false}
+use Rattle.std.proofs.Common.{◌≡◌, ℕ, zero, suc, ◌+◌, ◌^◌, ◌<◌, Bool, true, false, not, ◌&&◌, ◌||◌, eqb, ◌⊎◌, inl, inr, List, [], ◌∷◌, map, length, Option, Some, None, is_some, refl, sym, ◌∙◌, ap, subst, arith, true≢false}
 use Rattle.std.specs.Option.{is_none, option_map}
 use Rattle.std.specs.List.{slice_get}
 use Rattle.std.specs.Map.{lookup}
@@ -10,7 +10,6 @@ use Rattle.sq_text.specs.Names.{Bytes, same_name}
 use Rattle.sq_text.specs.declared.code.Code.TheVariants as code
 use Rattle.sq_text.specs.declared.spread.SpreadRule.TheVariants.{Cyclic}
 use Rattle.sq_text.specs.declared.word.Word.{Word}
-use Rattle.sq_ast.specs.declared.program.VariantKind.{VariantKind}
 use Rattle.sq_ast.specs.declared.program.VariantKind.TheVariants.{Leaf}
 use Rattle.sq_ast.specs.declared.program.Variant.{Variant}
 use Rattle.sq_mapfile.specs.declared.mapping.Setting.{Setting}
@@ -22,7 +21,7 @@ use Rattle.sq_mapfile.specs.declared.text.ItemText.TheVariants.{Tunable, Call, S
 use Rattle.sq_mapfile.specs.declared.text.InstanceText.{InstanceText}
 use Rattle.sq_mapfile.specs.Names.{is_among, is_tunable, is_call, has_task, variant_of, index_of, instance_of, at_index, tunable_index, call_index, size_index, level_of, first_from, stands_before}
 use Rattle.sq_mapfile.specs.Required.{Required, required_by}
-use Rattle.sq_mapfile.specs.Faults.{Scope, Inside, inside, required_of, level_at, has_call, has_tunable, has_size, no_instance, is_uncalled, is_of_other_task, is_skip, is_no_tunable, is_no_size, is_list, is_other, is_other_kind, is_leaf, call_task, level_skip}
+use Rattle.sq_mapfile.specs.Faults.{Scope, Inside, required_of, level_at, has_call, has_tunable, has_size, no_instance, is_uncalled, is_of_other_task, is_skip, is_no_tunable, is_no_size, is_list, is_other, is_other_kind, is_leaf, level_skip}
 use Rattle.sq_mapfile.specs.Mappings.{tunings_of, spread_of, size_set}
 use Rattle.sq_mapfile.specs.Resolving.{or_zero, routes_of}
 use Rattle.sq_mapfile.specs.Sound.{EachOnce}

@@ -1,5 +1,5 @@
 -- The calls as they are gathered: callers and callees are among the instances.
-use Rattle.std.proofs.Common.{◌≡◌, ℕ, suc, ◌+◌, ◌<◌, ◌≤◌, Bool, true, false, List, [], ◌∷◌, ◌++◌, length, if◌then◌else◌, Option, Some, None, All, refl, arith}
+use Rattle.std.proofs.Common.{◌≡◌, ℕ, suc, ◌+◌, ◌<◌, ◌≤◌, Bool, true, false, List, [], ◌∷◌, length, if◌then◌else◌, Option, Some, None, All, refl, arith}
 use Rattle.std.proofs.lemmas.List.Elements.{All-cons}
 use Rattle.sq_text.specs.Names.{same_name}
 use Rattle.sq_text.specs.declared.word.Word.{Word}
@@ -7,7 +7,8 @@ use Rattle.sq_mapfile.specs.declared.text.ItemText.{ItemText}
 use Rattle.sq_mapfile.specs.declared.text.ItemText.TheVariants.{Tunable, Call, Spread}
 use Rattle.sq_mapfile.specs.declared.text.InstanceText.{InstanceText}
 use Rattle.sq_mapfile.specs.Names.{stands_before, first_from, index_of, call_index}
-use Rattle.sq_mapfile.specs.Cycles.{CallText, call_to, item_calls, items_calls, instance_calls, calls_from, calls_among}
+use Rattle.sq_mapfile.specs.Cycles.{CallText}
+use Rattle.sq_mapfile.specs.Graph.{gathered, call_to, item_calls, items_calls, calls_from}
 use Rattle.sq_mapfile.specs.Graph.{Adds, IsWithin}
 
 -- an item for a task that has none before
@@ -57,5 +58,5 @@ from_within instances i (x ∷ rest) le =
     (items_calls instances i x.items 0 x.items (calls_from instances (suc i) rest)) later
     (items_within instances i x.items 0 x.items (calls_from instances (suc i) rest) lt later)
 
-pub all_within : (instances : List InstanceText) → All (IsWithin (length instances)) (calls_among instances)
+pub all_within : (instances : List InstanceText) → All (IsWithin (length instances)) (gathered instances)
 all_within instances = from_within instances 0 instances (omega arith)

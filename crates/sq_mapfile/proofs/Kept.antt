@@ -1,5 +1,5 @@
 -- What a mapping keeps where no fault of a name holds: no rule is broken.
-use Rattle.std.proofs.Common.{◌≡◌, ℕ, zero, suc, ◌+◌, Bool, true, false, List, [], ◌∷◌, Option, Some, None, option_map, refl, inl, inr, subst, arith}
+use Rattle.std.proofs.Common.{◌≡◌, ℕ, zero, suc, ◌+◌, Bool, true, false, List, [], ◌∷◌, Option, Some, None, option_map, refl, inl, inr, subst, arith, sym}
 use Rattle.std.specs.List.{slice_get}
 use Rattle.sq_text.specs.Names.{Bytes}
 use Rattle.sq_text.specs.declared.place.Place.{Place}
@@ -8,7 +8,6 @@ use Rattle.sq_text.specs.declared.code.Code.{Code}
 use Rattle.sq_text.specs.declared.fault.Fault.{Fault}
 use Rattle.sq_text.specs.Found.{fault_by, at_word, at_lack, at_place, BreaksIn}
 use Rattle.sq_text.specs.declared.word.Word.{Word}
-use Rattle.sq_ast.specs.declared.program.VariantKind.{VariantKind}
 use Rattle.sq_ast.specs.declared.program.Program.{Program}
 use Rattle.sq_machfile.specs.declared.level.Level.{Level}
 use Rattle.sq_mapfile.specs.declared.mapping.Setting.{Setting}
@@ -20,6 +19,8 @@ use Rattle.sq_mapfile.specs.declared.text.MappingText.{MappingText}
 use Rattle.sq_mapfile.specs.Names.{instance_of, tunable_index, call_index, spread_index, size_index}
 use Rattle.sq_mapfile.specs.Required.{Required}
 use Rattle.sq_mapfile.specs.Faults as f
+use Rattle.sq_mapfile.specs.Notes as notes
+use Rattle.sq_mapfile.proofs.Listed.{listed}
 use Rattle.sq_mapfile.specs.Faults.{Rule, Inside, inside, breach_of, NameFault, Scope, scope, required_of, required_at, level_at}
 
 abbrev pub AllNone : List Rule → Type 0
@@ -73,7 +74,7 @@ abbrev pub ItemsKeep : Inside → ℕ → List ItemText → Type 0
 ItemsKeep n i [] = Unit {0}
 ItemsKeep n i (x ∷ rest) = ItemKeeps n i x × ItemsKeep n (suc i) rest
 
-items_keep : (n : Inside) (i : ℕ) (items : List ItemText) (later : List Rule) → AllNone (f.items_rules n i items later) → ItemsKeep n i items × AllNone later
+items_keep : (n : Inside) (i : ℕ) (items : List ItemText) (later : List Rule) → AllNone (notes.items_rules n i items later) → ItemsKeep n i items × AllNone later
 items_keep n i [] later h = (tt, h)
 items_keep n i (Tunable name setting ∷ rest) later h =
     let more = items_keep n (suc i) rest later h.1.1.1 in ((record { again = h.0; unknown = h.1.0; kind = h.1.1.0 }, more.0), more.1)
@@ -105,10 +106,10 @@ abbrev pub InstancesKeep : Scope → ℕ → List InstanceText → Type 0
 InstancesKeep s i [] = Unit {0}
 InstancesKeep s i (x ∷ rest) = InstanceKeeps s i x × InstancesKeep s (suc i) rest
 
-instances_keep : (s : Scope) (i : ℕ) (xs : List InstanceText) → AllNone (f.instances_rules s i xs) → InstancesKeep s i xs
+instances_keep : (s : Scope) (i : ℕ) (xs : List InstanceText) → AllNone (notes.instances_rules s i xs) → InstancesKeep s i xs
 instances_keep s i [] h = tt
 instances_keep s i (x ∷ rest) h =
-    let items = items_keep (inside s x) 0 x.items (f.instances_rules s (suc i) rest) h.1.1.1.1.1.1 in (
+    let items = items_keep (inside s x) 0 x.items (notes.instances_rules s (suc i) rest) h.1.1.1.1.1.1 in (
       record { again = h.0; calls = h.1.0; tunables = h.1.1.0; task = h.1.1.1.0; kind = h.1.1.1.1.0; level = h.1.1.1.1.1.0; items = items.0 },
       instances_keep s (suc i) rest items.1,
     )
@@ -131,7 +132,7 @@ SizesKeep required sizes i [] = Unit {0}
 SizesKeep required sizes i (size ∷ rest) = SizeKeeps required sizes i size × SizesKeep required sizes (suc i) rest
 
 sizes_keep : (required : Option Required) (sizes : List SizeText) (i : ℕ) (rest : List SizeText) (later : List Rule)
-    → AllNone (f.sizes_rules required sizes i rest later) → SizesKeep required sizes i rest × AllNone later
+    → AllNone (notes.sizes_rules required sizes i rest later) → SizesKeep required sizes i rest × AllNone later
 sizes_keep required sizes i [] later h = (tt, h)
 sizes_keep required sizes i (size ∷ rest) later h =
     let more = sizes_keep required sizes (suc i) rest later h.1.1 in ((record { again = h.0; unknown = h.1.0 }, more.0), more.1)
@@ -155,6 +156,6 @@ pub record Keeps (s : Scope) (m : MappingText) : Type 0 where
 pub keeps : (program : Program) (levels : List Level) (m : MappingText) → ((g : Fault) → NameFault program levels m g → ⊥) → Keeps (scope program levels m) m
 keeps program levels m none =
     let s = scope program levels m in
-    let h = all_none (f.name_rules program levels m) none in
-    let sizes = sizes_keep (required_at s (instance_of m.instances m.entry.name)) m.sizes 0 m.sizes (f.instances_rules s 0 m.instances) h.1.1.1 in
+    let h = subst AllNone (sym (listed program levels m)) (all_none (f.name_rules program levels m) none) in
+    let sizes = sizes_keep (required_at s (instance_of m.instances m.entry.name)) m.sizes 0 m.sizes (notes.instances_rules s 0 m.instances) h.1.1.1 in
     record { entry = h.0; skip = h.1.0; missing = h.1.1.0; sizes = sizes.0; instances = instances_keep s 0 m.instances sizes.1 }

@@ -5,12 +5,15 @@ pub mod Complete
 pub mod Converse
 pub mod Derived
 pub mod Facts
+pub mod Falling
 pub mod FirstOnCycle
 pub mod Gathered
 pub mod Indices
 pub mod Kept
 pub mod Leading
+pub mod Listed
 pub mod Once
+pub mod Onces
 pub mod OpenedCalls
 pub mod Paths
 pub mod Points

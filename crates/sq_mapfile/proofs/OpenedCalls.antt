@@ -8,7 +8,8 @@ use Rattle.sq_ast.specs.declared.stmt.Stmt.{Stmt}
 use Rattle.sq_ast.specs.declared.stmt.Stmt.TheVariants as s
 use Rattle.sq_ast.specs.declared.stmt.Stmt.TheOpen.{Stmt-F}
 use Rattle.sq_ast.specs.declared.stmt.Stmt.TheFolds.{fold-roll-Stmt}
-use Rattle.sq_mapfile.specs.Required.{with_name, Gather, stmt_step, stmt_calls, stmts_calls}
+use Rattle.sq_mapfile.specs.Required.{with_name}
+use Rattle.sq_mapfile.specs.Gathering.{Gather, stmt_step, stmt_calls, stmts_calls}
 
 pub calls_call : (c : Call) → stmt_calls (s.Call c) ≡ (λ names. with_name names c.task)
 calls_call c = ap stmt_calls (sym (s.rolls-Call c)) ∙ fold-roll-Stmt Gather stmt_step (Stmt-F.Call c)

@@ -2,7 +2,6 @@
 use Rattle.std.proofs.Common.{◌≡◌, ℕ, zero, suc, ◌+◌, ◌^◌, ◌<◌, Bool, false, if◌then◌else◌, inl, inr, List, [], ◌∷◌, map, length, Option, Some, refl, sym, ◌∙◌, ap, subst, arith}
 use Rattle.std.specs.List.{slice_get}
 use Rattle.sq_text.specs.declared.code.Code.TheVariants as code
-use Rattle.sq_text.specs.Names.{same_name}
 use Rattle.sq_text.specs.declared.fault.Fault.{Fault}
 use Rattle.sq_text.specs.First.{HoldsIn}
 use Rattle.sq_machfile.specs.declared.level.Level.{Level}
@@ -14,14 +13,15 @@ use Rattle.sq_mapfile.specs.declared.text.ItemText.{ItemText}
 use Rattle.sq_mapfile.specs.declared.text.ItemText.TheVariants.{Call, Tunable, Spread}
 use Rattle.sq_mapfile.specs.declared.text.InstanceText.{InstanceText}
 use Rattle.sq_mapfile.specs.declared.text.MappingText.{MappingText}
-use Rattle.sq_text.specs.Names.{Bytes}
 use Rattle.sq_mapfile.specs.Names.{stands_before, index_of, call_index}
 use Rattle.sq_mapfile.specs.Faults.{Scope, Inside, inside, scope}
-use Rattle.sq_mapfile.specs.Cycles.{CallText, Calls, Leads, here, further, IsOnCycle, CycleFault, cycle_at, call_to, items_calls, instance_calls, calls_from, calls_of}
+use Rattle.sq_mapfile.specs.Cycles.{CallText, Calls, Leads, here, further, IsOnCycle, CycleFault, cycle_at}
+use Rattle.sq_mapfile.specs.Graph.{call_to, items_calls, calls_from, gathered}
+use Rattle.sq_mapfile.proofs.Listed.{gathered_listed}
 use Rattle.sq_mapfile.specs.Resolving.{or_zero, routes_of, instance_with}
 use Rattle.sq_mapfile.specs.Sound as sound
 use Rattle.sq_mapfile.specs.Sound.{LeadsTo}
-use Rattle.sq_mapfile.proofs.Kept.{unbroken, ItemsKeep, InstanceKeeps, InstancesKeep}
+use Rattle.sq_mapfile.proofs.Kept.{unbroken, ItemsKeep, InstancesKeep}
 use Rattle.sq_mapfile.proofs.Resolved.{instance_index}
 
 -- ---- calls of an instance
@@ -108,15 +108,19 @@ closed calls a b path c none =
     none fault (holds_at (IsOnCycle calls) calls c.index c.call fault c.there (record { back = back; is = refl }))
 
 module _ (program : Program) (levels : List Level) (m : MappingText) (fit : length m.instances < 2 ^ 32) (kept : InstancesKeep (scope program levels m) 0 m.instances) where
-  call_of : (a b : ℕ) → sound.Calls (map (instance_with levels m.instances) m.instances) a b → Calls (calls_of m) a b
+  call_of : (a b : ℕ) → sound.Calls (map (instance_with levels m.instances) m.instances) a b → Calls (gathered m.instances) a b
   call_of a b c =
       let found = all_calls (scope program levels m) 0 m.instances fit kept a c.caller c.there c.index c.route c.among a (omega arith) in
-      subst (λ b. Calls (calls_of m) a b) c.to found
+      subst (λ b. Calls (gathered m.instances) a b) c.to found
 
-  leads_of : (a b : ℕ) → LeadsTo (map (instance_with levels m.instances) m.instances) a b → Leads (calls_of m) a b
+  leads_of : (a b : ℕ) → LeadsTo (map (instance_with levels m.instances) m.instances) a b → Leads (gathered m.instances) a b
   leads_of a b (sound.by_call c) = further here (call_of a b c)
   leads_of a b (sound.further {b = between} p c) = further (leads_of a between p) (call_of between b c)
 
+  -- the same of what is gathered
+  none_gathered : ((f : Fault) → CycleFault m f → ⊥) → (f : Fault) → HoldsIn (IsOnCycle (gathered m.instances)) (gathered m.instances) f → ⊥
+  none_gathered none f h = none f (subst (λ calls. HoldsIn (IsOnCycle calls) calls f) (gathered_listed m.instances) h)
+
   pub no_cycle : ((f : Fault) → CycleFault m f → ⊥) → (a : ℕ) → LeadsTo (map (instance_with levels m.instances) m.instances) a a → ⊥
-  no_cycle none a (sound.by_call c) = closed (calls_of m) a a here (call_of a a c) none
-  no_cycle none a (sound.further {b = between} p c) = closed (calls_of m) a between (leads_of a between p) (call_of between a c) none
+  no_cycle none a (sound.by_call c) = closed (gathered m.instances) a a here (call_of a a c) (none_gathered none)
+  no_cycle none a (sound.further {b = between} p c) = closed (gathered m.instances) a between (leads_of a between p) (call_of between a c) (none_gathered none)

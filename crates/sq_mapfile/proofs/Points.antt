@@ -3,7 +3,6 @@ use Rattle.std.proofs.Common.{◌≡◌, List, [], ◌∷◌, ◌++◌, Ok, refl
 use Rattle.sq_lexer.specs.declared.token.Token.{Token}
 use Rattle.sq_mapfile.specs.declared.text.Version.{Version}
 use Rattle.sq_mapfile.specs.declared.text.Version.TheVariants.{First, Second}
-use Rattle.sq_mapfile.specs.Grammar.{number_of}
 use Rattle.sq_lexer.specs.declared.token.Sign.TheVariants as g
 use Rattle.sq_shapes.specs.declared.pattern.Pattern.TheVariants as s
 use Rattle.sq_shapes.proofs.Owing.{Owed, Want, At, Ways, By, Or, wants, run}

@@ -1,5 +1,5 @@
 -- The laws of a mapping that keeps the rules.
-use Rattle.std.proofs.Common.{◌≡◌, ℕ, ◌+◌, ◌^◌, ◌<◌, false, not, eqb, List, [], ◌∷◌, map, length, Option, Some, None, refl, sym, ◌∙◌, ap, subst}
+use Rattle.std.proofs.Common.{◌≡◌, ℕ, ◌+◌, ◌^◌, ◌<◌, false, eqb, List, [], ◌∷◌, map, length, Option, Some, None, refl, sym, ◌∙◌, ap, subst}
 use Rattle.std.specs.Option.{option_map}
 use Rattle.std.specs.List.{slice_get}
 use Rattle.std.proofs.lemmas.Bool.Decides.{Decides-eqb}
@@ -13,19 +13,19 @@ use Rattle.sq_mapfile.specs.declared.mapping.Instance.{Instance}
 use Rattle.sq_mapfile.specs.declared.mapping.Mapping.{Mapping}
 use Rattle.sq_mapfile.specs.declared.text.InstanceText.{InstanceText}
 use Rattle.sq_mapfile.specs.declared.text.MappingText.{MappingText}
-use Rattle.sq_text.specs.Names.{Bytes, same_name}
+use Rattle.sq_text.specs.Names.{same_name}
 use Rattle.sq_mapfile.specs.Names.{level_of, instance_of}
 use Rattle.sq_mapfile.specs.Required.{required_by}
-use Rattle.sq_mapfile.specs.Faults.{Scope, Inside, inside, scope, NameFault, required_of, required_at, level_at, has_call, has_tunable, has_size, missing_call, missing_tunable, missing_size, first_missing, is_below_root, entry_skip}
+use Rattle.sq_mapfile.specs.Faults.{Scope, inside, scope, NameFault, required_of, required_at, level_at, has_call, has_tunable, has_size, missing_call, missing_tunable, missing_size, is_below_root}
 use Rattle.sq_mapfile.specs.Cycles.{CycleFault}
 use Rattle.sq_mapfile.specs.Mappings.{tunings_of}
 use Rattle.sq_mapfile.specs.Resolving.{or_zero, routes_of, instance_with, mapping_with}
 use Rattle.sq_mapfile.specs.Sound.{EachOnce, Exactly, RouteFits, InstanceFits, EntryFits, Sound}
-use Rattle.sq_mapfile.proofs.Kept.{unbroken, none_lacks, ItemsKeep, InstanceKeeps, instance_at, SizesKeep, Keeps, keeps}
+use Rattle.sq_mapfile.proofs.Kept.{unbroken, none_lacks, InstanceKeeps, instance_at, Keeps, keeps}
 use Rattle.sq_mapfile.proofs.Indices.{found_below}
 use Rattle.sq_mapfile.proofs.Once.{names, none_missing}
 use Rattle.sq_mapfile.proofs.Resolved.{level_index}
-use Rattle.sq_mapfile.proofs.Facts.{not_false, Known, known, call_name, tunable_name, size_name, has_call_among, has_tunable_among, has_size_among, route_tasks, tuning_names, set_names, calls_once, tunables_once, sizes_once, instance_name, instance_names, instances_once, calls_known, tunables_known, sizes_known, kinds_fit, leaf_goes_round, reaches, RouteTo, routes_fit}
+use Rattle.sq_mapfile.proofs.Facts.{not_false, Known, known, has_call_among, has_tunable_among, has_size_among, route_tasks, tuning_names, set_names, calls_once, tunables_once, sizes_once, instance_name, instances_once, calls_known, tunables_known, sizes_known, kinds_fit, leaf_goes_round, reaches, RouteTo, routes_fit}
 use Rattle.sq_mapfile.proofs.Paths.{no_cycle}
 
 record Mapped {A B : Type 0} (f : A → B) (xs : List A) (k : ℕ) (y : B) : Type 0 where

@@ -1,23 +1,18 @@
 -- A text whose mapping is sound breaks no rule.
-use Rattle.std.proofs.Common.{◌≡◌, ℕ, zero, suc, ◌+◌, Bool, true, false, not, ◌&&◌, ◌||◌, eqb, ◌⊎◌, inl, inr, List, [], ◌∷◌, map, length, Option, Some, None, is_none, option_map, if◌then◌else◌, refl, sym, ◌∙◌, ap, subst, arith, true≢false}
+use Rattle.std.proofs.Common.{◌≡◌, ℕ, suc, ◌+◌, Bool, true, false, not, ◌&&◌, ◌||◌, eqb, ◌⊎◌, inl, inr, List, [], ◌∷◌, map, Option, Some, None, is_none, option_map, refl, sym, ◌∙◌, ap, subst, arith}
 use Rattle.std.specs.List.{slice_get}
 use Rattle.std.specs.Map.{lookup}
 use Rattle.std.proofs.Math.Bool.{beq}
-use Rattle.std.specs.Cmp.{booleans_Decides}
 use Rattle.std.proofs.lemmas.Bool.Decides.{Decides-eqb}
-use Rattle.std.proofs.lemmas.Option.{slice_get-map}
 use Rattle.sq_text.specs.Names.{Bytes, same_name}
 use Rattle.sq_text.specs.declared.code.Phase.TheVariants as phase
 use Rattle.sq_text.specs.declared.code.Code.{Code}
 use Rattle.sq_text.specs.declared.code.Code.TheVariants as code
 use Rattle.sq_text.specs.declared.fault.Fault.{Fault}
 use Rattle.sq_text.specs.declared.place.Place.{Place}
-use Rattle.sq_text.specs.declared.spread.SpreadRule.{SpreadRule}
 use Rattle.sq_text.specs.declared.word.Word.{Word}
 use Rattle.sq_text.specs.Found.{at_word, at_lack, at_place, BreaksIn}
 use Rattle.sq_ast.specs.declared.program.Program.{Program}
-use Rattle.sq_ast.specs.declared.program.VariantKind.{VariantKind}
-use Rattle.sq_ast.specs.declared.program.VariantKind.TheVariants.{Inner}
 use Rattle.sq_machfile.specs.declared.level.Level.{Level}
 use Rattle.sq_mapfile.specs.declared.mapping.Setting.{Setting}
 use Rattle.sq_mapfile.specs.declared.mapping.Instance.{Instance}
@@ -27,20 +22,22 @@ use Rattle.sq_mapfile.specs.declared.text.ItemText.{ItemText}
 use Rattle.sq_mapfile.specs.declared.text.ItemText.TheVariants.{Tunable, Call, Spread}
 use Rattle.sq_mapfile.specs.declared.text.InstanceText.{InstanceText}
 use Rattle.sq_mapfile.specs.declared.text.MappingText.{MappingText}
-use Rattle.sq_mapfile.specs.Names.{is_among, first_from, at_index, stands_before, index_of, instance_of, has_task, variant_of, level_of, call_index, tunable_index, spread_index, size_index}
+use Rattle.sq_mapfile.specs.Names.{is_among, at_index, stands_before, instance_of, has_task, variant_of}
 use Rattle.sq_mapfile.specs.Required.{Required, required_by}
 use Rattle.sq_mapfile.specs.Faults as f
+use Rattle.sq_mapfile.specs.Notes as notes
+use Rattle.sq_mapfile.proofs.Listed.{listed}
 use Rattle.sq_mapfile.specs.Faults.{Rule, breach_of, Scope, scope, Inside, inside, required_of, required_at, level_at, level_in, is_skip, is_list, is_other, is_other_kind, is_no_tunable, is_no_size, is_uncalled, is_of_other_task, is_below_root, missing_call, missing_tunable, missing_size, is_leaf, has_call, has_tunable, has_size, NameFault}
 use Rattle.sq_mapfile.specs.declared.mapping.Tuning.{Tuning}
 use Rattle.sq_mapfile.specs.declared.mapping.Route.{Route}
 use Rattle.sq_mapfile.specs.declared.mapping.SizeSet.{SizeSet}
 use Rattle.sq_ast.specs.declared.program.Variant.{Variant}
 use Rattle.sq_mapfile.specs.Mappings.{Resolves, SpreadsOnce, IsInstance, AreInstances, none_left, one_more}
-use Rattle.sq_mapfile.specs.Sound.{EachOnce, Exactly, InstanceFits, Sound}
-use Rattle.sq_mapfile.proofs.Once.{itself, names, has_name}
+use Rattle.sq_mapfile.specs.Sound.{EachOnce, InstanceFits, Sound}
+use Rattle.sq_mapfile.proofs.Once.{itself, names}
 use Rattle.sq_mapfile.proofs.Facts.{call_name, tunable_name, size_name, instance_name, call_first, tunable_first, has_call_among, has_tunable_among, has_size_among, tuning_names, set_names}
 use Rattle.sq_mapfile.proofs.Kept.{AllNone}
-use Rattle.sq_mapfile.proofs.Converse.{not_itself, none_named_before, among_at, all_given, task_there, Made, made_at, Text, text_at, tasks_of, RouteAt, route_at, TuningAt, tuning_at}
+use Rattle.sq_mapfile.proofs.Converse.{not_itself, none_named_before, among_at, all_given, task_there, made_at, Text, text_at, tasks_of, route_at, tuning_at}
 
 -- ---- no breach
 
@@ -121,7 +118,7 @@ module _ (program : Program) (levels : List Level) (m : MappingText) (mapping : 
         let t = tuning_at x.items k name setting there in
         fits.kinds t.index (record { name = name.name; setting = setting }) (ap (λ ts. slice_get ts t.index) d.tunings ∙ t.there)
 
-    item_none : (k : ℕ) (y : ItemText) → slice_get x.items k ≡ Some y → (later : List Rule) → AllNone later → AllNone (f.item_rules (inside s x) k y later)
+    item_none : (k : ℕ) (y : ItemText) → slice_get x.items k ≡ Some y → (later : List Rule) → AllNone later → AllNone (notes.item_rules (inside s x) k y later)
     item_none k (Tunable name setting) there later h =
         let again = ap (λ o. stands_before o k) (tunable_first x.items name.name)
         ∙ none_named_before tunable_name x.items (subst EachOnce tunings fits.tunables.once) k (Tunable name setting) name.name there refl in
@@ -157,14 +154,14 @@ module _ (program : Program) (levels : List Level) (m : MappingText) (mapping : 
         )
 
     items_none : (k : ℕ) (rest : List ItemText) → ((j : ℕ) (y : ItemText) → slice_get rest j ≡ Some y → slice_get x.items (k + j) ≡ Some y)
-        → (later : List Rule) → AllNone later → AllNone (f.items_rules (inside s x) k rest later)
+        → (later : List Rule) → AllNone later → AllNone (notes.items_rules (inside s x) k rest later)
     items_none k [] within later h = h
     items_none k (y ∷ rest) within later h =
         let zero_at : k + 0 ≡ k = omega arith in
-        item_none k y (ap (slice_get x.items) (sym zero_at) ∙ within 0 y refl) (f.items_rules (inside s x) (suc k) rest later)
+        item_none k y (ap (slice_get x.items) (sym zero_at) ∙ within 0 y refl) (notes.items_rules (inside s x) (suc k) rest later)
         (items_none (suc k) rest (λ j z there. let next : suc k + j ≡ k + suc j = omega arith in ap (slice_get x.items) next ∙ within (suc j) z there) later h)
 
-    instance_none : (later : List Rule) → AllNone later → AllNone (f.instance_rules s i x later)
+    instance_none : (later : List Rule) → AllNone later → AllNone (notes.instance_rules s i x later)
     instance_none later h =
         let again = none_named_before instance_name m.instances (subst EachOnce (names_made resolves.instances) sound.names) i x x.name.name at refl in
         let calls = ap (λ o. missing_call o x.items) required ∙ all_given (has_call x.items) r.calls call_given in
@@ -192,13 +189,13 @@ module _ (program : Program) (levels : List Level) (m : MappingText) (mapping : 
 
   -- ---- all instances
 
-  instances_none : (k : ℕ) (rest : List InstanceText) → ((j : ℕ) (y : InstanceText) → slice_get rest j ≡ Some y → slice_get m.instances (k + j) ≡ Some y) → AllNone (f.instances_rules s k rest)
+  instances_none : (k : ℕ) (rest : List InstanceText) → ((j : ℕ) (y : InstanceText) → slice_get rest j ≡ Some y → slice_get m.instances (k + j) ≡ Some y) → AllNone (notes.instances_rules s k rest)
   instances_none k [] within = tt
   instances_none k (x ∷ rest) within =
       let zero_at : k + 0 ≡ k = omega arith in
       let at : slice_get m.instances k ≡ Some x = ap (slice_get m.instances) (sym zero_at) ∙ within 0 x refl in
       let made = made_at resolves.instances k x at in
-      instance_none k x at made.instance made.is (sound.instances k made.instance made.there) (f.instances_rules s (suc k) rest)
+      instance_none k x at made.instance made.is (sound.instances k made.instance made.there) (notes.instances_rules s (suc k) rest)
       (instances_none (suc k) rest (λ j z there. let next : suc k + j ≡ k + suc j = omega arith in ap (slice_get m.instances) next ∙ within (suc j) z there))
 
   -- ---- the entry
@@ -219,7 +216,7 @@ module _ (program : Program) (levels : List Level) (m : MappingText) (mapping : 
   entry_required = ap (required_at s) found ∙ ap (option_map required_by) (variant_is entry_text.text sound.entry.entry sound.entry.variant entry_text.is sound.entry.runs)
 
   sizes_none : (k : ℕ) (rest : List SizeText) → ((j : ℕ) (y : SizeText) → slice_get rest j ≡ Some y → slice_get m.sizes (k + j) ≡ Some y)
-      → (later : List Rule) → AllNone later → AllNone (f.sizes_rules (required_at s (instance_of m.instances m.entry.name)) m.sizes k rest later)
+      → (later : List Rule) → AllNone later → AllNone (notes.sizes_rules (required_at s (instance_of m.instances m.entry.name)) m.sizes k rest later)
   sizes_none k [] within later h = h
   sizes_none k (y ∷ rest) within later h =
       let zero_at : k + 0 ≡ k = omega arith in
@@ -237,7 +234,7 @@ module _ (program : Program) (levels : List Level) (m : MappingText) (mapping : 
   size_given : (n : Bytes) → is_among wanted.sizes n ≡ true → has_size m.sizes n ≡ true
   size_given n w = has_size_among m.sizes n ∙ subst (λ ns. is_among ns n ≡ true) sizes_are (sound.entry.sizes.all n w)
 
-  names_none : AllNone (f.name_rules program levels m)
+  names_none : AllNone (notes.name_rules program levels m)
   names_none =
       let root = ap (λ o. is_below_root (level_at s o)) found ∙ (ap is_below_root entry_text.is.level ∙ ap (λ l. not (eqb l 0)) sound.entry.root) in
       let missing = ap (λ o. missing_size o m.sizes) entry_required ∙ all_given (has_size m.sizes) wanted.sizes size_given in (
@@ -246,11 +243,11 @@ module _ (program : Program) (levels : List Level) (m : MappingText) (mapping : 
           no_word code.LevelSkip m.entry _ root,
           (
             no_lack code.SizeMissing m.entry _ missing,
-            sizes_none 0 m.sizes (λ j y there. let e : j ≡ 0 + j = omega arith in ap (slice_get m.sizes) (sym e) ∙ there) (f.instances_rules s 0 m.instances)
+            sizes_none 0 m.sizes (λ j y there. let e : j ≡ 0 + j = omega arith in ap (slice_get m.sizes) (sym e) ∙ there) (notes.instances_rules s 0 m.instances)
                 (instances_none 0 m.instances (λ j y there. let e : j ≡ 0 + j = omega arith in ap (slice_get m.instances) (sym e) ∙ there)),
           ),
         ),
       )
 
   pub no_name_fault : (g : Fault) → NameFault program levels m g → ⊥
-  no_name_fault g h = no_faults (f.name_rules program levels m) names_none g h
+  no_name_fault g h = no_faults (f.name_rules program levels m) (subst AllNone (listed program levels m) names_none) g h

@@ -1,8 +1,7 @@
 -- The walk over the rules, joined from its parts.
-use Rattle.std.proofs.Common.{◌≡◌, ℕ, suc, ◌+◌, ◌<◌, List, [], ◌∷◌, length, drop, get_or, Option, Some, None, refl, sym, ◌∙◌, ap, subst, add-one}
+use Rattle.std.proofs.Common.{◌≡◌, ℕ, suc, ◌+◌, ◌<◌, List, [], ◌∷◌, length, drop, get_or, Option, refl, sym, ◌∙◌, ap, subst, add-one}
 use Rattle.std.proofs.Math.Seq.{drop-cons}
 use Rattle.sq_text.specs.declared.code.Phase.TheVariants.{Mapping}
-use Rattle.sq_text.specs.declared.fault.Fault.{Fault}
 use Rattle.sq_text.specs.Faults.{fault_place, fault_number, IsFirst}
 use Rattle.sq_text.specs.Found.{Found, nothing_found, noted, firsts, Finds}
 use Rattle.sq_text.proofs.Firsts.{first_either}
@@ -14,7 +13,10 @@ use Rattle.sq_mapfile.specs.declared.text.InstanceText.{InstanceText}
 use Rattle.sq_mapfile.specs.declared.text.MappingText.{MappingText}
 use Rattle.sq_mapfile.specs.Names.{level_of}
 use Rattle.sq_mapfile.specs.Required.{Required}
-use Rattle.sq_mapfile.specs.Faults.{Rule, Scope, Inside, breach_of, required_of, item_rules, items_rules, instance_rules, name_rules, NameFault}
+use Rattle.sq_mapfile.specs.Faults.{Rule, Scope, Inside, breach_of, required_of, NameFault}
+use Rattle.sq_mapfile.specs.Faults as faults
+use Rattle.sq_mapfile.proofs.Listed.{listed}
+use Rattle.sq_mapfile.specs.Notes.{item_rules, items_rules, instance_rules, name_rules}
 use Rattle.sq_mapfile.specs.Cycles.{CycleFault}
 use Rattle.sq_mapfile.specs.Mappings.{BreaksRule}
 use Rattle.sq_mapfile.specs.Walk.{name_of_rules, place_of_rules, Joins}
@@ -58,6 +60,6 @@ pub first_rule : (program : Program) (levels : List Level) (m : MappingText) (a 
     → a ≡ firsts breach_of (nothing_found Mapping) (name_rules program levels m) → Joins (CycleFault m) a b → IsFirst (BreaksRule program levels m) b.fault
 first_rule program levels m a b is joins =
     let names : IsFirst (NameFault program levels m) a.fault =
-    subst (λ (f : Found). IsFirst (NameFault program levels m) f.fault) (sym is) (first_breach breach_of Mapping (name_rules program levels m)) in
+    subst (λ (f : Found). IsFirst (NameFault program levels m) f.fault) (sym (is ∙ ap (firsts breach_of (nothing_found Mapping)) (listed program levels m))) (first_breach breach_of Mapping (faults.name_rules program levels m)) in
     subst (λ (f : Found). IsFirst (BreaksRule program levels m) f.fault) (sym joins.is)
     (first_either fault_place fault_number (NameFault program levels m) (CycleFault m) a.fault joins.first names joins.is_first)

@@ -1,5 +1,5 @@
 -- Calls of instances, as a graph, and the calls that lie on a cycle.
-use Rattle.std.specs.Prelude.{◌≡◌, ℕ, suc, List, [], ◌∷◌, Option, Some, None, if◌then◌else◌, slice_get}
+use Rattle.std.specs.Prelude.{◌≡◌, ℕ, List, [], ◌∷◌, Option, Some, None, if◌then◌else◌, slice_get}
 use Rattle.sq_text.specs.declared.code.Phase.TheVariants as phase
 use Rattle.sq_text.specs.declared.code.Code.TheVariants as code
 use Rattle.sq_text.specs.declared.fault.Arg.TheVariants as arg
@@ -8,10 +8,10 @@ use Rattle.sq_text.specs.First.{HoldsIn}
 use Rattle.sq_text.specs.Found.{breach, fault_by}
 use Rattle.sq_text.specs.declared.word.Word.{Word}
 use Rattle.sq_mapfile.specs.declared.text.ItemText.{ItemText}
-use Rattle.sq_mapfile.specs.declared.text.ItemText.TheVariants.{Tunable, Call, Spread}
+use Rattle.sq_mapfile.specs.declared.text.ItemText.TheVariants.{Call}
 use Rattle.sq_mapfile.specs.declared.text.InstanceText.{InstanceText}
 use Rattle.sq_mapfile.specs.declared.text.MappingText.{MappingText}
-use Rattle.sq_mapfile.specs.Names.{stands_before, index_of, call_index}
+use Rattle.sq_mapfile.specs.Names.{of_each, stands_before, index_of, call_index}
 
 -- a call of one instance by another, each counted from 0, and where the callee is named
 pub record CallText : Type 0 where
@@ -19,40 +19,25 @@ pub record CallText : Type 0 where
   pub callee : ℕ
   pub name : Word
 
--- the calls of a part, and then others
-abbrev pub Part : Type 0
-Part = List CallText → List CallText
-
 -- the call of an instance, where there is one of the name
-abbrev pub call_to : ℕ → Option ℕ → Word → Part
-call_to caller None name later = later
-call_to caller (Some callee) name later = record { caller = caller; callee = callee; name = name } ∷ later
+abbrev pub call_to : ℕ → Option ℕ → Word → List CallText
+call_to caller None name = []
+call_to caller (Some callee) name = record { caller = caller; callee = callee; name = name } ∷ []
 
--- the call of the k-th of these items: of two items for one task the first counts
-abbrev pub item_calls : List InstanceText → ℕ → List ItemText → ℕ → ItemText → Part
-item_calls instances caller items k (Tunable name setting) later = later
-item_calls instances caller items k (Call task name) later =
-    if stands_before (call_index items task.name) k then later else call_to caller (index_of instances name.name) name later
-item_calls instances caller items k (Spread word rule) later = later
-
--- those of the items from the k-th on
-abbrev pub items_calls : List InstanceText → ℕ → List ItemText → ℕ → List ItemText → Part
-items_calls instances caller items k [] later = later
-items_calls instances caller items k (x ∷ rest) later = item_calls instances caller items k x (items_calls instances caller items (suc k) rest later)
+-- the call of the k-th item: of two items for one task the first counts
+abbrev pub item_calls : List InstanceText → ℕ → List ItemText → ℕ → ItemText → List CallText
+item_calls instances caller items k (Call task name) =
+    if stands_before (call_index items task.name) k then [] else call_to caller (index_of instances name.name) name
+item_calls instances caller items k _ = []
 
 -- those of the i-th instance: of two instances of a name the first counts
-abbrev pub instance_calls : List InstanceText → ℕ → InstanceText → Part
-instance_calls instances i x later =
-    if stands_before (index_of instances x.name.name) i then later else items_calls instances i x.items 0 x.items later
-
--- those of the instances from the i-th on
-abbrev pub calls_from : List InstanceText → ℕ → List InstanceText → List CallText
-calls_from instances i [] = []
-calls_from instances i (x ∷ rest) = instance_calls instances i x (calls_from instances (suc i) rest)
+abbrev pub instance_calls : List InstanceText → ℕ → InstanceText → List CallText
+instance_calls instances i x =
+    if stands_before (index_of instances x.name.name) i then [] else of_each (item_calls instances i x.items) 0 x.items
 
 -- all calls of these instances, in the order of the text
 abbrev pub calls_among : List InstanceText → List CallText
-calls_among instances = calls_from instances 0 instances
+calls_among instances = of_each (instance_calls instances) 0 instances
 
 abbrev pub calls_of : MappingText → List CallText
 calls_of m = calls_among m.instances

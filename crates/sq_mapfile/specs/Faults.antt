@@ -1,6 +1,6 @@
 -- The table of the rules of a mapping: for each rule its code, place and argument, where it is broken.
 -- A rule that speaks of a name is broken only where the names that it needs are known.
-use Rattle.std.specs.Prelude.{ℕ, suc, ◌==◌, Bool, true, false, not, ◌&&◌, ◌||◌, is_some, is_none, if◌then◌else◌, List, [], ◌∷◌, map, Option, Some, None}
+use Rattle.std.specs.Prelude.{ℕ, suc, ◌==◌, Bool, true, false, not, ◌&&◌, ◌||◌, is_some, is_none, if◌then◌else◌, List, [], ◌∷◌, ◌++◌, map, Option, Some, None}
 use Rattle.std.proofs.Math.Bool.{beq}
 use Rattle.std.specs.Option.{option_map}
 use Rattle.std.specs.Map.{lookup}
@@ -22,7 +22,7 @@ use Rattle.sq_mapfile.specs.declared.text.ItemText.{ItemText}
 use Rattle.sq_mapfile.specs.declared.text.ItemText.TheVariants.{Tunable, Call, Spread}
 use Rattle.sq_mapfile.specs.declared.text.InstanceText.{InstanceText}
 use Rattle.sq_mapfile.specs.declared.text.MappingText.{MappingText}
-use Rattle.sq_mapfile.specs.Names.{is_among, stands_before, index_of, instance_of, tunable_index, call_index, spread_index, size_index, has_task, variant_of, level_of}
+use Rattle.sq_mapfile.specs.Names.{is_among, of_each, stands_before, index_of, instance_of, tunable_index, call_index, spread_index, size_index, has_task, variant_of, level_of}
 use Rattle.sq_mapfile.specs.Required.{Required, required_by}
 
 -- the breach of a rule, where it is broken
@@ -202,10 +202,6 @@ level_in levels (Some x) = level_of levels x.level.name
 abbrev pub level_at : Scope → Option InstanceText → Option ℕ
 level_at s x = level_in s.levels x
 
--- the rules of a part, and then others
-abbrev pub Rules : Type 0
-Rules = List Rule → List Rule
-
 -- what is known where the items of an instance stand
 pub record Inside : Type 0 where
   pub scope : Scope
@@ -218,54 +214,37 @@ abbrev pub inside : Scope → InstanceText → Inside
 inside s x = record { scope = s; required = required_of s x; level = level_of s.levels x.level.name; kind = x.kind; items = x.items }
 
 -- the i-th item
-abbrev pub item_rules : Inside → ℕ → ItemText → Rules
-item_rules n i (Tunable name setting) later =
-    dup_item (tunable_index n.items name.name) i name ∷ tunable_unknown n.required name ∷ tunable_kind n.required name setting ∷ later
-item_rules n i (Call task name) later =
+abbrev pub item_rules : Inside → ℕ → ItemText → List Rule
+item_rules n i (Tunable name setting) =
+    dup_item (tunable_index n.items name.name) i name ∷ tunable_unknown n.required name ∷ tunable_kind n.required name setting ∷ []
+item_rules n i (Call task name) =
     dup_item (call_index n.items task.name) i task ∷ call_unknown n.required task ∷ no_instance n.scope.instances name
-    ∷ call_task (instance_of n.scope.instances name.name) task.name name ∷ level_skip n.level (level_at n.scope (instance_of n.scope.instances name.name)) name ∷ later
-item_rules n i (Spread word rule) later = dup_item (spread_index n.items) i word ∷ spread_leaf n.kind word ∷ later
-
--- the items from the i-th on
-abbrev pub items_rules : Inside → ℕ → List ItemText → Rules
-items_rules n i [] later = later
-items_rules n i (x ∷ rest) later = item_rules n i x (items_rules n (suc i) rest later)
+    ∷ call_task (instance_of n.scope.instances name.name) task.name name ∷ level_skip n.level (level_at n.scope (instance_of n.scope.instances name.name)) name ∷ []
+item_rules n i (Spread word rule) = dup_item (spread_index n.items) i word ∷ spread_leaf n.kind word ∷ []
 
 -- the words before the items of the i-th instance
-abbrev pub head_rules : Scope → Option Required → ℕ → InstanceText → Rules
-head_rules s required i x later =
+abbrev pub head_rules : Scope → Option Required → ℕ → InstanceText → List Rule
+head_rules s required i x =
     dup_instance s.instances i x.name ∷ call_missing required x.name x.items ∷ tunable_missing required x.name x.items
-    ∷ no_task s.variants x.task ∷ no_variant s.variants x.task x.kind ∷ no_level s.levels x.level ∷ later
+    ∷ no_task s.variants x.task ∷ no_variant s.variants x.task x.kind ∷ no_level s.levels x.level ∷ []
 
-abbrev pub instance_rules : Scope → ℕ → InstanceText → Rules
-instance_rules s i x later = head_rules s (required_of s x) i x (items_rules (inside s x) 0 x.items later)
-
--- the instances from the i-th on
-abbrev pub instances_rules : Scope → ℕ → List InstanceText → List Rule
-instances_rules s i [] = []
-instances_rules s i (x ∷ rest) = instance_rules s i x (instances_rules s (suc i) rest)
+abbrev pub instance_rules : Scope → ℕ → InstanceText → List Rule
+instance_rules s i x = head_rules s (required_of s x) i x ++ of_each (item_rules (inside s x)) 0 x.items
 
 -- the i-th size of these
-abbrev pub size_rules : Option Required → List SizeText → ℕ → SizeText → Rules
-size_rules required sizes i size later = dup_item (size_index sizes size.name.name) i size.name ∷ size_unknown required size.name ∷ later
+abbrev pub size_rules : Option Required → List SizeText → ℕ → SizeText → List Rule
+size_rules required sizes i size = dup_item (size_index sizes size.name.name) i size.name ∷ size_unknown required size.name ∷ []
 
--- those from the i-th on
-abbrev pub sizes_rules : Option Required → List SizeText → ℕ → List SizeText → Rules
-sizes_rules required sizes i [] later = later
-sizes_rules required sizes i (size ∷ rest) later = size_rules required sizes i size (sizes_rules required sizes (suc i) rest later)
-
--- the name of the entry, which is this instance where the file has it
-abbrev pub entered_rules : Scope → Option InstanceText → Word → List SizeText → Rules
-entered_rules s entry name sizes later =
-    no_instance s.instances name ∷ entry_skip (level_at s entry) name ∷ size_missing (required_at s entry) name sizes ∷ later
-
-abbrev pub entry_rules : Scope → Option InstanceText → Word → List SizeText → Rules
-entry_rules s entry name sizes later = entered_rules s entry name sizes (sizes_rules (required_at s entry) sizes 0 sizes later)
+-- the name of the entry, which is this instance where the file has it, and its sizes
+abbrev pub entry_rules : Scope → Option InstanceText → Word → List SizeText → List Rule
+entry_rules s entry name sizes =
+    no_instance s.instances name ∷ entry_skip (level_at s entry) name ∷ size_missing (required_at s entry) name sizes
+    ∷ of_each (size_rules (required_at s entry) sizes) 0 sizes
 
 abbrev pub name_rules : Program → List Level → MappingText → List Rule
 name_rules program levels m =
     let s = scope program levels m in
-    entry_rules s (instance_of m.instances m.entry.name) m.entry m.sizes (instances_rules s 0 m.instances)
+    entry_rules s (instance_of m.instances m.entry.name) m.entry m.sizes ++ of_each (instance_rules s) 0 m.instances
 
 -- the breach of each rule is its own
 abbrev pub breach_of : Rule → Option Breach

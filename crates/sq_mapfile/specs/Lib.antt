@@ -1,13 +1,16 @@
 pub mod Names
 pub mod Required
+pub mod Gathering
 pub mod Faults
 pub mod Cycles
 pub mod Grammar
 pub mod Mappings
 pub mod Sound
+pub mod Ranks
 pub mod Reading
 pub mod Resolving
 pub mod Graph
+pub mod Notes
 pub mod Given
 pub mod Scopes
 pub mod Walk

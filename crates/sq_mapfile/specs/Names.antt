@@ -1,5 +1,5 @@
 -- What the names of a mapping stand for: instances and items of the file, variants of the program, levels of the machine.
-use Rattle.std.specs.Prelude.{ℕ, suc, Bool, true, false, ◌&&◌, nat_lt, List, [], ◌∷◌, Option, Some, None, if◌then◌else◌, slice_get}
+use Rattle.std.specs.Prelude.{ℕ, suc, Bool, true, false, ◌&&◌, nat_lt, List, [], ◌∷◌, ◌++◌, Option, Some, None, if◌then◌else◌, slice_get}
 use Rattle.std.specs.Option.{option_and_then}
 use Rattle.std.specs.List.{list_any}
 use Rattle.sq_text.specs.Names.{Bytes, same_name}
@@ -19,6 +19,11 @@ is_among names name = list_any (same_name name) names
 abbrev pub first_from : {A : Type 0} → (A → Bool) → ℕ → List A → Option ℕ
 first_from test i [] = None
 first_from test i (x ∷ rest) = if test x then Some i else first_from test (suc i) rest
+
+-- what is made of each by its index, where the first has index i
+abbrev pub of_each : {A B : Type 0} → (ℕ → A → List B) → ℕ → List A → List B
+of_each made i [] = []
+of_each made i (x ∷ later) = made i x ++ of_each made (suc i) later
 
 -- the item at an index, where there is one
 abbrev pub at_index : {A : Type 0} → List A → Option ℕ → Option A

@@ -1,5 +1,6 @@
 -- What a variant requires of its instances and of the entry: an instance for each task that it calls, a value for each tunable and each size.
-use Rattle.std.specs.Prelude.{Bool, true, false, List, [], ◌∷◌, ◌++◌, map, is_some, if◌then◌else◌}
+use Rattle.std.specs.Prelude.{Bool, true, false, List, [], ◌∷◌, ◌++◌, is_some, if◌then◌else◌}
+use Rattle.std.specs.List.{fold, flat_map}
 use Rattle.std.specs.Map.{lookup}
 use Rattle.sq_ast.specs.declared.stmt.Stmt.{Stmt}
 use Rattle.sq_ast.specs.declared.stmt.Stmt.TheOpen.{Stmt-F}
@@ -15,33 +16,26 @@ use Rattle.sq_ast.specs.declared.program.Variant.{Variant}
 use Rattle.sq_text.specs.Names.{Bytes, same_name}
 use Rattle.sq_mapfile.specs.Names.{is_among}
 
--- these names and one more, each once
+-- these names and one more, if it isn't among them
 abbrev pub with_name : List Bytes → Bytes → List Bytes
 with_name names name = if is_among names name then names else names ++ name ∷ []
 
--- ---- the tasks that are called, each once, in the order of the text
+-- each name once, where it first stands
+abbrev pub each_once : List Bytes → List Bytes
+each_once names = fold with_name [] names
 
--- these names, with those of a part
-abbrev pub Gather : Type 0
-Gather = List Bytes → List Bytes
+-- ---- the tasks that are called, in the order of the text
 
-abbrev pub all_of : List Gather → Gather
-all_of [] names = names
-all_of (part ∷ parts) names = all_of parts (part names)
+abbrev pub tasks_step : Stmt-F (List Bytes) → List Bytes
+tasks_step (Stmt-F.Call c) = c.task ∷ []
+tasks_step (Stmt-F.Map place kind ranges parts) = flat_map (λ part. part) parts
 
-abbrev pub stmt_step : Stmt-F Gather → Gather
-stmt_step (Stmt-F.Call c) names = with_name names c.task
-stmt_step (Stmt-F.Map place kind ranges parts) names = all_of parts names
+abbrev pub tasks_of : Stmt → List Bytes
+tasks_of = fold-Stmt (List Bytes) tasks_step
 
-abbrev pub stmt_calls : Stmt → Gather
-stmt_calls = fold-Stmt Gather stmt_step
-
-abbrev pub stmts_calls : List Stmt → Gather
-stmts_calls list = all_of (map stmt_calls list)
-
-abbrev pub body_calls : Body → List Bytes
-body_calls (body.Inner list) = stmts_calls list []
-body_calls (body.Leaf list) = []
+abbrev pub body_tasks : Body → List Bytes
+body_tasks (body.Inner list) = flat_map tasks_of list
+body_tasks (body.Leaf list) = []
 
 -- ---- tunables
 
@@ -49,26 +43,23 @@ body_calls (body.Leaf list) = []
 abbrev pub Tunables : Type 0
 Tunables = List (Bytes × Bool)
 
+abbrev pub tunables_of : Decl → Tunables
+tunables_of (decl.Tunable place name) = (name, false) ∷ []
+tunables_of (decl.List place name) = (name, true) ∷ []
+tunables_of _ = []
+
 -- of two declarations of a name the first counts
 abbrev pub with_tunable : Tunables → Bytes → Bool → Tunables
 with_tunable known name is_list = if is_some (lookup (same_name name) known) then known else known ++ (name, is_list) ∷ []
 
-abbrev pub decls_tunables : List Decl → Tunables → Tunables
-decls_tunables [] known = known
-decls_tunables (decl.Tunable place name ∷ rest) known = decls_tunables rest (with_tunable known name false)
-decls_tunables (decl.List place name ∷ rest) known = decls_tunables rest (with_tunable known name true)
-decls_tunables (_ ∷ rest) known = decls_tunables rest known
+-- ---- the size names of the parameters, in the order of the text
 
--- ---- the size names of the parameters, each once, in the order of the text
+abbrev pub extent_sizes : Extent → List Bytes
+extent_sizes (extent.Size place name) = name ∷ []
+extent_sizes (extent.Fixed place n) = []
 
-abbrev pub extents_sizes : List Extent → Gather
-extents_sizes [] names = names
-extents_sizes (extent.Size place name ∷ rest) names = extents_sizes rest (with_name names name)
-extents_sizes (extent.Fixed place n ∷ rest) names = extents_sizes rest names
-
-abbrev pub params_sizes : List Param → Gather
-params_sizes [] names = names
-params_sizes (p ∷ rest) names = params_sizes rest (extents_sizes p.extents names)
+abbrev pub sizes_of : Param → List Bytes
+sizes_of p = flat_map extent_sizes p.extents
 
 -- ----
 
@@ -78,4 +69,8 @@ pub record Required : Type 0 where
   pub sizes : List Bytes
 
 abbrev pub required_by : Variant → Required
-required_by v = record { calls = body_calls v.body; tunables = decls_tunables v.decls []; sizes = params_sizes v.params [] }
+required_by v = record {
+  calls = each_once (body_tasks v.body);
+  tunables = fold (λ known t. with_tunable known t.0 t.1) [] (flat_map tunables_of v.decls);
+  sizes = each_once (flat_map sizes_of v.params);
+}

@@ -2,8 +2,8 @@
 
 ghost use Rattle.std.specs.Prelude.{◌≡◌, ℕ, IfOk, OnOk, All};
 ghost use Rattle.sq_mapfile.specs.Names.{index_of};
-ghost use Rattle.sq_mapfile.specs.Cycles.{call_to, item_calls, items_calls, instance_calls, calls_among};
-ghost use Rattle.sq_mapfile.specs.Graph.{Adds, IsWithin};
+ghost use Rattle.sq_mapfile.specs.Cycles.{calls_among};
+ghost use Rattle.sq_mapfile.specs.Graph.{Adds, IsWithin, call_to, item_calls, items_calls, instance_calls, gathered};
 
 use crate::given::ItemTable;
 use crate::rules::stands_before;
@@ -108,7 +108,7 @@ fn instance_calls<'a>(
 }
 
 fn all_calls<'a>(alloc: Global, table: &InstanceTable<'a>) -> Result<Vec<Call<'a>>, AllocError>
-    ensures { IfOk result (λ calls. calls.items ≡ calls_among table.now.instances.now) }
+    ensures { IfOk result (λ calls. calls.items ≡ gathered table.now.instances.now) }
 {
     let mut calls = Vec::new(alloc);
     for (i, instance) in table.instances.iter().enumerate() {
@@ -126,7 +126,7 @@ pub struct CallList<'a> {
 }
 
 impl<'a> CallList<'a> {
-    #[tactic(auto, using(crate::proofs::Gathered::all_within))]
+    #[tactic(auto, using(crate::proofs::Gathered::all_within, crate::proofs::Listed::gathered_listed))]
     pub fn new(alloc: Global, table: &InstanceTable<'a>) -> Result<CallList<'a>, AllocError>
         ensures { IfOk result (λ list. list.calls.items ≡ calls_among table.now.instances.now) }
     {

@@ -4,8 +4,8 @@ ghost use Rattle.std.specs.Prelude.{◌≡◌, OnOk};
 ghost use Rattle.std.specs.Option.{option_copied};
 ghost use Rattle.sq_text.specs.Found.{Finds};
 ghost use Rattle.sq_mapfile.specs.Names.{instance_of};
-ghost use Rattle.sq_mapfile.specs.Faults as spec;
-ghost use Rattle.sq_mapfile.specs.Faults.{breach_of};
+ghost use Rattle.sq_mapfile.specs.Notes as spec;
+ghost use Rattle.sq_mapfile.specs.Faults.{breach_of, required_at};
 ghost use Rattle.sq_mapfile.specs.Scopes.{scope_of};
 
 use crate::given::SizeTable;
@@ -54,7 +54,7 @@ fn entered(
     name: &Word,
     sizes: &SizeTable<'_>,
 ) -> Result<(), AllocError>
-    requires { option_copied required ≡ spec.required_at (scope_of scope.now) (instance_of (scope_of scope.now).instances name.now.name) }
+    requires { option_copied required ≡ required_at (scope_of scope.now) (instance_of (scope_of scope.now).instances name.now.name) }
     ensures { OnOk result (Finds breach_of found.old found.new (spec.entered_rules (scope_of scope.now) (instance_of (scope_of scope.now).instances name.now.name) name.now sizes.now.sizes.now)) }
 {
     let is_unknown = scope.index(&name.name).is_none();

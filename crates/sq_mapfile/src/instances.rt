@@ -3,7 +3,7 @@
 ghost use Rattle.std.specs.Prelude.{◌≡◌, OnOk};
 ghost use Rattle.std.specs.Option.{option_copied};
 ghost use Rattle.sq_text.specs.Found.{firsts, Finds};
-ghost use Rattle.sq_mapfile.specs.Faults as spec;
+ghost use Rattle.sq_mapfile.specs.Notes as spec;
 ghost use Rattle.sq_mapfile.specs.Faults.{breach_of};
 ghost use Rattle.sq_mapfile.specs.Scopes.{scope_of};
 ghost use Rattle.sq_mapfile.specs.Walk.{name_of_rules, place_of_rules};
@@ -76,7 +76,7 @@ fn instance(
     Ok(())
 }
 
-/// All instances.
+/// Notes what the instances of a file break, in the order of the text.
 pub fn instances(
     alloc: Global,
     found: &mut FirstFault,

@@ -3,7 +3,7 @@
 ghost use Rattle.std.specs.Prelude.{◌≡◌, OnOk};
 ghost use Rattle.std.specs.Option.{option_copied};
 ghost use Rattle.sq_text.specs.Found.{Finds};
-ghost use Rattle.sq_mapfile.specs.Faults as spec;
+ghost use Rattle.sq_mapfile.specs.Notes as spec;
 ghost use Rattle.sq_mapfile.specs.Faults.{breach_of};
 ghost use Rattle.sq_mapfile.specs.Walk.{inside_of, tunable_rules, called_rules, callee_rules, spread_rules};
 

@@ -9,6 +9,7 @@ mod given;
 mod graph;
 mod instances;
 mod items;
+pub mod laws;
 mod mapping;
 mod ranks;
 mod reader;

@@ -6,6 +6,7 @@ ghost use Rattle.std.specs.Option.{option_copied};
 ghost use Rattle.sq_text.specs.Names.{same_name};
 ghost use Rattle.sq_mapfile.specs.Names.{is_among};
 ghost use Rattle.sq_mapfile.specs.Faults.{first_missing, has_tunable};
+ghost use Rattle.sq_mapfile.specs.Gathering as gather;
 ghost use Rattle.sq_mapfile.specs.Required as spec;
 
 use crate::given::ItemTable;
@@ -48,7 +49,7 @@ fn enter(alloc: Global, names: &mut IndexSet<Name>, name: &Name) -> Result<(), A
 #[cycle(calls)]
 #[tactic(auto, using(crate::proofs::OpenedCalls::opened_calls))]
 fn stmt_calls(alloc: Global, names: &mut IndexSet<Name>, s: &Stmt) -> Result<(), AllocError>
-    ensures { OnOk result (names.new.keys ≡ spec.stmt_calls s.now names.old.keys) }
+    ensures { OnOk result (names.new.keys ≡ gather.stmt_calls s.now names.old.keys) }
 {
     match s {
         Stmt::Call(c) => {
@@ -64,7 +65,7 @@ fn stmt_calls(alloc: Global, names: &mut IndexSet<Name>, s: &Stmt) -> Result<(),
 
 #[cycle(calls)]
 fn stmts_calls(alloc: Global, names: &mut IndexSet<Name>, list: &[Stmt]) -> Result<(), AllocError>
-    ensures { OnOk result (names.new.keys ≡ spec.stmts_calls list.now names.old.keys) }
+    ensures { OnOk result (names.new.keys ≡ gather.stmts_calls list.now names.old.keys) }
 {
     for s in list {
         stmt_calls(alloc, names, s)?;
@@ -73,7 +74,7 @@ fn stmts_calls(alloc: Global, names: &mut IndexSet<Name>, list: &[Stmt]) -> Resu
 }
 
 fn body_calls(alloc: Global, body: &Body) -> Result<IndexSet<Name>, AllocError>
-    ensures { IfOk result (λ names. names.keys ≡ spec.body_calls body.now) }
+    ensures { IfOk result (λ names. names.keys ≡ gather.body_calls body.now) }
 {
     let mut names = IndexSet::new(alloc);
     match body {
@@ -104,7 +105,7 @@ fn enter_tunable(
 }
 
 fn tunables(alloc: Global, decls: &[Decl]) -> Result<IndexMap<Name, bool>, AllocError>
-    ensures { IfOk result (λ known. known.entries ≡ spec.decls_tunables decls.now []) }
+    ensures { IfOk result (λ known. known.entries ≡ gather.decls_tunables decls.now []) }
 {
     let mut known = IndexMap::new(alloc);
     for decl in decls {
@@ -122,7 +123,7 @@ fn extents_sizes(
     names: &mut IndexSet<Name>,
     extents: &[Extent],
 ) -> Result<(), AllocError>
-    ensures { OnOk result (names.new.keys ≡ spec.extents_sizes extents.now names.old.keys) }
+    ensures { OnOk result (names.new.keys ≡ gather.extents_sizes extents.now names.old.keys) }
 {
     for extent in extents {
         match extent {
@@ -136,7 +137,7 @@ fn extents_sizes(
 }
 
 fn sizes(alloc: Global, params: &[Param]) -> Result<IndexSet<Name>, AllocError>
-    ensures { IfOk result (λ names. names.keys ≡ spec.params_sizes params.now []) }
+    ensures { IfOk result (λ names. names.keys ≡ gather.params_sizes params.now []) }
 {
     let mut names = IndexSet::new(alloc);
     for p in params {
@@ -146,6 +147,7 @@ fn sizes(alloc: Global, params: &[Param]) -> Result<IndexSet<Name>, AllocError>
 }
 
 impl Required {
+    #[tactic(auto, using(crate::proofs::Onces::gathered_once))]
     pub fn new(alloc: Global, variant: &Variant) -> Result<Required, AllocError>
         ensures { IfOk result (λ r. r ≡ spec.required_by variant.now) }
     {

@@ -2,7 +2,8 @@
 
 ghost use Rattle.std.specs.Prelude.{◌≡◌, OnOk};
 ghost use Rattle.sq_text.specs.Found.{firsts};
-ghost use Rattle.sq_mapfile.specs.Faults.{breach_of, name_rules};
+ghost use Rattle.sq_mapfile.specs.Faults.{breach_of};
+ghost use Rattle.sq_mapfile.specs.Notes.{name_rules};
 
 use crate::entry::entry;
 use crate::instances::instances;

@@ -1,6 +1,7 @@
 use Rattle.std.proofs.Common.{◌∙◌, ap}
 use Rattle.sq_text.specs.Found.{firsts}
-use Rattle.sq_machfile.specs.Faults.{judge, level_rules, after_children}
+use Rattle.sq_machfile.specs.Faults.{judge}
+use Rattle.sq_machfile.specs.Walk.{level_rules, after_children}
 use Rattle.sq_machfile.specs.Tallies.{capped, count_of}
 use Rattle.sq_machfile.proofs.even.below_rules.Goals as goal
 

@@ -1,6 +1,5 @@
-use Rattle.std.proofs.Common.{◌≡◌, ap}
-use Rattle.sq_machfile.specs.Faults.{Count}
-use Rattle.sq_machfile.specs.Tallies.{capped, count_of, names_in}
+use Rattle.std.proofs.Common.{ap}
+use Rattle.sq_machfile.specs.Tallies.{count_of, names_in}
 use Rattle.sq_machfile.proofs.Walks.{even_start, even_turn}
 use Rattle.sq_machfile.proofs.even.first_fault.Goals as goal
 

@@ -1,7 +1,8 @@
-use Rattle.std.proofs.Common.{◌≡◌, List, suc, drop}
+use Rattle.std.proofs.Common.{◌≡◌, suc, drop}
 use Rattle.sq_text.specs.declared.code.Phase.TheVariants.{Machine}
 use Rattle.sq_text.specs.Found.{firsts, nothing_found}
-use Rattle.sq_machfile.specs.Faults.{judge, below_rules, levels_rules}
+use Rattle.sq_machfile.specs.Faults.{judge}
+use Rattle.sq_machfile.specs.Walk.{below_rules, levels_rules}
 use Rattle.sq_machfile.specs.Tallies.{capped, count_of}
 use Rattle.sq_machfile.proofs.even.first_fault.Given as goal
 

@@ -1,7 +1,8 @@
 use Rattle.std.proofs.Common.{◌∷◌, ◌∙◌, ap}
 use Rattle.sq_text.specs.declared.code.Code.TheVariants.{LimitCapacity}
 use Rattle.sq_text.specs.Found.{firsts, noted, at_numeral}
-use Rattle.sq_machfile.specs.Faults.{judge, is_over_capacity, bytes_with}
+use Rattle.sq_machfile.specs.Faults.{judge, is_over_capacity}
+use Rattle.sq_machfile.specs.Walk.{bytes_with}
 use Rattle.sq_machfile.specs.Tallies.{capped, count_of}
 use Rattle.sq_machfile.proofs.even.level_rules.Goals as goal
 

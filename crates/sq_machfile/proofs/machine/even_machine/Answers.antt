@@ -1,5 +1,4 @@
-use Rattle.std.proofs.Common.{◌≡◌, ◌∙◌, ap, Some, None, subst}
-use Rattle.sq_text.specs.declared.fault.Fault.{Fault}
+use Rattle.std.proofs.Common.{◌∙◌, ap, subst}
 use Rattle.sq_text.specs.Faults.{IsFirst}
 use Rattle.sq_machfile.specs.declared.text.MachineText.TheVariants.{Levels}
 use Rattle.sq_machfile.specs.Faults.{LimitFault}

@@ -1,4 +1,4 @@
-use Rattle.std.proofs.Common.{◌≡◌, ◌≤◌, ◌∙◌, ap, Some, None, length, subst, arith}
+use Rattle.std.proofs.Common.{◌≡◌, ◌≤◌, ◌∙◌, ap, length, subst, arith}
 use Rattle.sq_text.specs.Faults.{IsFirst}
 use Rattle.sq_machfile.specs.declared.text.MachineText.TheVariants.{Nodes}
 use Rattle.sq_machfile.specs.Faults.{LimitFault}

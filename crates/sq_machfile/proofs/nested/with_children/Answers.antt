@@ -1,4 +1,4 @@
-use Rattle.std.proofs.Common.{◌≡◌, ◌<◌, suc, ◌∙◌, ap, arith, get_or, length}
+use Rattle.std.proofs.Common.{◌<◌, suc, ◌∙◌, ap, arith, get_or, length}
 use Rattle.sq_machfile.proofs.Walks.{popped_start, popped_turn, popped_none, popped_all}
 use Rattle.sq_machfile.proofs.nested.with_children.Goals as goal
 use Rattle.sq_machfile.proofs.nested.with_children.Goals.{in-Some+in_ok-children+in_ok-push+in_ok-count, in_default}

@@ -1,6 +1,6 @@
-use Rattle.std.proofs.Common.{◌≡◌, ◌<◌, rules, arith, sym, ◌∙◌}
+use Rattle.std.proofs.Common.{◌<◌, rules, arith, sym, ◌∙◌}
 use Rattle.std.proofs.lemmas.Grind.{common_steps}
-use Rattle.sq_machfile.proofs.Walks.{no_node_open, brace_turn, node_turn, not_closed}
+use Rattle.sq_machfile.proofs.Walks.{no_node_open, brace_turn, node_turn}
 use Rattle.sq_machfile.proofs.reading.nodes_of.Goals as goal
 use Rattle.sq_machfile.proofs.reading.nodes_of.Goals.{then-sees+in_ok-_brace, else-sees+in_ok-node+in_ok-push-2+in_ok-depth}
 

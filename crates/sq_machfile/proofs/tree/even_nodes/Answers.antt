@@ -1,4 +1,4 @@
-use Rattle.std.proofs.Common.{◌≡◌, ◌+◌, rules, arith, ap}
+use Rattle.std.proofs.Common.{◌+◌, arith, ap}
 use Rattle.sq_machfile.proofs.Walks.{even_room, even_put, even_next}
 use Rattle.sq_machfile.proofs.tree.even_nodes.Goals as goal
 

@@ -1,5 +1,4 @@
-use Rattle.std.proofs.Common.{◌≡◌, List, ◌++◌, ◌+◌, ◌-◌, ◌≤◌, drop, length, replicate}
-use Rattle.sq_machfile.specs.declared.node.Node.{Node}
+use Rattle.std.proofs.Common.{◌≡◌, ◌++◌, ◌+◌, drop}
 use Rattle.sq_machfile.specs.Nodes.{total, children_of, linked}
 use Rattle.sq_machfile.specs.Machines.{even_nodes}
 use Rattle.sq_machfile.proofs.tree.even_nodes.Given as goal

@@ -1,4 +1,4 @@
-use Rattle.std.proofs.Common.{◌≡◌, rules, arith}
+use Rattle.std.proofs.Common.{arith}
 use Rattle.sq_machfile.proofs.Walks.{depth_room, depth_put, depth_next}
 use Rattle.sq_machfile.proofs.tree.uneven_nodes.Goals as goal
 

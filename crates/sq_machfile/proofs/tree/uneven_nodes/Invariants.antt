@@ -1,5 +1,4 @@
-use Rattle.std.proofs.Common.{◌≡◌, List, ◌++◌, ◌+◌, ◌-◌, ◌≤◌, drop, length, replicate}
-use Rattle.sq_machfile.specs.declared.node.Node.{Node}
+use Rattle.std.proofs.Common.{◌≡◌, ◌++◌, ◌+◌, ◌-◌}
 use Rattle.sq_machfile.specs.Nodes.{total, children_of, linked}
 use Rattle.sq_machfile.specs.Machines.{by_level}
 use Rattle.sq_machfile.proofs.tree.uneven_nodes.Given as goal

@@ -1,6 +1,7 @@
-use Rattle.std.proofs.Common.{◌≡◌, ap}
+use Rattle.std.proofs.Common.{ap}
 use Rattle.sq_text.specs.Found.{firsts}
-use Rattle.sq_machfile.specs.Faults.{judge, all_node_rules}
+use Rattle.sq_machfile.specs.Faults.{judge}
+use Rattle.sq_machfile.specs.Walk.{all_node_rules}
 use Rattle.sq_machfile.specs.Tallies.{capped, names_in}
 use Rattle.sq_machfile.proofs.uneven.all_node_rules.Goals as goal
 

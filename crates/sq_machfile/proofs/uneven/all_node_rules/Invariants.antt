@@ -1,7 +1,7 @@
-use Rattle.std.proofs.Common.{◌≡◌, List, suc, drop}
-use Rattle.sq_text.specs.declared.code.Phase.TheVariants.{Machine}
-use Rattle.sq_text.specs.Found.{firsts, nothing_found}
-use Rattle.sq_machfile.specs.Faults.{judge, before_nodes, all_node_rules}
+use Rattle.std.proofs.Common.{◌≡◌, drop}
+use Rattle.sq_text.specs.Found.{firsts}
+use Rattle.sq_machfile.specs.Faults.{judge}
+use Rattle.sq_machfile.specs.Walk.{before_nodes, all_node_rules}
 use Rattle.sq_machfile.specs.Tallies.{capped, node_count_of}
 use Rattle.sq_machfile.proofs.uneven.all_node_rules.Given as goal
 

@@ -1,6 +1,7 @@
-use Rattle.std.proofs.Common.{◌≡◌, ap}
+use Rattle.std.proofs.Common.{ap}
 use Rattle.sq_text.specs.Found.{firsts}
-use Rattle.sq_machfile.specs.Faults.{judge, names_rules}
+use Rattle.sq_machfile.specs.Faults.{judge}
+use Rattle.sq_machfile.specs.Walk.{names_rules}
 use Rattle.sq_machfile.specs.Tallies.{names_in}
 use Rattle.sq_machfile.proofs.uneven.level_names.Goals as goal
 

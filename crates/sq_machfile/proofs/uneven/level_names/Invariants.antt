@@ -1,7 +1,7 @@
-use Rattle.std.proofs.Common.{◌≡◌, List, suc, drop}
-use Rattle.sq_text.specs.declared.code.Phase.TheVariants.{Machine}
-use Rattle.sq_text.specs.Found.{firsts, nothing_found}
-use Rattle.sq_machfile.specs.Faults.{judge, Rule, no_names, names_rules}
+use Rattle.std.proofs.Common.{◌≡◌, List, drop}
+use Rattle.sq_text.specs.Found.{firsts}
+use Rattle.sq_machfile.specs.Faults.{judge, Rule}
+use Rattle.sq_machfile.specs.Walk.{no_names, names_rules}
 use Rattle.sq_machfile.specs.Tallies.{names_in}
 use Rattle.sq_machfile.proofs.uneven.level_names.Given as goal
 

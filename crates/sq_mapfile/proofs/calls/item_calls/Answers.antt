@@ -1,6 +1,6 @@
 use Rattle.std.proofs.Common.{sym, ◌∙◌, ap, subst}
 use Rattle.sq_mapfile.specs.Names.{stands_before}
-use Rattle.sq_mapfile.specs.Cycles.{item_calls}
+use Rattle.sq_mapfile.specs.Graph.{item_calls}
 use Rattle.sq_mapfile.specs.Graph.{Adds}
 use Rattle.sq_mapfile.proofs.Gathered.{one_call}
 use Rattle.sq_mapfile.proofs.calls.item_calls.Goals as goal

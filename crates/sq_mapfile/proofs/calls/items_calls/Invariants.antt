@@ -1,5 +1,6 @@
 use Rattle.std.proofs.Common.{◌≡◌, ◌++◌, List, drop}
-use Rattle.sq_mapfile.specs.Cycles.{CallText, items_calls}
+use Rattle.sq_mapfile.specs.Cycles.{CallText}
+use Rattle.sq_mapfile.specs.Graph.{items_calls}
 use Rattle.sq_mapfile.proofs.calls.items_calls.Given as goal
 
 abbrev pub invariant-loop-k : goal.invariant-loop-k

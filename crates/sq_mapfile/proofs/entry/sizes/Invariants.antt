@@ -1,7 +1,8 @@
 use Rattle.std.proofs.Common.{◌≡◌, List, drop}
 use Rattle.std.specs.Option.{option_copied}
 use Rattle.sq_text.specs.Found.{firsts}
-use Rattle.sq_mapfile.specs.Faults.{Rule, breach_of, sizes_rules}
+use Rattle.sq_mapfile.specs.Faults.{Rule, breach_of}
+use Rattle.sq_mapfile.specs.Notes.{sizes_rules}
 use Rattle.sq_mapfile.proofs.entry.sizes.Given as goal
 
 abbrev pub invariant-loop-i : goal.invariant-loop-i

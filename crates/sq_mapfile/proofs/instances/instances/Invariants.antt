@@ -1,6 +1,7 @@
 use Rattle.std.proofs.Common.{◌≡◌, drop}
 use Rattle.sq_text.specs.Found.{firsts}
-use Rattle.sq_mapfile.specs.Faults.{breach_of, instances_rules}
+use Rattle.sq_mapfile.specs.Faults.{breach_of}
+use Rattle.sq_mapfile.specs.Notes.{instances_rules}
 use Rattle.sq_mapfile.specs.Scopes.{scope_of}
 use Rattle.sq_mapfile.proofs.instances.instances.Given as goal
 

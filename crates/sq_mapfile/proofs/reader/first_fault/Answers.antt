@@ -1,9 +1,10 @@
-use Rattle.std.proofs.Common.{◌≡◌, ◌∙◌, sym, ap, subst}
+use Rattle.std.proofs.Common.{◌∙◌, sym, ap, subst}
 use Rattle.sq_text.specs.declared.code.Phase.TheVariants.{Mapping}
 use Rattle.sq_text.specs.First.{HoldsIn}
 use Rattle.sq_text.specs.Faults.{IsFirst}
 use Rattle.sq_text.specs.Found.{Found, nothing_found, firsts}
-use Rattle.sq_mapfile.specs.Faults.{breach_of, name_rules}
+use Rattle.sq_mapfile.specs.Faults.{breach_of}
+use Rattle.sq_mapfile.specs.Notes.{name_rules}
 use Rattle.sq_mapfile.specs.Cycles.{IsOnCycle, calls_among}
 use Rattle.sq_mapfile.specs.Mappings.{BreaksRule}
 use Rattle.sq_mapfile.specs.Walk.{Joins}

@@ -1,5 +1,5 @@
 use Rattle.std.proofs.Common.{◌≡◌, drop}
-use Rattle.sq_mapfile.specs.Required as spec
+use Rattle.sq_mapfile.specs.Gathering as spec
 use Rattle.sq_mapfile.proofs.required.+calls.Given as goal
 
 abbrev pub invariant-stmts_calls-loop-s : goal.invariant-stmts_calls-loop-s

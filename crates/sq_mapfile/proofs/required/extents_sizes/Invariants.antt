@@ -1,5 +1,5 @@
 use Rattle.std.proofs.Common.{◌≡◌, drop}
-use Rattle.sq_mapfile.specs.Required as spec
+use Rattle.sq_mapfile.specs.Gathering as spec
 use Rattle.sq_mapfile.proofs.required.extents_sizes.Given as goal
 
 abbrev pub invariant-loop-extent : goal.invariant-loop-extent

@@ -1,5 +1,5 @@
 use Rattle.std.proofs.Common.{◌≡◌, [], drop}
-use Rattle.sq_mapfile.specs.Required as spec
+use Rattle.sq_mapfile.specs.Gathering as spec
 use Rattle.sq_mapfile.proofs.required.tunables.Given as goal
 
 abbrev pub invariant-loop-decl : goal.invariant-loop-decl

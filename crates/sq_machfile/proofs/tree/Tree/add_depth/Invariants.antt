@@ -1,4 +1,4 @@
-use Rattle.std.proofs.Common.{◌≡◌, List, ◌++◌, ◌+◌, ◌-◌, ◌≤◌, drop, length, replicate}
+use Rattle.std.proofs.Common.{◌≡◌, List, ◌++◌, ◌+◌, drop}
 use Rattle.sq_machfile.specs.declared.node.Node.{Node}
 use Rattle.sq_machfile.specs.Nodes.{total, children_of, linked}
 use Rattle.sq_machfile.specs.Machines.{nodes_of_depth}

@@ -1,6 +1,7 @@
 use Rattle.std.proofs.Common.{sym, ◌∙◌, ap}
 use Rattle.sq_text.specs.Found.{firsts}
-use Rattle.sq_mapfile.specs.Faults.{breach_of, item_rules}
+use Rattle.sq_mapfile.specs.Faults.{breach_of}
+use Rattle.sq_mapfile.specs.Notes.{item_rules}
 use Rattle.sq_mapfile.specs.Walk.{inside_of, callee_rules}
 use Rattle.sq_mapfile.proofs.items.Inside.item.Goals as goal
 

@@ -1,6 +1,7 @@
 use Rattle.std.proofs.Common.{◌≡◌, List, drop}
 use Rattle.sq_text.specs.Found.{firsts}
-use Rattle.sq_mapfile.specs.Faults.{Rule, breach_of, items_rules}
+use Rattle.sq_mapfile.specs.Faults.{Rule, breach_of}
+use Rattle.sq_mapfile.specs.Notes.{items_rules}
 use Rattle.sq_mapfile.specs.Walk.{inside_of}
 use Rattle.sq_mapfile.proofs.items.Inside.items.Given as goal
 

@@ -1,0 +1,20 @@
+-- The limits of machines.
+use Rattle.std.specs.Prelude.{ℕ, ◌^◌}
+
+abbrev pub most_levels : ℕ
+most_levels = 8
+
+abbrev pub most_nodes : ℕ
+most_nodes = 4096
+
+-- of a node
+abbrev pub most_children : ℕ
+most_children = 64
+
+-- of a node, in bytes
+abbrev pub most_capacity : ℕ
+most_capacity = 2 ^ 30
+
+-- of all nodes together
+abbrev pub most_bytes : ℕ
+most_bytes = 2 ^ 31
