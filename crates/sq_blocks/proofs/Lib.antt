@@ -1,0 +1,7 @@
+pub mod Bound
+pub mod Opened
+pub mod Fits
+pub mod BlocksHold
+pub mod ChopsHold
+pub mod PublicHold
+pub mod Insides

@@ -1,0 +1,4 @@
+pub mod Names
+pub mod Constants
+pub mod Blocks
+pub mod Spans

@@ -1,0 +1,17 @@
+pub mod Tree
+pub mod Runs
+pub mod Unordered
+pub mod Footprints
+pub mod Scopes
+pub mod FirstOrder
+pub mod Orders
+pub mod Events
+pub mod EventOrders
+pub mod Lifting
+pub mod Written
+pub mod Machines
+pub mod Plans
+pub mod PlanLaws
+pub mod Examples
+pub mod Ready
+pub mod Closed

@@ -1,0 +1,79 @@
+//! What holds of the runs of a plan under every order of picks, and which small plans are good.
+
+ghost use Rattle.std.specs.Prelude.{◌≡◌, ℕ};
+ghost use Rattle.sq_ir.specs.declared.num.Num.{Num};
+ghost use Rattle.sq_ir.specs.Tree.{Tree, IsNormal};
+ghost use Rattle.sq_ir.specs.Unordered.{IsFresh};
+ghost use Rattle.sq_ir.specs.Closed.{AreReached};
+ghost use Rattle.sq_ir.specs.Ready.{AreNumbered};
+ghost use Rattle.sq_ir.specs.Events.{Leaves};
+ghost use Rattle.sq_ir.specs.Lifting.{lift};
+ghost use Rattle.sq_ir.specs.Written.{Setting, Env, at_turn, value_of};
+ghost use Rattle.sq_ir.specs.Plans.{IsGood};
+ghost use Rattle.sq_ir.specs.Examples.{doubling, CallsALeaf, OnlyClashes, OnlyTooLong, OnlyOverlaps, OnlyDivides};
+ghost use Rattle.sq_ir.specs.Orders.{EndsByForm, EndsAsFirst, EachOnce, HasFirst, HoldsInRuns, ApartCommute};
+ghost use Rattle.sq_ir.specs.EventOrders.{AreLocal, AreReorderable, EndAlike};
+ghost use Rattle.sq_ir.specs.PlanLaws.{HaveOneResult, EndByForm, HaveRuns, PerformOnce, StayInside, KeepRoom, HaveRoomAlways};
+
+/// The events of a tree that have a number are those that wait while no event that isn't finished is before them; each
+/// has one number, and they are numbered from left to right.
+pub fn ready_events_are_numbered<Event, Scope>()
+    ensures { (t : Tree Event Scope) → AreNumbered t }
+{}
+
+/// Whichever events of a plan are finished, if with each of them those before it are: some turns lead there, in each of
+/// which a ready event finishes. So what is asked of every state that turns reach is asked of all these.
+pub fn closed_sets_are_reached<Event, Scope>()
+    ensures { (t : Tree Event Scope) → IsNormal t → IsFresh t → AreReached t }
+{}
+
+/// Of a plan whose unordered events may be performed in either order, each run that is over ends with the trap of the
+/// run under picks 0, or with none and then with the same bytes. There is such a run, and no run performs an event
+/// twice. Events, scopes, addresses and causes of traps are of any types, and events have any meaning that keeps to
+/// their footprints.
+pub fn every_order_ends_as_the_first<Event, Scope, Address, Cause>()
+    ensures by_form { EndsByForm Event Scope Address Cause }
+    ensures as_first { EndsAsFirst Event Scope Address Cause }
+    ensures once { EachOnce Event Scope Address Cause }
+    ensures first { HasFirst Event Scope Address Cause }
+    ensures states { HoldsInRuns Event Scope Address Cause }
+    ensures apart { ApartCommute Event Address Cause }
+{}
+
+/// The events of plans keep to their footprints, whatever the leaves do. Where any two unordered events of a plan are
+/// independent they may be performed in either order, so all of its runs have one result.
+pub fn independent_events_have_one_result<Cause>()
+    ensures local { AreLocal Cause }
+    ensures reorderable { AreReorderable Cause }
+    ensures result { EndAlike Cause }
+{}
+
+/// Each run of a good plan ends with the trap of the run under picks 0, or with none and then with the same bytes in
+/// every node, whatever the leaves do; there is such a run, and no event is performed twice. In every state of a run
+/// each event lies inside its nodes, and the live buffers of one node lie below its capacity and share no byte.
+pub fn good_plans_have_one_result<Cause>()
+    ensures result { HaveOneResult Cause }
+    ensures by_form { EndByForm Cause }
+    ensures runs { HaveRuns Cause }
+    ensures once { PerformOnce Cause }
+    ensures inside { StayInside Cause }
+    ensures room { KeepRoom Cause }
+    ensures states { HaveRoomAlways Cause }
+{}
+
+/// A plan for two children is good, and so is one that calls a leaf. Four plans differ from the first in one thing, and
+/// each breaks one part of being good and keeps the others: two events clash, a buffer passes its node's capacity, two
+/// live buffers share bytes, a number has no value.
+pub fn each_part_of_good_is_asked<Cause>()
+    ensures good { (leaves : Leaves Cause) → IsGood leaves doubling }
+    ensures leaf { CallsALeaf Cause }
+    ensures clash { OnlyClashes Cause }
+    ensures capacity { OnlyTooLong Cause }
+    ensures overlap { OnlyOverlaps Cause }
+    ensures value { OnlyDivides Cause }
+{}
+
+/// A number that is lifted by one loop has under that loop the value that it had outside.
+pub fn lifted_numbers_keep_their_values()
+    ensures { (s : Setting) (number : Num) (t : ℕ) (env : Env) → value_of s (lift 1 number) (at_turn env t) ≡ value_of s number env }
+{}

@@ -1,0 +1,15 @@
+//! Terms and plans, the trees of events that they stand for, their runs, and what holds of every order.
+#![tactic(auto)]
+
+pub mod laws;
+mod num;
+mod numbers;
+mod plan;
+mod term;
+#[cfg(test)]
+mod tests;
+
+pub use num::Num;
+pub use numbers::Numbers;
+pub use plan::{Buffer, Buffers, Draft, Note, Notes, Offsets, Plan, PlanNode, PlanNodes};
+pub use term::{Action, BufferIds, LeafView, LeafViews, Nums, Slot, Term, Terms};

@@ -1,0 +1,11 @@
+pub mod Blocks
+pub mod Sets
+pub mod Finding
+pub mod Shares
+pub mod Steps
+pub mod Orders
+pub mod Joined
+pub mod Leasts
+pub mod Opened
+pub mod Firsts
+pub mod Told

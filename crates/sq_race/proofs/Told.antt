@@ -1,0 +1,66 @@
+-- The first race of all forms.
+use Rattle.std.proofs.Common.{◌≡◌, ℕ, ◌+◌, ◌<◌, ◌≤◌, arith, refl, ap, sym, ◌∙◌, subst, List, length, Option, Some, None, slice_get, inl, inr}
+use Rattle.std.proofs.lemmas.Bool.{cases_eq, cases_lt}
+use Rattle.std.proofs.lemmas.Option.{slice_get_within}
+use Rattle.sq_ast.specs.declared.program.Variant.{Variant}
+use Rattle.sq_spec.specs.declared.form.Form.{Form}
+use Rattle.sq_spec.specs.declared.form.Use.{Use}
+use Rattle.sq_spec.specs.declared.resolved.Resolved.{Resolved}
+use Rattle.sq_race.specs.Race.{HoldsIn, HoldsAt, IsFirstIn, IsFirstOf, IsFirstRace, IsFirstOfForm, NoneOfForms, IsTold, maps_of_form, maps_by, variant_in}
+use Rattle.sq_race.specs.declared.map.Map.{Map}
+use Rattle.sq_race.specs.declared.race.Race.{Race}
+use Rattle.sq_race.specs.declared.forms.Found.{Found}
+use Rattle.sq_race.proofs.Steps.{one_there}
+
+-- a race of the form is one over its maps and accesses
+in_form : (r : Resolved) (n : ℕ) (f : Form) (uses : List Use) (s : List ℕ) (y : Found) → slice_get r.forms n ≡ Some f → slice_get r.uses n ≡ Some uses → HoldsAt r n s y → HoldsIn (maps_of_form r f) uses s y
+in_form r n f uses s y at_f at_u h =
+    subst (λ (us : List Use). HoldsIn (maps_of_form r f) us s y) (one_there r.uses n n h.uses uses refl h.uses_are at_u)
+    (subst (λ (g : Form). HoldsIn (maps_of_form r g) h.uses s y) (one_there r.forms n n h.of f refl h.form_is at_f) h.holds)
+
+pub none_here : (r : Resolved) (n : ℕ) (f : Form) (uses : List Use) (maps : List Map) (v : Option Variant) → slice_get r.forms n ≡ Some f → slice_get r.uses n ≡ Some uses → maps ≡ maps_by v → v ≡ variant_in r f → IsFirstOf maps uses None → IsFirstOfForm r n None
+none_here r n f uses maps v at_f at_u p q none = λ s y h. none s y (subst (λ (ms : List Map). HoldsIn ms uses s y) (sym (p ∙ ap maps_by q)) (in_form r n f uses s y at_f at_u h))
+
+pub first_here : (r : Resolved) (n : ℕ) (f : Form) (uses : List Use) (maps : List Map) (v : Option Variant) (x : Found) (race : Race) → slice_get r.forms n ≡ Some f → slice_get r.uses n ≡ Some uses → maps ≡ maps_by v → v ≡ variant_in r f → IsFirstOf maps uses (Some x) → IsTold n v maps uses x race → IsFirstOfForm r n (Some race)
+first_here r n f uses maps v x race at_f at_u p q first it =
+    let same : maps ≡ maps_of_form r f = p ∙ ap maps_by q in
+    let here : IsFirstIn (maps_of_form r f) uses x = subst (λ (ms : List Map). IsFirstIn ms uses x) same first in
+    let is : IsTold n (variant_in r f) (maps_of_form r f) uses x race = subst (λ (ms : List Map). IsTold n (variant_in r f) ms uses x race) same (subst (λ (w : Option Variant). IsTold n w maps uses x race) q it) in
+    record {
+      round = here.round;
+      found = x;
+      holds = record { of = f; uses = uses; form_is = at_f; uses_are = at_u; holds = here.holds };
+      is = is.at here.holds.map here.holds.a here.holds.b here.holds.map_is here.holds.earlier_is here.holds.later_is;
+      least = λ s y h. here.least s y (in_form r n f uses s y at_f at_u h);
+    }
+
+-- the numbers of a race are those of a map and of accesses
+pub within : (maps : List Map) (uses : List Use) (x : Found) → IsFirstOf maps uses (Some x) → (x.map < length maps) × (x.earlier < length uses) × (x.later < length uses)
+within maps uses x first = (slice_get_within maps x.map first.holds.map first.holds.map_is, slice_get_within uses x.earlier first.holds.a first.holds.earlier_is, slice_get_within uses x.later first.holds.b first.holds.later_is)
+
+pub none_of_forms : (r : Resolved) (n : ℕ) → NoneOfForms r n → IsFirstOfForm r n None → NoneOfForms r (n + 1)
+none_of_forms r n none here = record {
+  at = λ k s y h below. elim (cases_eq k n) [
+    | inl same ↦ here s y (subst (λ (i : ℕ). HoldsAt r i s y) same h)
+    | inr other ↦ none.at k s y h (omega arith)
+  ];
+}
+
+pub none_at_all : (r : Resolved) (n : ℕ) → NoneOfForms r n → length r.forms ≤ n → IsFirstRace r None
+none_at_all r n none long = λ k s y h. none.at k s y h (omega (arith, slice_get_within r.forms k h.of h.form_is))
+
+pub first_of_all : (r : Resolved) (n : ℕ) (race : Race) → NoneOfForms r n → IsFirstOfForm r n (Some race) → IsFirstRace r (Some race)
+first_of_all r n race none first = record {
+  form = n;
+  round = first.round;
+  found = first.found;
+  holds = first.holds;
+  is = first.is;
+  least = λ k s y h. elim (cases_lt k n) [
+    | inl less ↦ absurd (none.at k s y h less)
+    | inr more ↦ elim (cases_eq k n) [
+      | inr other ↦ inl (omega arith)
+      | inl same ↦ inr (sym same, first.least s y (subst (λ (i : ℕ). HoldsAt r i s y) same h))
+    ]
+  ];
+}

@@ -1,0 +1,10 @@
+pub mod Accesses
+pub mod Blocks
+pub mod Cells
+pub mod Layers
+pub mod Marks
+pub mod Order
+pub mod Pairs
+pub mod Least
+pub mod Table
+pub mod Race

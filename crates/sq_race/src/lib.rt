@@ -1,0 +1,16 @@
+//! Which accesses of a form race.
+#![tactic(auto)]
+
+mod block;
+mod cells;
+mod forms;
+mod layers;
+mod map;
+mod marks;
+mod order;
+mod pairs;
+mod plain;
+mod race;
+mod table;
+
+pub use race::{Race, first_race};

@@ -1,0 +1,137 @@
+//! A map's accesses, and which of them race.
+
+ghost use Rattle.std.specs.Prelude.{◌≡◌, take, true};
+ghost use Rattle.sq_race.specs.Accesses as spec;
+ghost use Rattle.sq_race.specs.Blocks as blocks;
+
+use crate::block::Block;
+use sq_ast::Mode;
+use sq_rect::{Rect, overlap};
+use sq_spec::Use;
+use sq_text::{Place, Span};
+
+/// A `mappar` or `mapreduce` of a variant.
+#[derive(Drop)]
+pub struct Map {
+    /// The keyword's.
+    pub place: Place,
+    /// The number of maps round it.
+    pub depth: u32,
+    /// Its calls, by their numbers in text order.
+    pub calls: Span,
+    /// Which argument of its one call it reduces into.
+    pub reduced: Option<usize>,
+}
+
+fn writes(mode: Mode) -> bool
+    ensures { result ≡ spec.writes mode }
+{
+    match mode {
+        Mode::Input => false,
+        Mode::Output | Mode::Both => true,
+    }
+}
+
+/// Whether the access writes its array.
+pub fn is_write(access: &Use) -> bool
+    ensures { result ≡ spec.writes access.now.mode }
+{
+    writes(access.mode)
+}
+
+impl Map {
+    /// Whether the access is one of the map's, its reduced array left aside.
+    pub fn counts(&self, access: &Use) -> bool
+        ensures { result ≡ spec.counts self.now access.now }
+    {
+        self.calls.lo <= access.call
+            && access.call < self.calls.hi
+            && !reduces(self.reduced, access.arg)
+    }
+
+    /// Whether the two stand in one run of the map.
+    pub fn same_run(&self, a: &Use, b: &Use) -> bool
+        ensures { result ≡ spec.same_run self.now a.now b.now }
+    {
+        alike(
+            self.depth as usize,
+            a.iterations.as_slice(),
+            b.iterations.as_slice(),
+        )
+    }
+
+    /// Whether the two stand in one iteration of the map.
+    pub fn same_iteration(&self, a: &Use, b: &Use) -> bool
+        ensures { result ≡ spec.same_iteration self.now a.now b.now }
+    {
+        alike(
+            self.depth as usize + 1,
+            a.iterations.as_slice(),
+            b.iterations.as_slice(),
+        )
+    }
+
+    /// Whether the two race.
+    pub fn races(&self, a: &Use, b: &Use) -> bool
+        ensures { result ≡ spec.races self.now a.now b.now }
+    {
+        self.counts(a)
+            && self.counts(b)
+            && self.same_run(a, b)
+            && !self.same_iteration(a, b)
+            && clash(a, b)
+    }
+}
+
+// Whether they touch one array in one place, and one of them writes.
+fn clash(a: &Use, b: &Use) -> bool
+    ensures { result ≡ spec.clash a.now b.now }
+{
+    a.array == b.array && (is_write(a) || is_write(b)) && share(&a.rect, &b.rect)
+}
+
+// Whether a coordinate lies in both blocks: none does in two that differ in their number of dimensions.
+fn share(a: &Rect, b: &Rect) -> bool
+    ensures { result ≡ spec.shares a.now b.now }
+{
+    a.as_slice().len() == b.as_slice().len() && overlap(a, b)
+}
+
+fn reduces(reduced: Option<usize>, arg: usize) -> bool
+    ensures { result ≡ spec.reduces reduced arg }
+{
+    match reduced {
+        None => false,
+        Some(this) => this == arg,
+    }
+}
+
+fn alike(count: usize, a: &[u32], b: &[u32]) -> bool
+    ensures { result ≡ spec.alike count a.now b.now }
+{
+    first(count, a) == first(count, b)
+}
+
+/// The first numbers of a list, at most so many.
+pub fn first(count: usize, numbers: &[u32]) -> &[u32]
+    ensures { result.now ≡ take count numbers.now }
+{
+    &numbers[..count.min(numbers.len())]
+}
+
+/// The block of a rect, whose further dimensions are whole.
+pub fn block_of(rect: &Rect) -> Block
+    ensures is { result ≡ spec.block_of rect.now }
+    ensures bounded { blocks.covers blocks.whole result ≡ true }
+{
+    let spans = rect.as_slice();
+    let all = Span {
+        lo: 0,
+        hi: u32::MAX,
+    };
+    Block {
+        first: spans.first().copied().unwrap_or(all),
+        second: spans.get(1).copied().unwrap_or(all),
+        third: spans.get(2).copied().unwrap_or(all),
+    }
+}

@@ -1,0 +1,230 @@
+//! The first race of a program's forms.
+
+ghost use Rattle.std.specs.Prelude.{◌≡◌, ◌<◌, [], length, map, slice_get, get_or, Some, IfOk};
+ghost use Rattle.std.specs.Option.{option_copied};
+ghost use Rattle.sq_spec.specs.Tables as tables;
+ghost use Rattle.sq_race.specs.Race as spec;
+
+use crate::forms::{Found, first_of};
+use crate::map::Map;
+use crate::table::maps_in;
+use sq_ast::{Body, Decl, Param, Variant, VariantKind};
+use sq_rect::Rect;
+use sq_spec::{Form, Resolved, Use};
+use sq_text::{Name, Place};
+use sqlite_items::{Items, at};
+use std::alloc::{AllocError, Global};
+
+/// Two accesses of different iterations of one run of a map that share an element of an array, and of which one
+/// writes. `a` is the earlier one.
+#[derive(Drop)]
+pub struct Race {
+    /// Its number.
+    pub form: u32,
+    /// The map's keyword's.
+    pub place: Place,
+    pub array: Name,
+    /// The numbers of the map's iterations, and the blocks.
+    pub iter_a: u32,
+    pub rect_a: Rect,
+    pub iter_b: u32,
+    pub rect_b: Rect,
+}
+
+fn is_same_kind(kind: VariantKind, other: VariantKind) -> bool
+    ensures { result ≡ tables.same_kind kind other }
+{
+    kind == other
+}
+
+// The number of the first variant of the task and kind.
+fn first_of_kind(variants: &[Variant], task: &Name, kind: VariantKind) -> Option<usize>
+    ensures { result ≡ tables.first_of_kind kind 0 variants.now task.now }
+{
+    for (i, v) in variants.iter().enumerate() {
+        if is_same_kind(v.kind, kind) {
+            if *task == v.task {
+                return Some(i);
+            }
+        }
+    }
+    None
+}
+
+fn variant<'a>(variants: &'a [Variant], task: &Name, kind: VariantKind) -> Option<&'a Variant>
+    ensures { option_copied result ≡ tables.variant_of variants.now task.now kind }
+{
+    let number = first_of_kind(variants, task, kind)?;
+    at(variants, number)
+}
+
+fn variant_in<'a>(r: &Resolved<'a>, form: &Form) -> Option<&'a Variant>
+    ensures { option_copied result ≡ spec.variant_in r.now form.now }
+{
+    let instance = at(r.mapping().instances.as_slice(), form.instance as usize)?;
+    variant(
+        r.typed().program().tasks.as_slice(),
+        &instance.task,
+        instance.kind,
+    )
+}
+
+fn maps_of(alloc: Global, variant: Option<&Variant>) -> Result<Items<Map>, AllocError>
+    ensures { IfOk result (λ maps. maps ≡ spec.maps_by (option_copied variant.entry)) }
+{
+    let Some(variant) = variant else {
+        return Ok(Items::new(alloc));
+    };
+    match &variant.body {
+        Body::Inner(list) => {
+            let maps = maps_in(alloc, list.as_slice())?;
+            Ok(maps)
+        }
+        Body::Leaf(_) => Ok(Items::new(alloc)),
+    }
+}
+
+// The name of the local with this number.
+fn local_name(decls: &[Decl], number: usize) -> Option<&Name>
+    ensures { option_copied result ≡ slice_get (spec.local_names decls.now) number }
+{
+    let mut left = number;
+    for decl in decls {
+        if let Decl::Local { name, .. } = decl {
+            if left == 0 {
+                return Some(name);
+            }
+            left -= 1;
+        }
+    }
+    None
+}
+
+fn array_name(variant: Option<&Variant>, number: usize) -> Option<&Name>
+    ensures { option_copied result ≡ slice_get (spec.array_names (option_copied variant.entry)) number }
+{
+    let variant = variant?;
+    let params = variant.params.as_slice();
+    match at(params, number) {
+        Some(param) => Some(&param.name),
+        None => local_name(variant.decls.as_slice(), number - params.len()),
+    }
+}
+
+// A copy of the array's name.
+fn name_of(alloc: Global, variant: Option<&Variant>, number: u32) -> Result<Name, AllocError>
+    ensures { IfOk result (λ n. n ≡ get_or (spec.array_names (option_copied variant.entry)) number []) }
+{
+    match array_name(variant, number as usize) {
+        Some(name) => {
+            let name = name.copy(alloc)?;
+            Ok(name)
+        }
+        None => Name::new(alloc, &[]),
+    }
+}
+
+// The number of the map's iteration.
+fn iteration_of(map: &Map, access: &Use) -> u32
+    ensures { result ≡ get_or access.now.iterations map.now.depth 0 }
+{
+    let numbers = access.iterations.as_slice();
+    let depth = map.depth as usize;
+    if depth < numbers.len() {
+        numbers[depth]
+    } else {
+        0
+    }
+}
+
+fn told(
+    alloc: Global,
+    form: u32,
+    variant: Option<&Variant>,
+    map: &Map,
+    a: &Use,
+    b: &Use,
+) -> Result<Race, AllocError>
+    ensures { IfOk result (λ race. race ≡ spec.told form (option_copied variant.entry) map.now a.now b.now) }
+{
+    let array = name_of(alloc, variant, a.array)?;
+    Ok(Race {
+        form,
+        place: map.place,
+        array,
+        iter_a: iteration_of(map, a),
+        rect_a: a.rect.copy(),
+        iter_b: iteration_of(map, b),
+        rect_b: b.rect.copy(),
+    })
+}
+
+// What is told of two accesses by their numbers.
+fn told_of(
+    alloc: Global,
+    form: u32,
+    variant: Option<&Variant>,
+    maps: &[Map],
+    uses: &[Use],
+    found: Found,
+) -> Result<Race, AllocError>
+    requires map { found.map < length maps.now }
+    requires earlier { found.earlier < length uses.now }
+    requires later { found.later < length uses.now }
+    ensures { IfOk result (λ race. spec.IsTold form (option_copied variant.entry) maps.now uses.now found race) }
+{
+    let map = &maps[found.map];
+    let race = told(
+        alloc,
+        form,
+        variant,
+        map,
+        &uses[found.earlier],
+        &uses[found.later],
+    )?;
+    Ok(race)
+}
+
+// The first race of the form with this number.
+fn race_in(alloc: Global, r: &Resolved<'_>, number: u32) -> Result<Option<Race>, AllocError>
+    requires { number < length r.now.forms }
+    ensures { IfOk result (λ race. spec.IsFirstOfForm r.now number race) }
+{
+    let variant = variant_in(r, &r.forms()[number as usize]);
+    let maps = maps_of(alloc, variant)?;
+    let maps = maps.as_slice();
+    let uses = r.uses(number);
+    match first_of(alloc, maps, uses)? {
+        None => Ok(None),
+        Some(found) => {
+            let race = told_of(alloc, number, variant, maps, uses, found)?;
+            Ok(Some(race))
+        }
+    }
+}
+
+// Counted where it has 32 bits; else memory would have run out before.
+fn count_of(count: usize) -> Result<u32, AllocError>
+    ensures { IfOk result (λ n. n ≡ count) }
+{
+    match u32::try_from(count) {
+        Ok(count) => Ok(count),
+        Err(_) => Err(AllocError),
+    }
+}
+
+/// The first race of the forms, or none: the one of the least form, then of the map that stands first in the text, then
+/// with the least numbers of the maps round it, then with the least later access, then with the least earlier one.
+/// Accesses of an array that a `mapreduce` reduces into don't race in that map.
+pub fn first_race(alloc: Global, r: &Resolved<'_>) -> Result<Option<Race>, AllocError>
+    ensures { IfOk result (λ race. spec.IsFirstRace r.now race) }
+{
+    let count = count_of(r.forms().len())?;
+    for number in 0..count {
+        match race_in(alloc, r, number)? {
+            Some(race) => return Ok(Some(race)),
+            None => {}
+        }
+    }
+    Ok(None)
+}

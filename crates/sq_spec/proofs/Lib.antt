@@ -1,0 +1,14 @@
+pub mod Options
+pub mod Argued
+pub mod OpenedStmt
+pub mod Products
+pub mod Joins
+pub mod Statements
+pub mod Scopes
+pub mod AllForms
+pub mod LawsHold
+pub mod KeysHold
+pub mod CallsHold
+pub mod UsesHold
+pub mod FormsHold
+pub mod TreeHolds

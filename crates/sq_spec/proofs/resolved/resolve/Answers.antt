@@ -1,0 +1,18 @@
+use Rattle.std.proofs.Common.{refl}
+use Rattle.sq_spec.specs.Resolving.{resolving_of}
+use Rattle.sq_spec.proofs.AllForms.{paired, of_program}
+use Rattle.sq_spec.proofs.resolved.resolve.Goals as goal
+
+pub invariant_of-result : goal.invariant_of-result
+invariant_of-result c = record {
+  paired = paired c.args.typed.now.tasks c.args.mapping.now (resolving_of c.in_ok-found.found)
+      (of_program c.args.typed.now c.program.result.now c.args.mapping.now (resolving_of c.in_ok-found.found) c.program.ensures.same c.in_ok-found.ensures);
+}
+
+pub returns-clause-forms : goal.returns-clause-forms
+returns-clause-forms c = record {
+  left = resolving_of c.in_ok-found.found;
+  through = of_program c.args.typed.now c.program.result.now c.args.mapping.now (resolving_of c.in_ok-found.found) c.program.ensures.same c.in_ok-found.ensures;
+  are = refl;
+  used = refl;
+}

@@ -1,0 +1,115 @@
+-- What follows from the definitions of the walk.
+use Rattle.std.specs.Prelude.{◌≡◌, ℕ, ◌+◌, ◌<◌, ◌≤◌, Bool, true, false, length, slice_get, List, [], ◌∷◌, ◌++◌, Option, Some, None, Ok, Err}
+use Rattle.sq_text.specs.declared.fault.Fault.{Fault}
+use Rattle.sq_rect.specs.Blocks.{Share}
+use Rattle.sq_text.specs.declared.place.Place.{Place}
+use Rattle.sq_text.specs.declared.code.Code.TheVariants as code
+use Rattle.sq_spec.specs.Faults.{fault_at}
+use Rattle.sq_ast.specs.declared.program.Variant.{Variant}
+use Rattle.sq_mapfile.specs.declared.mapping.Instance.{Instance}
+use Rattle.sq_mapfile.specs.declared.mapping.Mapping.{Mapping}
+use Rattle.sq_spec.specs.declared.form.Caller.{Caller}
+use Rattle.sq_spec.specs.declared.form.Found.{Found}
+use Rattle.sq_spec.specs.Resolving.{Outcome, Resolving, with_locals, walked, resolved}
+use Rattle.sq_spec.specs.Steps.{Step, State, Forms, Key, Opens, Counts, Tests, Calls, run, meet, most_uses, most_forms}
+use Rattle.sq_spec.specs.declared.args.Argument.{Argument}
+use Rattle.sq_spec.specs.Calls.{key_of, is_written, alias_from, flags}
+
+-- ---- the first fault
+
+-- the first step at fault, with those before it, of which none is
+pub record StopsAt (s : State) (steps : List Step) (f : Fault) : Type 0 where
+  pub front : List Step
+  pub at : Step
+  pub rest : List Step
+  pub all : steps ≡ front ++ at ∷ rest
+  pub state : State
+  pub passed : run s front ≡ Ok state
+  pub fault : meet state at ≡ Err f
+
+abbrev pub FirstFault : Type 0
+FirstFault = (s : State) (steps : List Step) (f : Fault) → run s steps ≡ Err f → StopsAt s steps f
+
+-- where the walk goes through, nothing that was tested is at fault
+abbrev pub AllPassed : Type 0
+AllPassed = (s t : State) (front : List Step) (o : Option Fault) (rest : List Step) → run s (front ++ Tests o ∷ rest) ≡ Ok t → o ≡ None
+
+-- ---- forms
+
+-- one key is one form: the same call of the same caller's form, with the same flags and extents
+pub record SameForm (a form2 b call2 : ℕ) (fs gs : List Bool) (es ds : List (List ℕ)) : Type 0 where
+  pub form : a ≡ form2
+  pub call : b ≡ call2
+  pub flags : fs ≡ gs
+  pub extents : es ≡ ds
+
+abbrev pub KeyIsForm : Type 0
+KeyIsForm = (form form2 call call2 : ℕ) (fs gs : List Bool) (es ds : List (List ℕ)) → length fs ≡ length gs → key_of form call fs es ≡ key_of form2 call2 gs ds → SameForm form form2 call call2 fs gs es ds
+
+-- ---- what a call that passes gives
+
+-- a coordinate of one array lies in both
+pub record SharesElement (x y : Argument) : Type 0 where
+  pub array : x.array ≡ y.array
+  pub blocks : Share x.rect y.rect
+
+-- no two written arguments share an element
+abbrev pub NoAlias : List Argument → Type 0
+NoAlias xs = (i j : ℕ) (x y : Argument) → i < j → slice_get xs i ≡ Some x → slice_get xs j ≡ Some y → is_written x.mode ≡ true → is_written y.mode ≡ true → SharesElement y x → ⊥
+
+abbrev pub PassedIsUnaliased : Type 0
+PassedIsUnaliased = (xs : List Argument) → alias_from 0 [] xs ≡ None → NoAlias xs
+
+-- an argument in place shares no element with another, or neither is written; and it isn't reduced into
+pub record Apart (xs : List Argument) (k : ℕ) : Type 0 where
+  pub others : (j : ℕ) (x y : Argument) → (j ≡ k → ⊥) → slice_get xs k ≡ Some x → slice_get xs j ≡ Some y → SharesElement x y → (is_written x.mode ≡ false) × (is_written y.mode ≡ false)
+  pub whole : (x : Argument) → slice_get xs k ≡ Some x → x.is_reduced ≡ false
+
+abbrev pub InPlaceIsApart : Type 0
+InPlaceIsApart = (same : Bool) (xs : List Argument) (k : ℕ) → slice_get (flags same xs) k ≡ Some true → Apart xs k
+
+-- ---- uses
+
+abbrev pub counts : List Step → ℕ
+counts [] = 0
+counts (Counts place ∷ rest) = 1 + counts rest
+counts (Opens ∷ rest) = counts rest
+counts (Tests o ∷ rest) = counts rest
+counts (Calls c ∷ rest) = counts rest
+
+-- no further outermost map begins
+abbrev pub InOneMap : List Step → Type 0
+InOneMap [] = Unit {0}
+InOneMap (Opens ∷ rest) = ⊥
+InOneMap (Counts place ∷ rest) = InOneMap rest
+InOneMap (Tests o ∷ rest) = InOneMap rest
+InOneMap (Calls c ∷ rest) = InOneMap rest
+
+-- A use of an outermost map is at fault exactly where as many as are allowed were counted since it began.
+abbrev pub LimitIsExact : Type 0
+LimitIsExact = (s t : State) (front : List Step) (place : Place) → InOneMap front → run s (Opens ∷ front) ≡ Ok t
+    → (counts front ≡ most_uses → meet t (Counts place) ≡ Err (fault_at code.LimitAccess place)) × (meet t (Counts place) ≡ Err (fault_at code.LimitAccess place) → counts front ≡ most_uses)
+
+-- ---- all forms
+
+-- this form was walked, and stands in the result with its locals and accesses
+pub record WasWalked (variants : List Variant) (instances : List Instance) (r : Resolving) (k : ℕ) (form : Key × Found) : Type 0 where
+  pub before : Forms
+  pub done : Outcome
+  pub walked : walked variants instances k form.1 before ≡ Ok done
+  pub uses : slice_get r.uses k ≡ Some done.uses
+  pub kept : slice_get r.forms k ≡ Some (with_locals form.1 done.locals)
+
+-- Each form of the result, up to the greatest number of forms, was walked without a fault.
+abbrev pub EachWalked : Type 0
+EachWalked = (variants : List Variant) (mapping : Mapping) (r : Resolving) → resolved variants mapping ≡ Ok r
+    → (k : ℕ) (form : Key × Found) → k < most_forms → slice_get r.found k ≡ Some form → WasWalked variants mapping.instances r k form
+
+-- There are no more forms than the greatest number of them.
+abbrev pub FewForms : Type 0
+FewForms = (variants : List Variant) (mapping : Mapping) (r : Resolving) → resolved variants mapping ≡ Ok r → length r.forms ≤ most_forms
+
+-- Forms are a tree: each but the entry is called from a form before it.
+abbrev pub CallersFirst : Type 0
+CallersFirst = (variants : List Variant) (mapping : Mapping) (r : Resolving) → resolved variants mapping ≡ Ok r
+    → (i : ℕ) (form : Key × Found) (c : Caller) → slice_get r.found i ≡ Some form → form.1.caller ≡ Some c → c.form < i

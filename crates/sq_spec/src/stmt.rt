@@ -1,0 +1,269 @@
+//! Statements, as they would run.
+
+ghost use Rattle.std.specs.Prelude.{◌≡◌, ◌≤◌, ◌<◌, ◌+◌, ◌∷◌, ◌++◌, List, [], Some, Ok, true, is_some, map, take, IfOk, OnOk};
+ghost use Rattle.sq_spec.specs.Faults.{fault_in};
+ghost use Rattle.sq_spec.specs.Steps.{Tests};
+ghost use Rattle.std.specs.Option.{option_copied};
+ghost use Rattle.sq_spec.specs.Steps as steps;
+ghost use Rattle.sq_spec.specs.Args as argued;
+ghost use Rattle.sq_spec.specs.Worlds as worlds;
+ghost use Rattle.sq_spec.specs.Calls as calls;
+ghost use Rattle.sq_spec.specs.Stmts as spec;
+
+use crate::call::{Spot, make_call};
+use crate::known::Known;
+use crate::ranges::{bind_iteration, bounds, times};
+use crate::walk::Walk;
+use crate::world::Frame;
+use sq_ast::{MapKind, Range, Stmt};
+use sq_blocks::{Bindings, Env};
+use sq_text::{Name, Place, Stop};
+use sqlite_items::Items;
+use std::alloc::Global;
+
+/// Where statements stand in their form, iterations left aside.
+#[derive(Clone, Copy)]
+pub struct At<'a> {
+    /// The number of the first call.
+    pub call: u32,
+    /// The place of the outermost map round them.
+    pub outer: Option<Place>,
+    /// The array that the map round them reduces into.
+    pub reduced: Option<&'a Name>,
+}
+
+fn reduced_by(kind: &MapKind) -> Option<&Name>
+    ensures { option_copied result ≡ spec.reduced_by kind.now }
+{
+    match kind {
+        MapKind::Par | MapKind::Seq => None,
+        MapKind::Reduce { array, .. } => Some(&array.name),
+    }
+}
+
+// Added where it has 32 bits; else memory would have run out before.
+fn plus(a: u32, b: u32) -> Result<u32, Stop>
+    ensures { spec.Counts result (a + b) }
+{
+    match a.checked_add(b) {
+        Some(sum) => Ok(sum),
+        None => Err(Stop::NoMemory),
+    }
+}
+
+/// How many calls stand in a statement.
+#[cycle(calls)]
+#[tactic(auto, using(crate::proofs::OpenedStmt::opened_stmt))]
+fn calls_in(s: &Stmt) -> Result<u32, Stop>
+    ensures { spec.Counts result (spec.portion s.now).calls }
+{
+    match s {
+        Stmt::Call(_) => Ok(1),
+        Stmt::Map { body, .. } => {
+            let count = calls_in_all(body.as_slice())?;
+            Ok(count)
+        }
+    }
+}
+
+#[cycle(calls)]
+fn calls_in_all(list: &[Stmt]) -> Result<u32, Stop>
+    ensures { spec.Counts result (spec.calls_of (map spec.portion list.now)) }
+{
+    let mut count = 0;
+    for s in list {
+        count = plus(count, calls_in(s)?)?;
+    }
+    Ok(count)
+}
+
+fn open_outermost(walk: &mut Walk, outer: Option<Place>)
+    ensures steps { (later : List steps.Step) → steps.run (steps.state_of walk.old) (spec.opens outer later) ≡ steps.run (steps.state_of walk.new) later }
+    ensures left { is_some outer ≡ true → walk.new.left ≤ walk.old.left }
+{
+    if outer.is_none() {
+        walk.open();
+    }
+}
+
+fn outermost(outer: Option<Place>, place: Place) -> Place
+    ensures { result ≡ spec.outermost outer place }
+{
+    match outer {
+        None => place,
+        Some(outer) => outer,
+    }
+}
+
+// A map begins: its bounds.
+fn head(
+    alloc: Global,
+    walk: &mut Walk,
+    known: &Known,
+    numbers: &Bindings,
+    outer: Option<Place>,
+    ranges: &[Range],
+) -> Result<Items<i64>, Stop>
+    ensures steps { steps.Walks result (steps.state_of walk.old) (steps.state_of walk.new) (λ later. spec.opens outer (Tests (fault_in (spec.bounds ranges.now numbers.now (argued.names_of known.now).lists)) ∷ later)) }
+    ensures bounds { IfOk result (λ ns. spec.bounds ranges.now numbers.now (argued.names_of known.now).lists ≡ Ok ns) }
+    ensures left { OnOk result (is_some outer ≡ true → walk.new.left ≤ walk.old.left) }
+{
+    open_outermost(walk, outer);
+    let env = Env {
+        numbers,
+        lists: &known.lists,
+    };
+    let bounds = bounds(alloc, &env, ranges)?;
+    Ok(bounds)
+}
+
+// An iteration begins.
+fn begin(
+    alloc: Global,
+    walk: &mut Walk,
+    numbers: &mut Bindings,
+    path: &mut Items<u32>,
+    outer: Place,
+    ranges: &[Range],
+    bounds: &[i64],
+    t: u32,
+) -> Result<(), Stop>
+    ensures steps { steps.Walks result (steps.state_of walk.old) (steps.state_of walk.new) (argued.used (Some outer)) }
+    ensures numbers { OnOk result (numbers.new ≡ spec.in_iteration ranges.now bounds.now t numbers.old) }
+    ensures path { OnOk result (path.new ≡ path.old ++ t ∷ []) }
+    ensures left { OnOk result (walk.new.left < walk.old.left) }
+{
+    walk.count(alloc, outer)?;
+    bind_iteration(numbers, ranges, bounds, t)?;
+    path.push(t)?;
+    Ok(())
+}
+
+// An iteration ends: what was known before it, and the iterations round it.
+fn end(numbers: &mut Bindings, path: &mut Items<u32>, outside: usize)
+    ensures numbers { numbers.new ≡ take outside numbers.old }
+    ensures path { spec.Ended path.old path.new }
+{
+    path.pop();
+    numbers.truncate(outside);
+}
+
+/// A statement. The variables of a map are known in its body alone.
+#[cycle(stmt)]
+#[tactic(auto, using(crate::proofs::OpenedStmt::opened_stmt))]
+pub fn stmt(
+    alloc: Global,
+    walk: &mut Walk,
+    frame: &Frame<'_>,
+    known: &Known,
+    numbers: &mut Bindings,
+    path: &mut Items<u32>,
+    at: &At<'_>,
+    s: &Stmt,
+) -> Result<(), Stop>
+    ensures steps { steps.Walks result (steps.state_of walk.old) (steps.state_of walk.new) (spec.stmt_steps s.now (worlds.frame_of frame.now) (argued.names_of known.now) (spec.spot_at at.now path.old) numbers.old) }
+    ensures numbers { OnOk result (numbers.new ≡ numbers.old) }
+    ensures path { OnOk result (path.new ≡ path.old) }
+    ensures left { OnOk result (is_some at.now.outer ≡ true → walk.new.left ≤ walk.old.left) }
+{
+    match s {
+        Stmt::Call(c) => {
+            let spot = Spot {
+                call: at.call,
+                outer: at.outer,
+                reduced: at.reduced,
+                iterations: path.as_slice(),
+            };
+            make_call(alloc, walk, frame, known, numbers, &spot, c)?;
+            Ok(())
+        }
+        Stmt::Map {
+            place,
+            kind,
+            ranges,
+            body,
+        } => {
+            let list = ranges.as_slice();
+            let bounds = head(alloc, walk, known, numbers, at.outer, list)?;
+            let outer = outermost(at.outer, *place);
+            let inside = At {
+                call: at.call,
+                outer: Some(outer),
+                reduced: reduced_by(kind),
+            };
+            iterations(
+                alloc,
+                walk,
+                frame,
+                known,
+                numbers,
+                path,
+                outer,
+                &inside,
+                list,
+                bounds.as_slice(),
+                body.as_slice(),
+            )?;
+            Ok(())
+        }
+    }
+}
+
+#[cycle(stmt)]
+fn iterations(
+    alloc: Global,
+    walk: &mut Walk,
+    frame: &Frame<'_>,
+    known: &Known,
+    numbers: &mut Bindings,
+    path: &mut Items<u32>,
+    outer: Place,
+    inside: &At<'_>,
+    ranges: &[Range],
+    bounds: &[i64],
+    body: &[Stmt],
+) -> Result<(), Stop>
+    requires { inside.now.outer ≡ Some outer }
+    ensures steps { steps.Walks result (steps.state_of walk.old) (steps.state_of walk.new) (spec.each 0 (spec.times bounds.now) (spec.iteration_steps outer (λ t. spec.spot_at inside.now (path.old ++ t ∷ [])) ranges.now (spec.stmts_steps body.now) bounds.now (worlds.frame_of frame.now) (argued.names_of known.now) numbers.old)) }
+    ensures numbers { OnOk result (numbers.new ≡ numbers.old) }
+    ensures path { OnOk result (path.new ≡ path.old) }
+    ensures left { OnOk result (walk.new.left ≤ walk.old.left) }
+{
+    let outside = numbers.len();
+    let count = times(bounds).min(u64::from(walk.left) + 1);
+    for t in 0..count {
+        begin(alloc, walk, numbers, path, outer, ranges, bounds, t as u32)?;
+        stmts(alloc, walk, frame, known, numbers, path, inside, body)?;
+        end(numbers, path, outside);
+    }
+    Ok(())
+}
+
+#[cycle(stmt)]
+pub fn stmts(
+    alloc: Global,
+    walk: &mut Walk,
+    frame: &Frame<'_>,
+    known: &Known,
+    numbers: &mut Bindings,
+    path: &mut Items<u32>,
+    at: &At<'_>,
+    list: &[Stmt],
+) -> Result<(), Stop>
+    ensures steps { steps.Walks result (steps.state_of walk.old) (steps.state_of walk.new) (spec.stmts_steps list.now (worlds.frame_of frame.now) (argued.names_of known.now) (spec.spot_at at.now path.old) numbers.old) }
+    ensures numbers { OnOk result (numbers.new ≡ numbers.old) }
+    ensures path { OnOk result (path.new ≡ path.old) }
+    ensures left { OnOk result (is_some at.now.outer ≡ true → walk.new.left ≤ walk.old.left) }
+{
+    let mut call = at.call;
+    for s in list {
+        let here = At {
+            call,
+            outer: at.outer,
+            reduced: at.reduced,
+        };
+        stmt(alloc, walk, frame, known, numbers, path, &here, s)?;
+        call = plus(call, calls_in(s)?)?;
+    }
+    Ok(())
+}

@@ -1,0 +1,9 @@
+//! Tests over texts of programs: forms, races, and leaf code.
+#![tactic(auto)]
+
+#[cfg(test)]
+mod forms_tests;
+#[cfg(test)]
+mod leaf_tests;
+#[cfg(test)]
+mod race_tests;
