@@ -5,3 +5,4 @@ pub mod BlocksHold
 pub mod ChopsHold
 pub mod PublicHold
 pub mod Insides
+pub mod SpansInside

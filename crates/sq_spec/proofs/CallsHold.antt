@@ -46,7 +46,7 @@ or_false : (a b : Bool) → a || b ≡ false → (a ≡ false) × (b ≡ false)
 or_false true b h = absurd (cc h)
 or_false false b h = (refl, h)
 
-and_both : (a b : Bool) → a && b ≡ true → (a ≡ true) × (b ≡ true)
+pub and_both : (a b : Bool) → a && b ≡ true → (a ≡ true) × (b ≡ true)
 and_both true b h = (refl, h)
 and_both false b h = absurd (cc h)
 
@@ -59,7 +59,7 @@ none_before x (z ∷ before) zero y h e w =
     and_false (is_written y.mode) (shares x y) (ap (clashes x) (sym f) ∙ g) w
 none_before x (z ∷ before) (suc i) y h e w = none_before x before i y (or_false (clashes x z) (list_any (clashes x) before) h).1 e w
 
-get_front : {A : Type 0} (before xs : List A) (k : ℕ) → k < length before → slice_get (before ++ xs) k ≡ slice_get before k
+pub get_front : {A : Type 0} (before xs : List A) (k : ℕ) → k < length before → slice_get (before ++ xs) k ≡ slice_get before k
 get_front [] xs k h = absurd (omega (arith, h))
 get_front (z ∷ before) xs zero h = refl
 get_front (z ∷ before) xs (suc k) h = get_front before xs k (omega (arith, h))
@@ -106,7 +106,7 @@ apart_at x k j (z ∷ ys) h (suc i) y e far =
     let p = and_both (j == k || not (meets x z)) (is_apart x k (j + 1) ys) h in
     apart_at x k (j + 1) ys p.1 i y e (λ s. far (omega (arith, s)))
 
-flag_at : (same : Bool) (all : List Argument) (start : ℕ) (xs : List Argument) (k n : ℕ) (x : Argument) → n ≡ start + k → slice_get (flags_from same all start xs) k ≡ Some true → slice_get xs k ≡ Some x
+pub flag_at : (same : Bool) (all : List Argument) (start : ℕ) (xs : List Argument) (k n : ℕ) (x : Argument) → n ≡ start + k → slice_get (flags_from same all start xs) k ≡ Some true → slice_get xs k ≡ Some x
     → (same && (not x.is_reduced && is_apart x n 0 all)) ≡ true
 flag_at same all start [] k n x m h e = absurd (cc e)
 flag_at same all start (z ∷ xs) zero n x m h e =

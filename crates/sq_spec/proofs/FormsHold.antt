@@ -121,7 +121,7 @@ module _ (variants : List Variant) (instances : List Instance) where
   in_keeps k form forms f None h = unwalked_keeps forms f h
   in_keeps k form forms f (Some x) h = by_keeps x k form forms f (variant_of variants x.task x.kind) h
 
-  walked_keeps : (k : ℕ) (form : Found) (forms : Forms) (f : Outcome) → walked variants instances k form forms ≡ Ok f → Keeps forms f.forms
+  pub walked_keeps : (k : ℕ) (form : Found) (forms : Forms) (f : Outcome) → walked variants instances k form forms ≡ Ok f → Keeps forms f.forms
   walked_keeps k form forms f h = in_keeps k form forms f (slice_get instances form.instance) h
 
   -- ---- all forms
@@ -158,7 +158,7 @@ module _ (variants : List Variant) (instances : List Instance) where
       let of_uses : slice_get s.uses k ≡ Some f.uses = ap (λ l. slice_get l k) w.uses.same ∙ get_kept (r.uses ++ f.uses ∷ []) w.uses.rest k f.uses (get_last r.uses f.uses k lu) in
       let whole = with_locals form.1 f.locals in
       let of_forms : slice_get s.forms k ≡ Some whole = ap (λ l. slice_get l k) w.forms.same ∙ get_kept (r.forms ++ whole ∷ []) w.forms.rest k whole (get_last r.forms whole k ll) in
-      let made : WasWalked variants instances s k form = record { before = r.found; done = f; walked = e; uses = of_uses; kept = of_forms } in
+      let made : WasWalked variants instances s k form = record { before = r.found; done = f; walked = e; later = w.found.rest; behind = w.found.same; uses = of_uses; kept = of_forms } in
       subst (λ n. WasWalked variants instances s n g) is (subst (WasWalked variants instances s k) same made)
 
   went_one : (n k : ℕ) (r s : Resolving) (form : Key × Found) (f : Outcome) → length r.uses ≡ k → length r.forms ≡ k → slice_get r.found k ≡ Some form → walked variants instances k form.1 r.found ≡ Ok f

@@ -1,5 +1,5 @@
 -- One key is one form.
-use Rattle.std.proofs.Common.{◌≡◌, ℕ, suc, Bool, true, false, List, [], ◌∷◌, ◌++◌, map, length, refl, arith}
+use Rattle.std.proofs.Common.{◌≡◌, ℕ, suc, Bool, true, false, List, [], ◌∷◌, ◌++◌, map, length, refl, sym, arith}
 use Rattle.sq_spec.specs.Calls.{bit, key_extents}
 use Rattle.sq_spec.specs.Laws.{KeyIsForm}
 
@@ -33,18 +33,24 @@ bit_same false false h = refl
 bit_same true false h = absurd (omega (arith, h))
 bit_same false true h = absurd (omega (arith, h))
 
-flags_same : (fs gs : List Bool) (x y : List ℕ) → length fs ≡ length gs → map bit fs ++ x ≡ map bit gs ++ y → (fs ≡ gs) × (x ≡ y)
-flags_same [] [] x y e h = (refl, h)
-flags_same [] (g ∷ gs) x y e h = absurd (omega (arith, e))
-flags_same (f ∷ fs) [] x y e h = absurd (omega (arith, e))
-flags_same (f ∷ fs) (g ∷ gs) x y e h =
-    let p = heads (bit f) (bit g) (map bit fs ++ x) (map bit gs ++ y) h in
-    let q = flags_same fs gs x y (pred_same (length fs) (length gs) e) p.1 in
+bit_small : (a : Bool) → 2 ≡ bit a → ⊥
+bit_small true h = absurd (omega (arith, h))
+bit_small false h = absurd (omega (arith, h))
+
+flags_same : (fs gs : List Bool) (x y : List ℕ) → map bit fs ++ 2 ∷ x ≡ map bit gs ++ 2 ∷ y → (fs ≡ gs) × (x ≡ y)
+flags_same [] [] x y h = (refl, (heads 2 2 x y h).1)
+flags_same [] (g ∷ gs) x y h = absurd (bit_small g (heads 2 (bit g) x (map bit gs ++ 2 ∷ y) h).0)
+flags_same (f ∷ fs) [] x y h = absurd (bit_small f (sym (heads (bit f) 2 (map bit fs ++ 2 ∷ x) y h).0))
+flags_same (f ∷ fs) (g ∷ gs) x y h =
+    let p = heads (bit f) (bit g) (map bit fs ++ 2 ∷ x) (map bit gs ++ 2 ∷ y) h in
+    let q = flags_same fs gs x y p.1 in
     ((λ i. bit_same f g p.0 i ∷ q.0 i), q.1)
 
 pub key_is_form : KeyIsForm
-key_is_form form form2 call call2 fs gs es ds e h =
-    let p = heads form form2 (call ∷ map bit fs ++ key_extents es) (call2 ∷ map bit gs ++ key_extents ds) h in
-    let q = heads call call2 (map bit fs ++ key_extents es) (map bit gs ++ key_extents ds) p.1 in
-    let r = flags_same fs gs (key_extents es) (key_extents ds) e q.1 in
-    record { form = p.0; call = q.0; flags = r.0; extents = extents_same es ds r.1 }
+key_is_form form form2 call call2 instance instance2 fs gs es ds h =
+    let front : List Bool → List (List ℕ) → List ℕ = λ bs ns. map bit bs ++ 2 ∷ key_extents ns in
+    let p = heads form form2 (call ∷ instance ∷ front fs es) (call2 ∷ instance2 ∷ front gs ds) h in
+    let q = heads call call2 (instance ∷ front fs es) (instance2 ∷ front gs ds) p.1 in
+    let r = heads instance instance2 (front fs es) (front gs ds) q.1 in
+    let s = flags_same fs gs (key_extents es) (key_extents ds) r.1 in
+    record { form = p.0; call = q.0; instance = r.0; flags = s.0; extents = extents_same es ds s.1 }

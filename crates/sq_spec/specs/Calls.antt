@@ -113,8 +113,9 @@ abbrev pub key_extents : List (List ℕ) → List ℕ
 key_extents [] = []
 key_extents (e ∷ es) = length e ∷ e ++ key_extents es
 
-abbrev pub key_of : ℕ → ℕ → List Bool → List (List ℕ) → Key
-key_of form call in_place extents = form ∷ call ∷ map bit in_place ++ key_extents extents
+-- a 2 stands behind the flags
+abbrev pub key_of : ℕ → ℕ → ℕ → List Bool → List (List ℕ) → Key
+key_of form call instance in_place extents = form ∷ call ∷ instance ∷ map bit in_place ++ 2 ∷ key_extents extents
 
 abbrev pub extents_of : List Argument → List (List ℕ)
 extents_of xs = map (λ x. lengths x.rect) xs
@@ -163,7 +164,7 @@ depth_fault frame spot c = if is_too_deep frame spot then Some (fault_named code
 
 abbrev pub called : Frame → Callee → Spot → Call → List Argument → Called
 called frame callee spot c xs = record {
-  key = key_of frame.form spot.call (flags (callee.level == frame.level) xs) (extents_of xs);
+  key = key_of frame.form spot.call callee.instance (flags (callee.level == frame.level) xs) (extents_of xs);
   form = form_of frame callee spot xs;
   uses = λ n. uses_from spot n 0 xs;
   too_many = fault_named code.LimitCalls c.place c.task;

@@ -1,7 +1,12 @@
 -- What follows from the definitions of the walk.
-use Rattle.std.specs.Prelude.{◌≡◌, ℕ, ◌+◌, ◌<◌, ◌≤◌, Bool, true, false, length, slice_get, List, [], ◌∷◌, ◌++◌, Option, Some, None, Ok, Err}
+use Rattle.std.specs.Prelude.{◌≡◌, ◌↔◌, ℕ, pos, ◌+◌, ◌<◌, ◌≤◌, Bool, true, false, length, slice_get, List, [], ◌∷◌, ◌++◌, Option, Some, None, Ok, Err}
 use Rattle.sq_text.specs.declared.fault.Fault.{Fault}
 use Rattle.sq_rect.specs.Blocks.{Share}
+use Rattle.sq_rect.specs.Spans.{AreProper}
+use Rattle.sq_text.specs.Names.{Bytes}
+use Rattle.sq_ast.specs.declared.program.Extent.{Extent}
+use Rattle.sq_ast.specs.declared.program.Extent.TheVariants as extent
+use Rattle.sq_ast.specs.declared.program.Param.{Param}
 use Rattle.sq_text.specs.declared.place.Place.{Place}
 use Rattle.sq_text.specs.declared.code.Code.TheVariants as code
 use Rattle.sq_spec.specs.Faults.{fault_at}
@@ -13,7 +18,7 @@ use Rattle.sq_spec.specs.declared.form.Found.{Found}
 use Rattle.sq_spec.specs.Resolving.{Outcome, Resolving, with_locals, walked, resolved}
 use Rattle.sq_spec.specs.Steps.{Step, State, Forms, Key, Opens, Counts, Tests, Calls, run, meet, most_uses, most_forms}
 use Rattle.sq_spec.specs.declared.args.Argument.{Argument}
-use Rattle.sq_spec.specs.Calls.{key_of, is_written, alias_from, flags}
+use Rattle.sq_spec.specs.Calls.{key_of, is_written, alias_from, flags, lengths, shape_from}
 
 -- ---- the first fault
 
@@ -36,15 +41,18 @@ AllPassed = (s t : State) (front : List Step) (o : Option Fault) (rest : List St
 
 -- ---- forms
 
--- one key is one form: the same call of the same caller's form, with the same flags and extents
-pub record SameForm (a form2 b call2 : ℕ) (fs gs : List Bool) (es ds : List (List ℕ)) : Type 0 where
-  pub form : a ≡ form2
-  pub call : b ≡ call2
+-- one key is one form: the same call of the same caller's form, the same instance, and the same flags and extents
+pub record SameForm (form1 form2 call1 call2 instance1 instance2 : ℕ) (fs gs : List Bool) (es ds : List (List ℕ)) : Type 0 where
+  pub form : form1 ≡ form2
+  pub call : call1 ≡ call2
+  pub instance : instance1 ≡ instance2
   pub flags : fs ≡ gs
   pub extents : es ≡ ds
 
 abbrev pub KeyIsForm : Type 0
-KeyIsForm = (form form2 call call2 : ℕ) (fs gs : List Bool) (es ds : List (List ℕ)) → length fs ≡ length gs → key_of form call fs es ≡ key_of form2 call2 gs ds → SameForm form form2 call call2 fs gs es ds
+KeyIsForm = (form form2 call call2 instance instance2 : ℕ) (fs gs : List Bool) (es ds : List (List ℕ))
+    → key_of form call instance fs es ≡ key_of form2 call2 instance2 gs ds
+    → SameForm form form2 call call2 instance instance2 fs gs es ds
 
 -- ---- what a call that passes gives
 
@@ -55,18 +63,50 @@ pub record SharesElement (x y : Argument) : Type 0 where
 
 -- no two written arguments share an element
 abbrev pub NoAlias : List Argument → Type 0
-NoAlias xs = (i j : ℕ) (x y : Argument) → i < j → slice_get xs i ≡ Some x → slice_get xs j ≡ Some y → is_written x.mode ≡ true → is_written y.mode ≡ true → SharesElement y x → ⊥
+NoAlias xs = (i j : ℕ) (x y : Argument) → i < j → slice_get xs i ≡ Some x → slice_get xs j ≡ Some y → is_written x.mode ≡ true → is_written y.mode ≡ true
+    → SharesElement y x → ⊥
 
 abbrev pub PassedIsUnaliased : Type 0
 PassedIsUnaliased = (xs : List Argument) → alias_from 0 [] xs ≡ None → NoAlias xs
 
 -- an argument in place shares no element with another, or neither is written; and it isn't reduced into
 pub record Apart (xs : List Argument) (k : ℕ) : Type 0 where
-  pub others : (j : ℕ) (x y : Argument) → (j ≡ k → ⊥) → slice_get xs k ≡ Some x → slice_get xs j ≡ Some y → SharesElement x y → (is_written x.mode ≡ false) × (is_written y.mode ≡ false)
+  pub others : (j : ℕ) (x y : Argument) → (j ≡ k → ⊥) → slice_get xs k ≡ Some x → slice_get xs j ≡ Some y → SharesElement x y
+      → (is_written x.mode ≡ false) × (is_written y.mode ≡ false)
   pub whole : (x : Argument) → slice_get xs k ≡ Some x → x.is_reduced ≡ false
 
 abbrev pub InPlaceIsApart : Type 0
 InPlaceIsApart = (same : Bool) (xs : List Argument) (k : ℕ) → slice_get (flags same xs) k ≡ Some true → Apart xs k
+
+-- no block of an argument has an empty span
+abbrev pub AreProperBlocks : List Argument → Type 0
+AreProperBlocks xs = (i : ℕ) (x : Argument) → slice_get xs i ≡ Some x → AreProper x.rect
+
+-- no argument is at fault exactly where no two that are written share an element
+abbrev pub AliasIsExact : Type 0
+AliasIsExact = (xs : List Argument) → AreProperBlocks xs → alias_from 0 [] xs ≡ None ↔ NoAlias xs
+
+-- an argument is in place exactly where the call is at the same level and the argument is apart
+abbrev pub FlagsAreExact : Type 0
+FlagsAreExact = (same : Bool) (xs : List Argument) (k : ℕ) → AreProperBlocks xs → k < length xs
+    → slice_get (flags same xs) k ≡ Some true ↔ (same ≡ true) × Apart xs k
+
+-- where a size name has this value, this is the extent
+abbrev pub IsExtent : (Bytes → ℕ) → Extent → ℕ → Type 0
+IsExtent value (extent.Size place name) n = value name ≡ n
+IsExtent value (extent.Fixed place m) n = m ≡ pos n
+
+-- each extent of a parameter is that of its argument
+abbrev pub Suits : (Bytes → ℕ) → List Extent → List ℕ → Type 0
+Suits value es ns = (j : ℕ) (e : Extent) → slice_get es j ≡ Some e → (n : ℕ) × (slice_get ns j ≡ Some n) × IsExtent value e n
+
+-- There is one value for each size name, with which every argument has the extents of its parameter.
+pub record HaveShape (params : List Param) (xs : List Argument) : Type 0 where
+  pub value : Bytes → ℕ
+  pub each : (i : ℕ) (p : Param) (x : Argument) → slice_get params i ≡ Some p → slice_get xs i ≡ Some x → Suits value p.extents (lengths x.rect)
+
+abbrev pub ShapeIsExact : Type 0
+ShapeIsExact = (params : List Param) (xs : List Argument) → shape_from 0 [] params xs ≡ None ↔ HaveShape params xs
 
 -- ---- uses
 
@@ -88,7 +128,7 @@ InOneMap (Calls c ∷ rest) = InOneMap rest
 -- A use of an outermost map is at fault exactly where as many as are allowed were counted since it began.
 abbrev pub LimitIsExact : Type 0
 LimitIsExact = (s t : State) (front : List Step) (place : Place) → InOneMap front → run s (Opens ∷ front) ≡ Ok t
-    → (counts front ≡ most_uses → meet t (Counts place) ≡ Err (fault_at code.LimitAccess place)) × (meet t (Counts place) ≡ Err (fault_at code.LimitAccess place) → counts front ≡ most_uses)
+    → counts front ≡ most_uses ↔ meet t (Counts place) ≡ Err (fault_at code.LimitAccess place)
 
 -- ---- all forms
 
@@ -97,6 +137,9 @@ pub record WasWalked (variants : List Variant) (instances : List Instance) (r : 
   pub before : Forms
   pub done : Outcome
   pub walked : walked variants instances k form.1 before ≡ Ok done
+  -- the forms that were found later
+  pub later : Forms
+  pub behind : r.found ≡ done.forms ++ later
   pub uses : slice_get r.uses k ≡ Some done.uses
   pub kept : slice_get r.forms k ≡ Some (with_locals form.1 done.locals)
 

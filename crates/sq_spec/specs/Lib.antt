@@ -9,3 +9,15 @@ pub mod Decls
 pub mod Resolving
 pub mod Forms
 pub mod Laws
+pub mod Needs
+pub mod Reached
+pub mod Insides
+pub mod Served
+pub mod Named
+pub mod Work
+pub mod Meaning
+pub mod Works
+pub mod InTurn
+pub mod Examples
+pub mod Begun
+pub mod BegunWork

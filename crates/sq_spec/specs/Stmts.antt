@@ -13,6 +13,7 @@ use Rattle.sq_text.specs.Names.{Bytes}
 use Rattle.sq_blocks.specs.Names.{Numbers, Lists, with_number}
 use Rattle.std.specs.Option.{option_copied}
 use Rattle.sq_spec.specs.declared.stmt.At.{At}
+use Rattle.sq_spec.specs.declared.tally.Tally.{Tally}
 use Rattle.sq_spec.specs.Faults.{Value, fault_in, value_or, and_then}
 use Rattle.sq_spec.specs.Steps.{Part, Opens, Tests}
 use Rattle.sq_spec.specs.Args.{Names, worth_of, before, used}
@@ -73,14 +74,28 @@ each t (suc n) part later = part t (each (t + 1) n part later)
 abbrev pub Walked : Type 0
 Walked = Frame → Names → Spot → Numbers → Part
 
--- how many calls stand in it, and what is met
+-- how many calls and maps stand in it, the tallies of these maps, and what is met
 pub record Portion : Type 0 where
   pub calls : ℕ
+  pub inside : ℕ
+  pub maps : List Tally
   pub steps : Walked
 
 abbrev pub calls_of : List Portion → ℕ
 calls_of [] = 0
 calls_of (p ∷ ps) = p.calls + calls_of ps
+
+abbrev pub inside_of : List Portion → ℕ
+inside_of [] = 0
+inside_of (p ∷ ps) = p.inside + inside_of ps
+
+abbrev pub maps_of : List Portion → List Tally
+maps_of [] = []
+maps_of (p ∷ ps) = p.maps ++ maps_of ps
+
+-- a map's calls, and its maps, itself among them
+abbrev pub tally_of : List Portion → Tally
+tally_of parts = record { calls = calls_of parts; maps = 1 + inside_of parts }
 
 abbrev pub after_calls : Spot → ℕ → Spot
 after_calls spot n = record { call = spot.call + n; outer = spot.outer; reduced = spot.reduced; iterations = spot.iterations }
@@ -121,8 +136,13 @@ map_steps place kind ranges body frame names spot numbers later =
     opens spot.outer (iterations_steps (outermost spot.outer place) (within spot place kind) ranges body (bounds ranges numbers names.lists) frame names numbers later)
 
 abbrev pub stmt_step : Stmt-F Portion → Portion
-stmt_step (Stmt-F.Call c) = record { calls = 1; steps = λ frame names spot numbers. call_steps frame names spot numbers c }
-stmt_step (Stmt-F.Map place kind ranges parts) = record { calls = calls_of parts; steps = map_steps place kind ranges (all_of parts) }
+stmt_step (Stmt-F.Call c) = record { calls = 1; inside = 0; maps = []; steps = λ frame names spot numbers. call_steps frame names spot numbers c }
+stmt_step (Stmt-F.Map place kind ranges parts) = record {
+  calls = calls_of parts;
+  inside = 1 + inside_of parts;
+  maps = tally_of parts ∷ maps_of parts;
+  steps = map_steps place kind ranges (all_of parts);
+}
 
 abbrev pub portion : Stmt → Portion
 portion = fold-Stmt Portion stmt_step
@@ -134,6 +154,18 @@ abbrev pub stmts_steps : List Stmt → Walked
 stmts_steps list = all_of (map portion list)
 
 -- ---- what the code does
+
+-- how many calls and maps stand in a portion, and in all of these
+abbrev pub sum_of : Portion → Tally
+sum_of p = record { calls = p.calls; maps = p.inside }
+
+abbrev pub sum_of_all : List Portion → Tally
+sum_of_all ps = record { calls = calls_of ps; maps = inside_of ps }
+
+-- the list begins with these
+pub record Begins {A : Type 0} (front whole : List A) : Type 0 where
+  pub rest : List A
+  pub is : whole ≡ front ++ rest
 
 -- where statements stand, in these iterations
 abbrev pub spot_at : At → List ℕ → Spot

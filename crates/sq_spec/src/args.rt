@@ -120,7 +120,7 @@ fn is_reduced(reduced: Option<&Name>, a: &ArgUse) -> bool
     }
 }
 
-fn examined(
+pub fn examined(
     alloc: Global,
     known: &Known,
     numbers: &Bindings,

@@ -98,7 +98,11 @@ fn is_apart(x: &Argument, k: usize, list: &[Argument]) -> bool
 }
 
 // Which arguments of a call are in place; none where it isn't at the same level.
-fn flags(alloc: Global, is_same_level: bool, list: &[Argument]) -> Result<Items<bool>, AllocError>
+pub fn flags(
+    alloc: Global,
+    is_same_level: bool,
+    list: &[Argument],
+) -> Result<Items<bool>, AllocError>
     ensures { IfOk result (λ flags. flags ≡ spec.flags is_same_level list.now) }
 {
     let mut flags = Items::new(alloc);
@@ -121,7 +125,7 @@ fn more_lengths(mut dims: Dims, spans: &[Span]) -> Dims
     more_lengths(dims, spans)
 }
 
-fn lengths(rect: &Rect) -> Dims
+pub fn lengths(rect: &Rect) -> Dims
     ensures { result ≡ spec.lengths rect.now }
 {
     let Some((s, spans)) = rect.as_slice().split_first() else {
@@ -272,33 +276,47 @@ fn push_extents(numbers: &mut Items<u32>, extents: &[Dims]) -> Result<(), AllocE
     Ok(())
 }
 
-fn key_of(
+pub fn key_of(
     alloc: Global,
     form: u32,
     call: u32,
+    instance: u32,
     in_place: &[bool],
     extents: &[Dims],
 ) -> Result<Key, AllocError>
-    ensures { Makes result (spec.key_of form call in_place.now extents.now) }
+    ensures { Makes result (spec.key_of form call instance in_place.now extents.now) }
 {
     let mut numbers = Items::new(alloc);
     numbers.push(form)?;
     numbers.push(call)?;
+    numbers.push(instance)?;
     push_flags(&mut numbers, in_place)?;
+    numbers.push(2)?;
     push_extents(&mut numbers, extents)?;
     Ok(Key::new(numbers))
+}
+
+// Where it has 32 bits; else memory would have run out before.
+fn narrow(n: usize) -> Result<u32, AllocError>
+    ensures { Makes result n }
+{
+    match u32::try_from(n) {
+        Ok(n) => Ok(n),
+        Err(_) => Err(AllocError),
+    }
 }
 
 fn push_uses(
     alloc: Global,
     uses: &mut Items<Use>,
     spot: &Spot<'_>,
-    callee: usize,
+    callee: u32,
     list: &[Argument],
 ) -> Result<(), AllocError>
     ensures { OnOk result (uses.new ≡ uses.old ++ spec.uses_from (spec.spot_of spot.now) callee 0 list.now) }
 {
     for (arg, x) in list.iter().enumerate() {
+        let arg = narrow(arg)?;
         let iterations = Items::from_slice(alloc, spot.iterations)?;
         uses.push(Use {
             call: spot.call,
@@ -332,13 +350,14 @@ fn enter(
         alloc,
         frame.form,
         spot.call,
+        callee.instance,
         form.in_place.as_slice(),
         form.extents.as_slice(),
     )?;
     let Some(number) = walk.enter(key, form)? else {
         return Err(refused_named(alloc, Code::LimitCalls, c.place, &c.task));
     };
-    push_uses(alloc, &mut walk.uses, spot, number, list)?;
+    push_uses(alloc, &mut walk.uses, spot, narrow(number)?, list)?;
     Ok(())
 }
 

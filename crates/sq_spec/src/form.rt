@@ -65,7 +65,7 @@ pub struct Use {
     /// In text order of the calls of the form's variant.
     pub call: u32,
     /// The argument's position in the call.
-    pub arg: usize,
+    pub arg: u32,
     /// The numbers of the iterations of the maps round the call in its own form, outermost first. A map of several ranges has one number.
     pub iterations: Items<u32>,
     /// In text order of the form's parameters and then its locals.
@@ -73,10 +73,11 @@ pub struct Use {
     pub rect: Rect,
     pub mode: Mode,
     /// The form that the call reaches.
-    pub callee: usize,
+    pub callee: u32,
 }
 
-/// By what two finds of a form are known as one: the caller's form and call, and the extents and flags of the arguments.
+/// By what two finds of a form are known as one: the caller's form and call, the instance, and the flags and extents of
+/// the arguments.
 #[derive(Debug, Drop)]
 pub struct Key {
     numbers: Items<u32>,

@@ -13,6 +13,7 @@ use crate::faults::refused_named;
 use crate::form::{Form, Found, Key, LocalArray, Use};
 use crate::stmt::{At, stmts};
 use crate::tables::{RoutesByTask, SettingsByName, Variants};
+use crate::tally::push_tallies;
 use crate::walk::Walk;
 use crate::world::Frame;
 use indexmap::IndexMap;
@@ -90,10 +91,13 @@ fn walk_body(
     match body {
         Body::Inner(list) => {
             let mut path = Items::new(alloc);
+            let mut maps = Items::new(alloc);
+            push_tallies(&mut maps, list.as_slice())?;
             let at = At {
                 call: 0,
                 outer: None,
                 reduced: None,
+                maps: maps.as_slice(),
             };
             stmts(
                 alloc,

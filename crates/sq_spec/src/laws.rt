@@ -1,6 +1,11 @@
 //! What follows from the definitions of the walk.
 
-ghost use Rattle.sq_spec.specs.Laws.{FirstFault, AllPassed, KeyIsForm, PassedIsUnaliased, InPlaceIsApart, LimitIsExact, EachWalked, FewForms, CallersFirst};
+ghost use Rattle.sq_spec.specs.Laws.{FirstFault, AllPassed, KeyIsForm, PassedIsUnaliased, AliasIsExact, InPlaceIsApart, FlagsAreExact, ShapeIsExact, LimitIsExact, EachWalked, FewForms, CallersFirst};
+ghost use Rattle.sq_spec.specs.Insides.{ArgumentsLieInside, AccessesLieInside};
+ghost use Rattle.sq_spec.specs.Named.{DeclaredNamesStand, VariablesStand, StandingNamesServe};
+ghost use Rattle.sq_spec.specs.Needs.{NeedIsOne, NoFormNoNeed, EntryIsAtRoot, FormsRunAtTheirLevel, CallsAreThoseReached};
+ghost use Rattle.sq_spec.specs.Served.{CallsAreServed, FormsFit, FormsRun};
+ghost use Rattle.sq_spec.specs.Reached.{CallsAreReached, UsesAreInOrder, AsManyForms, FormsAreFound, FormsCallersFirst, FormsRan};
 
 /// The walk stops at the first of its steps that is at fault.
 pub fn first_fault_is_first()
@@ -22,9 +27,24 @@ pub fn what_passes_is_unaliased()
     ensures { PassedIsUnaliased }
 {}
 
+/// No argument of a call is an alias exactly where no two written arguments share an element.
+pub fn alias_is_exact()
+    ensures { AliasIsExact }
+{}
+
 /// An argument in place is apart from the others.
 pub fn what_is_in_place_is_apart()
     ensures { InPlaceIsApart }
+{}
+
+/// An argument is in place exactly where its call is at the same level and it is apart from the others.
+pub fn flags_are_exact()
+    ensures { FlagsAreExact }
+{}
+
+/// Arguments have the shapes of their parameters exactly where each size name has one value.
+pub fn shape_is_exact()
+    ensures { ShapeIsExact }
 {}
 
 /// An outermost map has exactly as many uses as are allowed before one is at fault.
@@ -42,7 +62,67 @@ pub fn forms_are_few()
     ensures { FewForms }
 {}
 
-/// Forms are a tree: each but the entry is called from a form before it.
+/// Forms are a tree: each but the entry is called from a form before it, of those that are found and of the answer's.
 pub fn callers_come_first()
-    ensures { CallersFirst }
+    ensures found { CallersFirst }
+    ensures forms { FormsCallersFirst }
+{}
+
+/// The forms of the answer are those that were found, as many and in their order, with their locals.
+pub fn forms_are_those_found()
+    ensures many { AsManyForms }
+    ensures each { FormsAreFound }
+{}
+
+/// Where a form's statements go through, each call among their steps is reached: its arguments are there, and none of
+/// its tests is at fault.
+pub fn calls_are_reached()
+    ensures { CallsAreReached }
+{}
+
+/// The accesses that steps add are those of their calls, in order.
+pub fn uses_are_in_order()
+    ensures { UsesAreInOrder }
+{}
+
+/// Each form of the answer ran: its locals are those of its declarations, its accesses those of its calls in order, each
+/// call is reached, and the form that its accesses name is its callee.
+pub fn forms_ran()
+    ensures { FormsRan }
+{}
+
+/// Each argument of a form's calls lies inside its array, and so does each of its accesses.
+pub fn accesses_lie_inside()
+    ensures arguments { ArgumentsLieInside }
+    ensures accesses { AccessesLieInside }
+{}
+
+/// Under a mapping that was read each call of an instance's variant is served by an instance with a variant.
+pub fn calls_are_served()
+    ensures { CallsAreServed }
+{}
+
+/// Under a program without a fault and a mapping that was read each form of the answer has an instance, a variant and
+/// extents that fit its parameters; so it ran.
+pub fn every_form_runs()
+    ensures fit { FormsFit }
+    ensures run { FormsRun }
+{}
+
+/// Each name that is known at a place of a program without a fault stands for something there: behind the declarations
+/// of a form, and in each iteration of a map.
+pub fn known_names_stand()
+    ensures declared { DeclaredNamesStand }
+    ensures variables { VariablesStand }
+    ensures serve { StandingNamesServe }
+{}
+
+/// A node needs one number of bytes, which is 0 where no form runs; the entry runs at the root alone; and each form runs
+/// at nodes of its level. The calls by which that is said are those that the walk reached.
+pub fn needs_are_sound()
+    ensures one { NeedIsOne }
+    ensures none { NoFormNoNeed }
+    ensures root { EntryIsAtRoot }
+    ensures levels { FormsRunAtTheirLevel }
+    ensures calls { CallsAreThoseReached }
 {}

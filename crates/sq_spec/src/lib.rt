@@ -2,6 +2,8 @@
 #![tactic(auto)]
 
 mod args;
+mod begun;
+mod bodies;
 mod call;
 mod decls;
 mod faults;
@@ -9,12 +11,16 @@ mod form;
 mod forms;
 mod known;
 pub mod laws;
+pub mod meaning;
 mod ranges;
 mod resolved;
 mod stmt;
 mod tables;
+mod tally;
 mod walk;
 mod world;
 
+pub use args::Argument;
+pub use begun::{Begun, Manner, Reached, Reduction};
 pub use form::{Caller, Form, LocalArray, Use};
 pub use resolved::{Resolved, resolve};

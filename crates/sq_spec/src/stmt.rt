@@ -13,6 +13,7 @@ ghost use Rattle.sq_spec.specs.Stmts as spec;
 use crate::call::{Spot, make_call};
 use crate::known::Known;
 use crate::ranges::{bind_iteration, bounds, times};
+use crate::tally::{Tally, behind, call_behind, calls_of, maps_of};
 use crate::walk::Walk;
 use crate::world::Frame;
 use sq_ast::{MapKind, Range, Stmt};
@@ -30,51 +31,17 @@ pub struct At<'a> {
     pub outer: Option<Place>,
     /// The array that the map round them reduces into.
     pub reduced: Option<&'a Name>,
+    /// Of the maps among them, and of those behind.
+    pub maps: &'a [Tally],
 }
 
-fn reduced_by(kind: &MapKind) -> Option<&Name>
+pub fn reduced_by(kind: &MapKind) -> Option<&Name>
     ensures { option_copied result ≡ spec.reduced_by kind.now }
 {
     match kind {
         MapKind::Par | MapKind::Seq => None,
         MapKind::Reduce { array, .. } => Some(&array.name),
     }
-}
-
-// Added where it has 32 bits; else memory would have run out before.
-fn plus(a: u32, b: u32) -> Result<u32, Stop>
-    ensures { spec.Counts result (a + b) }
-{
-    match a.checked_add(b) {
-        Some(sum) => Ok(sum),
-        None => Err(Stop::NoMemory),
-    }
-}
-
-/// How many calls stand in a statement.
-#[cycle(calls)]
-#[tactic(auto, using(crate::proofs::OpenedStmt::opened_stmt))]
-fn calls_in(s: &Stmt) -> Result<u32, Stop>
-    ensures { spec.Counts result (spec.portion s.now).calls }
-{
-    match s {
-        Stmt::Call(_) => Ok(1),
-        Stmt::Map { body, .. } => {
-            let count = calls_in_all(body.as_slice())?;
-            Ok(count)
-        }
-    }
-}
-
-#[cycle(calls)]
-fn calls_in_all(list: &[Stmt]) -> Result<u32, Stop>
-    ensures { spec.Counts result (spec.calls_of (map spec.portion list.now)) }
-{
-    let mut count = 0;
-    for s in list {
-        count = plus(count, calls_in(s)?)?;
-    }
-    Ok(count)
 }
 
 fn open_outermost(walk: &mut Walk, outer: Option<Place>)
@@ -161,6 +128,7 @@ pub fn stmt(
     at: &At<'_>,
     s: &Stmt,
 ) -> Result<(), Stop>
+    requires { spec.Begins (spec.portion s.now).maps at.now.maps.now }
     ensures steps { steps.Walks result (steps.state_of walk.old) (steps.state_of walk.new) (spec.stmt_steps s.now (worlds.frame_of frame.now) (argued.names_of known.now) (spec.spot_at at.now path.old) numbers.old) }
     ensures numbers { OnOk result (numbers.new ≡ numbers.old) }
     ensures path { OnOk result (path.new ≡ path.old) }
@@ -190,6 +158,7 @@ pub fn stmt(
                 call: at.call,
                 outer: Some(outer),
                 reduced: reduced_by(kind),
+                maps: behind(at.maps, 1),
             };
             iterations(
                 alloc,
@@ -223,7 +192,8 @@ fn iterations(
     bounds: &[i64],
     body: &[Stmt],
 ) -> Result<(), Stop>
-    requires { inside.now.outer ≡ Some outer }
+    requires outer { inside.now.outer ≡ Some outer }
+    requires maps { spec.Begins (spec.maps_of (map spec.portion body.now)) inside.now.maps.now }
     ensures steps { steps.Walks result (steps.state_of walk.old) (steps.state_of walk.new) (spec.each 0 (spec.times bounds.now) (spec.iteration_steps outer (λ t. spec.spot_at inside.now (path.old ++ t ∷ [])) ranges.now (spec.stmts_steps body.now) bounds.now (worlds.frame_of frame.now) (argued.names_of known.now) numbers.old)) }
     ensures numbers { OnOk result (numbers.new ≡ numbers.old) }
     ensures path { OnOk result (path.new ≡ path.old) }
@@ -250,20 +220,24 @@ pub fn stmts(
     at: &At<'_>,
     list: &[Stmt],
 ) -> Result<(), Stop>
+    requires { spec.Begins (spec.maps_of (map spec.portion list.now)) at.now.maps.now }
     ensures steps { steps.Walks result (steps.state_of walk.old) (steps.state_of walk.new) (spec.stmts_steps list.now (worlds.frame_of frame.now) (argued.names_of known.now) (spec.spot_at at.now path.old) numbers.old) }
     ensures numbers { OnOk result (numbers.new ≡ numbers.old) }
     ensures path { OnOk result (path.new ≡ path.old) }
     ensures left { OnOk result (is_some at.now.outer ≡ true → walk.new.left ≤ walk.old.left) }
 {
     let mut call = at.call;
+    let mut maps = at.maps;
     for s in list {
         let here = At {
             call,
             outer: at.outer,
             reduced: at.reduced,
+            maps,
         };
         stmt(alloc, walk, frame, known, numbers, path, &here, s)?;
-        call = plus(call, calls_in(s)?)?;
+        call = call_behind(call, calls_of(maps, s))?;
+        maps = behind(maps, maps_of(maps, s) as usize);
     }
     Ok(())
 }

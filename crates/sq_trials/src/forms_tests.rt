@@ -257,11 +257,11 @@ fn is_form(form: &Form, instance: u32, level: u32, caller: Option<Caller>, exten
         && form.locals.len() == 0
 }
 
-fn is_use(u: &Use, arg: usize, iteration: u32, span: Span, callee: usize) -> bool {
+fn is_use(u: &Use, arg: u32, iteration: u32, span: Span, callee: u32) -> bool {
     let mode = if arg == 0 { Mode::Input } else { Mode::Output };
     u.call == 0
         && u.arg == arg
-        && u.array as usize == arg
+        && u.array == arg
         && u.iterations.as_slice() == [iteration].as_slice()
         && u.rect.as_slice() == [span].as_slice()
         && u.mode == mode
@@ -377,6 +377,95 @@ fn forms_are_limited(rt: HostRuntime) -> Result<(), Fail> {
         b"t",
     );
     Ok(())
+}
+
+// A variant with so many calls, and one more on a line of its own where it is wanted.
+fn calls(alloc: Global, count: usize, one_more: bool) -> Result<Vec<u8>, AllocError> {
+    let mut text = Vec::new(alloc);
+    text.extend_from_slice(b"task t::inner(inout int A[N]) { ")?;
+    for _ in 0..count {
+        text.extend_from_slice(b"t(A); ")?;
+    }
+    if one_more {
+        text.extend_from_slice(b"\nt(A); ")?;
+    }
+    text.extend_from_slice(b"} task t::leaf(inout int A[N]) { }")?;
+    Ok(text)
+}
+
+const CALLS_MAP: &[u8] =
+    b"mapping 1; entry top(N = 8); instance top = t::inner @ host { call t -> low; } instance low = t::leaf @ core { }";
+
+// The entry and 4,095 calls are 4,096 forms, as many as there may be.
+#[test]
+fn calls_of_one_variant_are_limited(rt: HostRuntime) -> Result<(), Fail> {
+    let most = calls(rt.alloc(), 4_095, false)?;
+    let passed = outcome(&rt, rt.alloc(), most.as_slice(), CALLS_MAP);
+    assert!(rt; matches!(passed, Ok((4_096, 4_095))));
+    let more = calls(rt.alloc(), 4_095, true)?;
+    let place = Place { line: 2, col: 1 };
+    is_refused(
+        &rt,
+        rt.alloc(),
+        more.as_slice(),
+        CALLS_MAP,
+        Code::LimitCalls,
+        place,
+        b"t",
+    );
+    Ok(())
+}
+
+// Parameters and locals of 2^24 rows and of 2^26 elements, as many as there may be.
+const LARGEST: [&[u8]; 4] = [
+    b"task t::leaf(inout int A[N], in int B[16777216]) { }",
+    b"task t::leaf(inout int A[N], in int B[8192][8192]) { }",
+    b"task t::leaf(inout int A[N]) { local int L[N * 2097152]; }",
+    b"task t::leaf(inout int A[N]) { local int L[16777216][4]; }",
+];
+
+// One row or one column more.
+const TOO_LARGE: [(&[u8], u32, &[u8]); 4] = [
+    (
+        b"task t::leaf(inout int A[N], in int B[16777217]) { }",
+        37,
+        b"B",
+    ),
+    (
+        b"task t::leaf(inout int A[N], in int B[8192][8193]) { }",
+        37,
+        b"B",
+    ),
+    (
+        b"task t::leaf(inout int A[N]) { local int L[N * 2097152 + 1]; }",
+        42,
+        b"L",
+    ),
+    (
+        b"task t::leaf(inout int A[N]) { local int L[16777216][5]; }",
+        42,
+        b"L",
+    ),
+];
+
+#[test]
+fn arrays_are_limited(rt: HostRuntime) {
+    for program in LARGEST {
+        let passed = outcome(&rt, rt.alloc(), program, LEAF_MAP);
+        assert!(rt; matches!(passed, Ok((1, 0))));
+    }
+    for (program, col, name) in TOO_LARGE {
+        let place = Place { line: 1, col };
+        is_refused(
+            &rt,
+            rt.alloc(),
+            program,
+            LEAF_MAP,
+            Code::LimitArray,
+            place,
+            name,
+        );
+    }
 }
 
 fn nested(text: &mut Vec<u8>, name: &[u8], maps: u8) -> Result<(), AllocError> {

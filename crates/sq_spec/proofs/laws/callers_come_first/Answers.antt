@@ -1,5 +1,6 @@
+use Rattle.sq_spec.proofs.AnswerHold.{forms_callers_first}
 use Rattle.sq_spec.proofs.TreeHolds.{callers_first}
 use Rattle.sq_spec.proofs.laws.callers_come_first.Goals as goal
 
 pub returns : goal.returns
-returns c = callers_first
+returns c = record { found = callers_first; forms = forms_callers_first }

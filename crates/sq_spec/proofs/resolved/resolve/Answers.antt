@@ -1,5 +1,6 @@
-use Rattle.std.proofs.Common.{refl}
+use Rattle.std.proofs.Common.{refl, ap}
 use Rattle.sq_spec.specs.Resolving.{resolving_of}
+use Rattle.sq_spec.specs.Works.{found_in}
 use Rattle.sq_spec.proofs.AllForms.{paired, of_program}
 use Rattle.sq_spec.proofs.resolved.resolve.Goals as goal
 
@@ -16,3 +17,7 @@ returns-clause-forms c = record {
   are = refl;
   used = refl;
 }
+
+pub returns-clause-found : goal.returns-clause-found
+returns-clause-found c =
+    ap found_in (of_program c.args.typed.now c.program.result.now c.args.mapping.now (resolving_of c.in_ok-found.found) c.program.ensures.same c.in_ok-found.ensures)

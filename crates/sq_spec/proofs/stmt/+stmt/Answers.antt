@@ -46,7 +46,7 @@ iterations-loop-t-preserved t c =
           (ap (spec.spot_at c.args.inside.now) longer) more c.in_ok-begin.ensures.steps c.in_ok-stmts.ensures.steps;
       numbers = c.end.ensures.numbers ∙ left_behind c.args.ranges.now c.args.bounds.now c.loop-t.t c.len-outside.result c.args.numbers.now c.stmts.new.numbers c.len-outside.ensures (c.in_ok-stmts.ensures.numbers ∙ more);
       path = c.end.ensures.path c.args.path.now c.loop-t.t (c.in_ok-stmts.ensures.path ∙ longer);
-      left = omega (arith, c.in_ok-begin.ensures.left, c.in_ok-stmts.ensures.left (ap is_some c.requires));
+      left = omega (arith, c.in_ok-begin.ensures.left, c.in_ok-stmts.ensures.left (ap is_some c.requires.outer));
     }
 
 pub iterations-returns-clause-steps : goal.iterations-returns-clause-steps

@@ -1,4 +1,4 @@
-use Rattle.std.proofs.Common.{◌≡◌, ◌≤◌, ◌+◌, ◌-◌, ◌∷◌, ◌++◌, List, [], true, is_some, drop}
+use Rattle.std.proofs.Common.{◌≡◌, ◌≤◌, ◌+◌, ◌-◌, ◌∷◌, ◌++◌, List, [], true, is_some, drop, map}
 use Rattle.std.specs.Option.{option_copied}
 use Rattle.sq_spec.specs.Steps.{Step, run, state_of}
 use Rattle.sq_spec.specs.Args.{names_of}
@@ -20,6 +20,7 @@ abbrev pub invariant-stmts-loop-s : goal.invariant-stmts-loop-s
 invariant-stmts-loop-s l = record {
   steps : (later : List Step) → run (state_of l.fn.walk) (spec.stmts_steps l.list (frame_of l.frame) (names_of l.known) (spec.spot_at l.at l.fn.path) l.fn.numbers later)
       ≡ run (state_of l.walk) (spec.stmts_steps (drop l.s-index l.list) (frame_of l.frame) (names_of l.known) (record { call = l.call; outer = l.at.outer; reduced = option_copied l.at.reduced; iterations = l.fn.path }) l.fn.numbers later);
+  maps : spec.Begins (spec.maps_of (map spec.portion (drop l.s-index l.list))) l.maps;
   numbers : l.numbers ≡ l.fn.numbers;
   path : l.path ≡ l.fn.path;
   left : is_some l.at.outer ≡ true → l.walk.left ≤ l.fn.walk.left;

@@ -1,0 +1,72 @@
+-- One more turn of the loops that fill tables.
+use Rattle.std.proofs.Common.{◌≡◌, ◌==◌, Option, ℕ, suc, ◌+◌, ◌-◌, ◌<◌, List, [], ◌∷◌, ◌++◌, map, drop, refl, sym, ap, ◌∙◌, arith, append_assoc}
+use Rattle.sq_text.specs.Names.{Bytes}
+use Rattle.sq_ast.specs.declared.expr.ArgUse.{ArgUse}
+use Rattle.sq_blocks.specs.Names.{Numbers}
+use Rattle.sq_spec.specs.declared.args.Argument.{Argument}
+use Rattle.sq_spec.specs.declared.begun.Reached.{Reached}
+use Rattle.sq_spec.specs.Steps.{Forms, key_number}
+use Rattle.sq_spec.specs.Args.{Names, arguments}
+use Rattle.sq_spec.specs.Worlds.{Frame, Callee}
+use Rattle.sq_spec.specs.Calls.{key_of, flags, extents_of}
+use Rattle.sq_num.specs.declared.Elem.{Elem}
+use Rattle.sq_ast.specs.declared.stmt.Range.{Range}
+use Rattle.sq_ast.specs.declared.stmt.Stmt.{Stmt}
+use Rattle.sq_spec.specs.declared.begun.Begun.{Begun}
+use Rattle.sq_spec.specs.Stmts.{portion}
+use Rattle.sq_ast.specs.declared.program.Body.{Body}
+use Rattle.sq_ast.specs.declared.program.Body.TheVariants as body
+use Rattle.sq_ast.specs.declared.program.Variant.{Variant}
+use Rattle.sq_spec.specs.Decls.{Scope}
+use Rattle.sq_spec.specs.Begun.{over, number_or, reached, Tabled, all_of, tabled, tables, elems_of, body_tables}
+use Rattle.sq_spec.proofs.OpenedBegun.{same_calls}
+
+map_both : {A B : Type 0} (f : A → B) (xs ys : List A) → map f (xs ++ ys) ≡ map f xs ++ map f ys
+map_both f [] ys = refl
+map_both f (x ∷ xs) ys = ap (λ zs. f x ∷ zs) (map_both f xs ys)
+
+first_over : {A : Type 0} (t n : ℕ) (inner : ℕ → List A) → t < n → over t (n - t) inner ≡ inner t ++ over (t + 1) (n - (t + 1)) inner
+first_over t n inner lt = let e : n - t ≡ suc (n - (t + 1)) = omega (arith, lt) in ap (λ k. over t k inner) e
+
+pub one_more : {A B : Type 0} (row : A → B) (inner : ℕ → List A) (t n : ℕ) (old new whole : List B) → t < n → new ≡ old ++ map row (inner t)
+    → old ++ map row (over t (n - t) inner) ≡ whole → new ++ map row (over (t + 1) (n - (t + 1)) inner) ≡ whole
+one_more row inner t n old new whole lt pushed kept =
+    let rest = over (t + 1) (n - (t + 1)) inner in
+    ap (λ xs. xs ++ map row rest) pushed
+    ∙ (append_assoc old (map row (inner t)) (map row rest)
+    ∙ (ap (λ xs. old ++ xs) (sym (ap (map row) (first_over t n inner lt) ∙ map_both row (inner t) rest)) ∙ kept))
+
+-- what a call reaches, from its parts
+pub reached_is : (forms : Forms) (frame : Frame) (names : Names) (call : ℕ) (reduced : Option Bytes) (its : Callee) (args : List ArgUse) (numbers : Numbers)
+    → (xs ys : List Argument) (n : ℕ) → xs ≡ arguments names numbers reduced its.params 0 args → ys ≡ xs
+    → n ≡ number_or (key_number forms (key_of frame.form call its.instance (flags (its.level == frame.level) ys) (extents_of ys)))
+    → record { form = n; args = xs } ≡ reached forms frame names call reduced its args numbers
+reached_is forms frame names call reduced its args numbers xs ys n are same is =
+    let number : List Argument → ℕ = λ zs. number_or (key_number forms (key_of frame.form call its.instance (flags (its.level == frame.level) zs) (extents_of zs))) in
+    let made : List Argument → Reached = λ zs. record { form = number zs; args = zs } in
+    let one : ◌≡◌ {A = Reached} (record { form = n; args = xs }) (made xs) = ap (λ m. record { form = m; args = xs }) (is ∙ ap number same) in
+    one ∙ ap made are
+
+-- one more statement
+module _ (forms : Forms) (frame : Frame) (names : Names) (elems : List Elem) (numbers : Numbers) where
+  pub statement_more : (list : List Stmt) (i : ℕ) (x : Stmt) (call next count : ℕ) (reduced : Option Bytes) (nest : List (List Range))
+      (old new whole : List Begun) (table : Begun)
+      → drop i list ≡ x ∷ drop (i + 1) list → table ≡ (tabled forms frame names elems numbers x).table call reduced nest
+      → count ≡ (portion x).calls → next ≡ call + count → new ≡ old ++ table ∷ []
+      → old ++ all_of (map (tabled forms frame names elems numbers) (drop i list)) call reduced nest ≡ whole
+      → new ++ all_of (map (tabled forms frame names elems numbers) (drop (i + 1) list)) next reduced nest ≡ whole
+  statement_more list i x call next count reduced nest old new whole table split is counted added pushed kept =
+      let each : Stmt → Tabled = tabled forms frame names elems numbers in
+      let rest : ℕ → List Begun = λ n. all_of (map each (drop (i + 1) list)) n reduced nest in
+      let after : next ≡ call + (each x).calls = added ∙ ap (λ n. call + n) (counted ∙ sym (same_calls forms frame names elems numbers x)) in
+      let all : all_of (map each (drop i list)) call reduced nest ≡ table ∷ rest next =
+      ap (λ l. all_of (map each l) call reduced nest) split ∙ (ap (λ b. b ∷ rest (call + (each x).calls)) (sym is) ∙ ap (λ n. table ∷ rest n) (sym after)) in
+      ap (λ l. l ++ rest next) pushed ∙ (append_assoc old (table ∷ []) (rest next) ∙ (ap (λ l. old ++ l) (sym all) ∙ kept))
+
+-- the statements of a body
+pub body_is : (forms : Forms) (frame : Frame) (v : Variant) (b : Body) (scope : Scope) (list seen : List Stmt) (elems : List Elem) (made : List Begun)
+    → made ≡ tables forms frame scope.names elems scope.numbers seen → b ≡ body.Inner list → seen ≡ list → elems ≡ elems_of v scope
+    → made ≡ body_tables forms frame v b scope
+body_is forms frame v b scope list seen elems made is inner same types =
+    is ∙ (ap (tables forms frame scope.names elems scope.numbers) same
+    ∙ (ap (λ es. tables forms frame scope.names es scope.numbers list) types ∙ ap (λ x. body_tables forms frame v x scope) (sym inner)))

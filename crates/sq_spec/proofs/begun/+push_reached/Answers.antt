@@ -1,0 +1,34 @@
+use Rattle.std.proofs.Common.{rules, ◌≡◌, ◌<◌, ◌++◌, ℕ, List, map, ap, ◌∙◌, arith}
+use Rattle.std.specs.Option.{option_copied}
+use Rattle.sq_blocks.specs.Names.{Numbers}
+use Rattle.sq_spec.specs.declared.begun.Reached.{Reached}
+use Rattle.sq_spec.specs.Args as argued
+use Rattle.sq_spec.specs.Worlds as worlds
+use Rattle.sq_spec.specs.Stmts as stmts
+use Rattle.sq_spec.specs.Begun as spec
+use Rattle.sq_spec.proofs.Scopes.{left_behind}
+use Rattle.sq_spec.proofs.BegunLists.{one_more}
+use Rattle.sq_spec.proofs.begun.+push_reached.Goals as goal
+
+pub loop-t-preserved : goal.loop-t-preserved
+loop-t-preserved t c =
+    let lists = (argued.names_of c.args.setting.now.known.now).lists in
+    let row : Numbers → Reached = spec.reached c.args.setting.now.forms.now.entries (worlds.frame_of c.args.setting.now.frame.now)
+    (argued.names_of c.args.setting.now.known.now)
+    c.args.met.now.number (option_copied c.args.met.now.reduced) (worlds.callee_by c.args.met.now.callee) c.args.met.now.args.now in
+    let ranges = c.level.inside.ranges.now in
+    let bounds = c.bounds.inside.items.items in
+    let inner : ℕ → List Numbers = λ k. spec.moments c.in-Some.inside.now lists (stmts.in_iteration ranges bounds k c.args.numbers.now) in
+    let count : c.in_ok-t-end.t-end ≡ stmts.times bounds = search rules in
+    let lt : c.loop-t.t < stmts.times bounds = omega (arith, count, c.loop-t-test.true) in
+    let same : c.as_slice-in-loop-t.result.now ≡ bounds = search rules in
+    let made : c.bind_iteration.new.numbers ≡ stmts.in_iteration ranges bounds c.loop-t.t c.args.numbers.now =
+    c.in_ok-bind_iteration.ensures ∙ (ap (λ b. stmts.in_iteration ranges b c.loop-t.t c.loop-t.numbers) same
+    ∙ ap (stmts.in_iteration ranges bounds c.loop-t.t) c.loop-t.invariant.numbers) in
+    record {
+      times = one_more row inner c.loop-t.t (stmts.times bounds) c.loop-t.times c.push_reached.new.times _ lt
+          (c.in_ok-push_reached.ensures.times ∙ ap (λ ns. c.loop-t.times ++ map row (spec.moments c.in-Some.inside.now lists ns)) made)
+          c.loop-t.invariant.times;
+      numbers = c.truncate.ensures ∙ left_behind ranges bounds c.loop-t.t c.len-outside.result c.args.numbers.now c.push_reached.new.numbers
+          c.len-outside.ensures (c.in_ok-push_reached.ensures.numbers ∙ made);
+    }

@@ -1,0 +1,177 @@
+-- The statements of a form with what each is begun with, every time, in the order in which they would run.
+use Rattle.std.specs.Prelude.{ℕ, zero, suc, ◌+◌, ◌==◌, false, List, [], ◌∷◌, ◌++◌, map, Option, Some, None, Ok, Err, slice_get}
+use Rattle.std.specs.Map.{lookup}
+use Rattle.sq_num.specs.declared.Elem.{Elem}
+use Rattle.sq_num.specs.declared.Elem.TheVariants.{Long}
+use Rattle.sq_num.specs.declared.RedOp.{RedOp}
+use Rattle.sq_text.specs.Names.{Bytes, same_name}
+use Rattle.sq_ast.specs.declared.expr.ArgUse.{ArgUse}
+use Rattle.sq_ast.specs.declared.program.Body.{Body}
+use Rattle.sq_ast.specs.declared.program.Body.TheVariants as body
+use Rattle.sq_ast.specs.declared.program.Param.{Param}
+use Rattle.sq_ast.specs.declared.program.Variant.{Variant}
+use Rattle.sq_ast.specs.declared.stmt.Call.{Call}
+use Rattle.sq_ast.specs.declared.stmt.Range.{Range}
+use Rattle.sq_ast.specs.declared.stmt.MapKind.{MapKind}
+use Rattle.sq_ast.specs.declared.stmt.MapKind.TheVariants.{Par, Seq, Reduce}
+use Rattle.sq_ast.specs.declared.stmt.Stmt.{Stmt}
+use Rattle.sq_ast.specs.declared.stmt.Stmt.TheOpen.{Stmt-F}
+use Rattle.sq_ast.specs.declared.stmt.Stmt.TheFolds.{fold-Stmt}
+use Rattle.sq_mapfile.specs.declared.mapping.Instance.{Instance}
+use Rattle.sq_blocks.specs.Names.{Numbers, Lists}
+use Rattle.sq_spec.specs.declared.begun.Reduction.{Reduction}
+use Rattle.sq_spec.specs.declared.begun.Manner.{Manner}
+use Rattle.sq_spec.specs.declared.begun.Manner.TheVariants as manner
+use Rattle.sq_spec.specs.declared.begun.Reached.{Reached}
+use Rattle.sq_spec.specs.declared.begun.Begun.{Begun}
+use Rattle.sq_spec.specs.declared.begun.Begun.TheVariants as begun
+use Rattle.sq_spec.specs.declared.form.Found.{Found}
+use Rattle.sq_spec.specs.declared.form.LocalArray.{LocalArray}
+use Rattle.sq_spec.specs.declared.known.Array.{Array}
+use Rattle.sq_spec.specs.Faults.{Value, value_or}
+use Rattle.sq_spec.specs.Steps.{Forms, Key, key_number}
+use Rattle.sq_spec.specs.Tables.{variant_of}
+use Rattle.sq_spec.specs.Args.{Names, arguments}
+use Rattle.sq_spec.specs.Worlds.{Frame, Callee, callee_of}
+use Rattle.sq_spec.specs.Calls.{key_of, flags, extents_of}
+use Rattle.sq_spec.specs.Stmts.{bounds, times_of, in_iteration, reduced_by}
+use Rattle.sq_spec.specs.Decls.{Scope, empty_scope, params_from, all_declared}
+use Rattle.sq_spec.specs.Resolving.{frame_in}
+
+-- ---- when a statement is begun
+
+-- n parts of a list, for the iterations from the t-th on
+abbrev pub over : {A : Type 0} → ℕ → ℕ → (ℕ → List A) → List A
+over t zero f = []
+over t (suc n) f = f t ++ over (t + 1) n f
+
+-- what the numbers are, each time that a statement is begun in maps with these ranges, the outermost first:
+-- of i = 0 to 2 round j = 0 to i + 1 they are (0, 0), (1, 0), (1, 1)
+abbrev pub moments : List (List Range) → Lists → Numbers → List Numbers
+moments [] lists numbers = numbers ∷ []
+moments (ranges ∷ inside) lists numbers =
+    let ns = bounds ranges numbers lists in
+    over 0 (times_of ns) (λ t. moments inside lists (in_iteration ranges (value_or [] ns) t numbers))
+
+-- ---- with what
+
+abbrev pub number_or : Option ℕ → ℕ
+number_or None = 0
+number_or (Some n) = n
+
+abbrev pub count_at : List Range → Lists → Numbers → ℕ
+count_at ranges lists numbers = times_of (bounds ranges numbers lists)
+
+-- how many iterations there are before each time: of the counts 2, 0 and 3 the starts are 0, 2 and 2
+abbrev pub starts_from : ℕ → List ℕ → List ℕ
+starts_from n [] = []
+starts_from n (count ∷ counts) = n ∷ starts_from (n + count) counts
+
+-- the form that a call reaches, and its arguments
+abbrev pub reached : Forms → Frame → Names → ℕ → Option Bytes → Callee → List ArgUse → Numbers → Reached
+reached forms frame names call reduced its args numbers =
+    let xs = arguments names numbers reduced its.params 0 args in
+    record { form = number_or (key_number forms (key_of frame.form call its.instance (flags (its.level == frame.level) xs) (extents_of xs))); args = xs }
+
+abbrev pub elem_or_long : Option Elem → Elem
+elem_or_long (Some elem) = elem
+elem_or_long None = Long
+
+abbrev pub array_number : Option Array → ℕ
+array_number None = 0
+array_number (Some a) = a.number
+
+-- into the array of this number, whose elements have the type that stands under it
+abbrev pub reduction_of : List Elem → RedOp → ℕ → Reduction
+reduction_of elems op array = record { op = op; elem = elem_or_long (slice_get elems array); array = array }
+
+abbrev pub manner_of : List Elem → Names → MapKind → Manner
+manner_of elems names Seq = manner.InTurn
+manner_of elems names Par = manner.AtOnce
+manner_of elems names (Reduce op array) = manner.Gathering (reduction_of elems op (array_number (lookup (same_name array.name) names.arrays)))
+
+-- ---- statements
+
+-- how many calls stand in it, and its tables, by the number of its first call, the array that is reduced into and the maps round it
+pub record Tabled : Type 0 where
+  pub calls : ℕ
+  pub table : ℕ → Option Bytes → List (List Range) → Begun
+
+abbrev pub calls_of : List Tabled → ℕ
+calls_of [] = 0
+calls_of (p ∷ ps) = p.calls + calls_of ps
+
+-- calls are numbered in text order
+abbrev pub all_of : List Tabled → ℕ → Option Bytes → List (List Range) → List Begun
+all_of [] call reduced nest = []
+all_of (p ∷ ps) call reduced nest = p.table call reduced nest ∷ all_of ps (call + p.calls) reduced nest
+
+-- elems: the element types of the form's arrays; numbers: those at the form's start
+module _ (forms : Forms) (frame : Frame) (names : Names) (elems : List Elem) (numbers : Numbers) where
+  abbrev pub call_table : Call → Option Callee → ℕ → Option Bytes → List (List Range) → Begun
+  call_table c None call reduced nest = begun.Call false []
+  call_table c (Some its) call reduced nest =
+      begun.Call (its.level == suc frame.level) (map (reached forms frame names call reduced its c.args) (moments nest names.lists numbers))
+
+  abbrev pub stmt_step : Stmt-F Tabled → Tabled
+  stmt_step (Stmt-F.Call c) = record { calls = 1; table = call_table c (callee_of frame c.task) }
+  stmt_step (Stmt-F.Map place kind ranges parts) = record {
+    calls = calls_of parts;
+    table = λ call reduced nest.
+        let counts = map (count_at ranges names.lists) (moments nest names.lists numbers) in
+        begun.Map place (manner_of elems names kind) counts (starts_from 0 counts) (all_of parts call (reduced_by kind) (nest ++ ranges ∷ []));
+  }
+
+  abbrev pub tabled : Stmt → Tabled
+  tabled = fold-Stmt Tabled stmt_step
+
+  -- the statements of a form
+  abbrev pub tables : List Stmt → List Begun
+  tables list = all_of (map tabled list) 0 None []
+
+-- ---- forms
+
+abbrev pub param_elems : List Param → List Elem
+param_elems list = map (λ p. p.elem) list
+
+abbrev pub local_elems : List LocalArray → List Elem
+local_elems list = map (λ l. l.elem) list
+
+abbrev pub elems_of : Variant → Scope → List Elem
+elems_of v scope = param_elems v.params ++ local_elems scope.locals
+
+-- forms: all that were found; leaf code has no calls and no maps
+module _ (forms : Forms) where
+  abbrev pub body_tables : Frame → Variant → Body → Scope → List Begun
+  body_tables frame v (body.Inner list) scope = tables forms frame scope.names (elems_of v scope) scope.numbers list
+  body_tables frame v (body.Leaf list) scope = []
+
+  abbrev pub declared_tables : Frame → Variant → Value Scope → List Begun
+  declared_tables frame v (Ok scope) = body_tables frame v v.body scope
+  declared_tables frame v (Err fault) = []
+
+  abbrev pub scope_tables : Frame → Instance → Variant → Option Scope → List Begun
+  scope_tables frame x v None = []
+  scope_tables frame x v (Some scope) = declared_tables frame v (all_declared x.tunings scope v.decls)
+
+  abbrev pub variant_tables : List Variant → List Instance → Instance → ℕ → Found → Option Variant → List Begun
+  variant_tables variants instances x k f None = []
+  variant_tables variants instances x k f (Some v) = scope_tables (frame_in variants instances x k f) x v (params_from empty_scope v.params 0 f.extents)
+
+  abbrev pub instance_tables : List Variant → List Instance → ℕ → Found → Option Instance → List Begun
+  instance_tables variants instances k f None = []
+  instance_tables variants instances k f (Some x) = variant_tables variants instances x k f (variant_of variants x.task x.kind)
+
+  abbrev pub found_tables : List Variant → List Instance → ℕ → Option (Key × Found) → List Begun
+  found_tables variants instances k None = []
+  found_tables variants instances k (Some form) = instance_tables variants instances k form.1 (slice_get instances form.1.instance)
+
+-- the statements of the form with this number
+abbrev pub statements_of : List Variant → List Instance → Forms → ℕ → List Begun
+statements_of variants instances forms k = found_tables forms variants instances k (slice_get forms k)
+
+-- ---- what the code does
+
+abbrev pub worth_or_none : {A : Type 0} → Value A → Option A
+worth_or_none (Ok a) = Some a
+worth_or_none (Err f) = None

@@ -1,0 +1,116 @@
+//! How many calls and maps stand in the maps of a variant, so that calls have their numbers without being counted again.
+
+ghost use Rattle.std.specs.Prelude.{◌≡◌, ◌+◌, ◌++◌, drop, length, map, IfOk, OnOk};
+ghost use Rattle.sq_spec.specs.Faults.{NoRefusal};
+ghost use Rattle.sq_spec.specs.Stmts as spec;
+
+use sq_ast::Stmt;
+use sq_text::Stop;
+use sqlite_items::{Items, at};
+
+/// Of a map: how many calls stand in it, and how many maps, itself among them.
+#[derive(Clone, Copy, Debug, PartialEq, Eq)]
+pub struct Tally {
+    pub calls: u32,
+    pub maps: u32,
+}
+
+// Added where it has 32 bits; else memory would have run out before.
+pub fn plus(a: u32, b: u32) -> Result<u32, Stop>
+    ensures { spec.Counts result (a + b) }
+{
+    match a.checked_add(b) {
+        Some(sum) => Ok(sum),
+        None => Err(Stop::NoMemory),
+    }
+}
+
+/// The number of a call behind so many others.
+pub fn call_behind(call: u32, calls: u32) -> Result<u32, Stop>
+    ensures { spec.Counts result (call + calls) }
+{
+    plus(call, calls)
+}
+
+// Keeps the tallies of the maps of a statement, in text order; how many calls and maps stand in it.
+#[cycle(tallies)]
+#[tactic(auto, using(crate::proofs::OpenedStmt::opened_stmt))]
+fn push_tally(maps: &mut Items<Tally>, s: &Stmt) -> Result<Tally, Stop>
+    ensures none { NoRefusal result }
+    ensures maps { OnOk result (maps.new ≡ maps.old ++ (spec.portion s.now).maps) }
+    ensures sum { IfOk result (λ t. t ≡ spec.sum_of (spec.portion s.now)) }
+{
+    match s {
+        Stmt::Call(_) => Ok(Tally { calls: 1, maps: 0 }),
+        Stmt::Map { body, .. } => {
+            let here = maps.len();
+            maps.push(Tally { calls: 0, maps: 0 })?;
+            let inside = push_tallies(maps, body.as_slice())?;
+            let own = Tally {
+                calls: inside.calls,
+                maps: plus(1, inside.maps)?,
+            };
+            maps.set(here, own);
+            Ok(own)
+        }
+    }
+}
+
+/// Keeps the tallies of the maps of statements, in text order; how many calls and maps stand in them.
+#[cycle(tallies)]
+pub fn push_tallies(maps: &mut Items<Tally>, list: &[Stmt]) -> Result<Tally, Stop>
+    ensures none { NoRefusal result }
+    ensures maps { OnOk result (maps.new ≡ maps.old ++ spec.maps_of (map spec.portion list.now)) }
+    ensures sum { IfOk result (λ t. t ≡ spec.sum_of_all (map spec.portion list.now)) }
+{
+    let mut calls = 0;
+    let mut inside = 0;
+    for s in list {
+        let tally = push_tally(maps, s)?;
+        calls = plus(calls, tally.calls)?;
+        inside = plus(inside, tally.maps)?;
+    }
+    Ok(Tally {
+        calls,
+        maps: inside,
+    })
+}
+
+/// Tallies without so many of the first.
+pub fn behind(maps: &[Tally], count: usize) -> &[Tally]
+    ensures { result.now ≡ drop count maps.now }
+{
+    if count <= maps.len() {
+        &maps[count..]
+    } else {
+        &[]
+    }
+}
+
+/// How many calls stand in a statement whose tallies are the first of these.
+pub fn calls_of(maps: &[Tally], s: &Stmt) -> u32
+    requires { spec.Begins (spec.portion s.now).maps maps.now }
+    ensures { result ≡ (spec.portion s.now).calls }
+{
+    match s {
+        Stmt::Call(_) => 1,
+        Stmt::Map { .. } => match at(maps, 0) {
+            Some(tally) => tally.calls,
+            None => 0,
+        },
+    }
+}
+
+/// How many maps stand in a statement whose tallies are the first of these.
+pub fn maps_of(maps: &[Tally], s: &Stmt) -> u32
+    requires { spec.Begins (spec.portion s.now).maps maps.now }
+    ensures { result ≡ length (spec.portion s.now).maps }
+{
+    match s {
+        Stmt::Call(_) => 0,
+        Stmt::Map { .. } => match at(maps, 0) {
+            Some(tally) => tally.maps,
+            None => 0,
+        },
+    }
+}
