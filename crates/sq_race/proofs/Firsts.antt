@@ -1,14 +1,14 @@
 -- The first race of a form.
-use Rattle.std.proofs.Common.{◌≡◌, ℕ, zero, suc, ◌+◌, ◌<◌, ◌≤◌, ◌⊎◌, arith, refl, ap, sym, ◌∙◌, subst, add-one, Bool, true, false, not, ◌&&◌, ◌||◌, eqb, nat_lt, nat_le, List, [], ◌∷◌, length, take, Option, Some, None, slice_get, get_or, inl, inr}
+use Rattle.std.proofs.Common.{◌≡◌, ℕ, zero, suc, ◌+◌, ◌<◌, ◌≤◌, ◌⊎◌, arith, refl, ap, sym, ◌∙◌, subst, add-one, Bool, true, false, not, ◌&&◌, ◌||◌, eqb, nat_lt, nat_le, List, [], ◌∷◌, length, take, Option, Some, None, Result, Ok, Err, IfOk, slice_get, get_or, inl, inr}
 use Rattle.std.proofs.lemmas.Grind.{common_steps}
-use Rattle.std.proofs.lemmas.Bool.{cases_eq, cases_lt, eqb-true, eq-eqb, leb-true, ltb-true}
+use Rattle.std.proofs.lemmas.Bool.{cases_lt, eqb-true, eq-eqb, leb-true, ltb-true}
 use Rattle.std.proofs.lemmas.Option.{slice_get_within, slice_get-get_or}
 use Rattle.sq_spec.specs.declared.form.Use.{Use}
 use Rattle.sq_race.specs.Accesses.{counts, reduces, writes, shares, races, same_run, same_iteration, clash}
 use Rattle.sq_race.specs.Order.{round}
 use Rattle.sq_race.specs.Pairs.{RaceAt}
 use Rattle.sq_race.specs.Least.{IsLeast, IsLeastPair}
-use Rattle.sq_race.specs.Race.{IsOf, IsRace, HoldsIn, AtOrBefore, IsFirstOf, NoneOfMaps}
+use Rattle.sq_race.specs.Race.{IsOf, IsRace, HoldsIn, AtOrBefore, IsFirstOf, IsFirstAmong}
 use Rattle.sq_race.specs.declared.map.Map.{Map}
 use Rattle.sq_race.specs.declared.pairs.Pair.{Pair}
 use Rattle.sq_race.specs.declared.forms.Found.{Found}
@@ -114,17 +114,6 @@ get_or_none [] i d e = refl
 get_or_none (x ∷ xs) zero d e = absurd (cc)
 get_or_none (x ∷ xs) (suc i) d e = get_or_none xs i d e
 
-pub none_of_maps : (maps : List Map) (uses : List Use) (n : ℕ) (m : Map) → NoneOfMaps maps uses n → slice_get maps n ≡ Some m → IsLeast m uses None → NoneOfMaps maps uses (n + 1)
-none_of_maps maps uses n m none is here = record {
-  at = λ s y h below. elim (cases_eq y.map n) [
-    | inl same ↦ here y.earlier y.later (pair_of maps uses m s y h (rw same is))
-    | inr other ↦ none.at s y h (omega arith)
-  ];
-}
-
-pub none_of_form : (maps : List Map) (uses : List Use) (n : ℕ) → NoneOfMaps maps uses n → length maps ≤ n → (s : List ℕ) (y : Found) → HoldsIn maps uses s y → ⊥
-none_of_form maps uses n none long s y h = none.at s y h (omega (arith, slice_get_within maps y.map h.map h.map_is))
-
 abbrev pub found_as : ℕ → Pair → Found
 found_as n p = record { map = n; later = p.later; earlier = p.earlier }
 
@@ -136,8 +125,13 @@ of_map maps uses m n p is first s y h same =
     let race : IsRace m s h.a h.b = subst (λ (k : Map). IsRace k s h.a h.b) (one_there maps y.map y.map h.map m refl h.map_is here) h.race in
     inr (same, rw race.other.round_is at (first.least y.earlier y.later pair))
 
-pub first_in : (maps : List Map) (uses : List Use) (n : ℕ) (m : Map) (p : Pair) → NoneOfMaps maps uses n → slice_get maps n ≡ Some m → IsLeast m uses (Some p) → IsFirstOf maps uses (Some (found_as n p))
-first_in maps uses n m p none is first = record {
+-- ---- of some maps
+
+one_none : (maps : List Map) (uses : List Use) (n : ℕ) (m : Map) → slice_get maps n ≡ Some m → IsLeast m uses None → IsFirstAmong maps uses n (n + 1) None
+one_none maps uses n m is here = λ s y h low below. let same : y.map ≡ n = omega arith in here y.earlier y.later (pair_of maps uses m s y h (rw same is))
+
+one_some : (maps : List Map) (uses : List Use) (n : ℕ) (m : Map) (p : Pair) → slice_get maps n ≡ Some m → IsLeast m uses (Some p) → IsFirstAmong maps uses n (n + 1) (Some (found_as n p))
+one_some maps uses n m p is first = record {
   round = round m first.race.b;
   holds = record {
     map = m;
@@ -149,21 +143,60 @@ first_in maps uses n m p none is first = record {
     before = first.race.before;
     race = race_from m first.race.a first.race.b first.race.race;
   };
-  least = λ s y h. elim (cases_lt y.map n) [
-    | inl less ↦ absurd (none.at s y h less)
-    | inr more ↦ elim (cases_eq y.map n) [
-      | inr other ↦ inl (omega arith)
-      | inl same ↦ of_map maps uses m n p is first s y h (sym same)
-    ]
+  below = omega arith;
+  least = λ s y h low below. of_map maps uses m n p is first s y h (omega arith);
+}
+
+pub none_among : (maps : List Map) (uses : List Use) (from to : ℕ) → to ≤ from → IsFirstAmong maps uses from to None
+none_among maps uses from to few = λ s y h low below. absurd (omega arith)
+
+pub joined_none : (maps : List Map) (uses : List Use) (from middle to : ℕ) (o : Option Found) → middle ≤ to → IsFirstAmong maps uses from middle None → IsFirstAmong maps uses middle to o → IsFirstAmong maps uses from to o
+joined_none maps uses from middle to None few none high = λ s y h low below. elim (cases_lt y.map middle) [
+  | inl less ↦ none s y h low less
+  | inr more ↦ high s y h more below
+]
+joined_none maps uses from middle to (Some x) few none high = record {
+  round = high.round;
+  holds = high.holds;
+  below = high.below;
+  least = λ s y h low below. elim (cases_lt y.map middle) [
+    | inl less ↦ absurd (none s y h low less)
+    | inr more ↦ high.least s y h more below
   ];
 }
+
+pub joined_some : (maps : List Map) (uses : List Use) (from middle to : ℕ) (x : Found) → middle ≤ to → IsFirstAmong maps uses from middle (Some x) → IsFirstAmong maps uses from to (Some x)
+joined_some maps uses from middle to x few first = record {
+  round = first.round;
+  holds = first.holds;
+  below = omega (arith, first.below);
+  least = λ s y h low below. elim (cases_lt y.map middle) [
+    | inl less ↦ first.least s y h low less
+    | inr more ↦ inl (omega (arith, first.below))
+  ];
+}
+
+pub first_of_whole : (maps : List Map) (uses : List Use) (o : Option Found) → IsFirstAmong maps uses 0 (length maps) o → IsFirstOf maps uses o
+first_of_whole maps uses None none = λ s y h. none s y h (omega arith) (slice_get_within maps y.map h.map h.map_is)
+first_of_whole maps uses (Some x) first = record {
+  round = first.round;
+  holds = first.holds;
+  least = λ s y h. first.least s y h (omega arith) (slice_get_within maps y.map h.map h.map_is);
+}
+
+pub whole_if : {E : Type 0} (maps : List Map) (uses : List Use) (r : Result (Option Found) E) → IfOk r (λ o. IsFirstAmong maps uses 0 (length maps) o) → IfOk r (λ o. IsFirstOf maps uses o)
+whole_if maps uses (Ok o) first = first_of_whole maps uses o first
+whole_if maps uses (Err e) first = tt
+
+pub among_same : {E : Type 0} (maps : List Map) (uses : List Use) (from n to : ℕ) (r : Result (Option Found) E) → n ≡ to → IfOk r (λ o. IsFirstAmong maps uses from n o) → IfOk r (λ o. IsFirstAmong maps uses from to o)
+among_same maps uses from n to r same first = subst (λ (k : ℕ). IfOk r (λ o. IsFirstAmong maps uses from k o)) same first
 
 -- what an index gives where there is nothing
 abbrev pub blank : Map
 blank = record { place = record { line = 0; col = 0 }; depth = 0; calls = record { lo = 0; hi = 0 }; reduced = None }
 
-pub first_read : (maps : List Map) (uses : List Use) (n : ℕ) (o : Option Pair) (p : Pair) → NoneOfMaps maps uses n → n < length maps → IsLeast (get_or maps n blank) uses o → o ≡ Some p → IsFirstOf maps uses (Some (found_as n p))
-first_read maps uses n o p none below least is = first_in maps uses n (get_or maps n blank) p none (slice_get-get_or maps n blank below) (subst (λ (q : Option Pair). IsLeast (get_or maps n blank) uses q) is least)
+pub first_read : (maps : List Map) (uses : List Use) (n : ℕ) (o : Option Pair) (p : Pair) → n < length maps → IsLeast (get_or maps n blank) uses o → o ≡ Some p → IsFirstAmong maps uses n (n + 1) (Some (found_as n p))
+first_read maps uses n o p below least is = one_some maps uses n (get_or maps n blank) p (slice_get-get_or maps n blank below) (subst (λ (q : Option Pair). IsLeast (get_or maps n blank) uses q) is least)
 
-pub none_read : (maps : List Map) (uses : List Use) (n : ℕ) (o : Option Pair) → NoneOfMaps maps uses n → n < length maps → IsLeast (get_or maps n blank) uses o → o ≡ None → NoneOfMaps maps uses (n + 1)
-none_read maps uses n o none below least is = none_of_maps maps uses n (get_or maps n blank) none (slice_get-get_or maps n blank below) (subst (λ (q : Option Pair). IsLeast (get_or maps n blank) uses q) is least)
+pub none_read : (maps : List Map) (uses : List Use) (n : ℕ) (o : Option Pair) → n < length maps → IsLeast (get_or maps n blank) uses o → o ≡ None → IsFirstAmong maps uses n (n + 1) None
+none_read maps uses n o below least is = one_none maps uses n (get_or maps n blank) (slice_get-get_or maps n blank below) (subst (λ (q : Option Pair). IsLeast (get_or maps n blank) uses q) is least)

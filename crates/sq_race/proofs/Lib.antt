@@ -9,3 +9,5 @@ pub mod Leasts
 pub mod Opened
 pub mod Firsts
 pub mod Told
+pub mod Selected
+pub mod Settled

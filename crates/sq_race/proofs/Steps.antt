@@ -7,7 +7,7 @@ use Rattle.std.proofs.lemmas.Slice.Eq.{bytes_eq-Decides}
 use Rattle.sq_race.specs.Blocks.{whole, covers, overlaps}
 use Rattle.sq_race.specs.Layers.{meets_any}
 use Rattle.sq_race.specs.Accesses.{counts, writes, block_of, races, same_run, same_iteration, alike, clash, shares}
-use Rattle.sq_race.specs.Pairs.{IsKept, IsMarked, AreMarked, marks_of, NoneWith, NoneYet, IsReady, RaceAt, IsEarliest, AreTogether, AreWithin, AreWithinTo, CountsAt, may_race}
+use Rattle.sq_race.specs.Pairs.{IsKept, IsMarked, AreMarked, marks_of, NoneWith, NoneYet, NoneAt, IsReady, RaceAt, IsEarliest, AreTogether, AreWithin, AreWithinTo, CountsAt, may_race}
 use Rattle.sq_race.specs.declared.marks.Marks.{Marks}
 use Rattle.sq_spec.specs.declared.form.Use.{Use}
 use Rattle.sq_race.specs.declared.map.Map.{Map}
@@ -191,10 +191,6 @@ none_apart m uses later since marks f b r at_f at_b nothing bounded i a below th
           let current_a = r.current i a f more (omega arith) there at_f p.one in
           no_bool (same_iteration m a b) (alike_on (m.depth + 1) a.iterations f.iterations b.iterations (alike_back (m.depth + 1) f.iterations a.iterations current_a) current_b) p.iteration
     ]
-
--- no access before `later` races with it
-pub record NoneAt (m : Map) (uses : List Use) (later : ℕ) : Type 0 where
-  pub at : (i : ℕ) → RaceAt m uses i later → ⊥
 
 pub none_found : (m : Map) (uses : List Use) (later since : ℕ) (marks : List Marks) (b : Use) → IsReady m uses (later + 1) since marks → slice_get uses later ≡ Some b → may_race marks b ≡ false → covers whole (block_of b.rect) ≡ true → NoneAt m uses later
 none_found m uses later since marks b r at_b nothing bounded =

@@ -2,7 +2,7 @@
 use Rattle.std.specs.Prelude.{ℕ, ◌+◌, Bool, true, false, not, ◌&&◌, ◌||◌, ◌==◌, nat_lt, nat_le, List, [], ◌∷◌, take, slice_get, Option, Some, None}
 use Rattle.std.specs.Str.{bytes_eq}
 use Rattle.sq_text.specs.declared.place.Span.{Span}
-use Rattle.sq_race.specs.Blocks.{whole_span, span_overlaps}
+use Rattle.sq_race.specs.Blocks.{whole_span, span_overlaps, span_covers}
 use Rattle.sq_race.specs.declared.block.Block.{Block}
 use Rattle.sq_spec.specs.declared.form.Use.{Use}
 use Rattle.sq_race.specs.declared.map.Map.{Map}
@@ -50,3 +50,20 @@ clash a b = a.array == b.array && (writes a.mode || writes b.mode) && shares a.r
 
 abbrev pub races : Map → Use → Use → Bool
 races m a b = counts m a && counts m b && same_run m a b && not (same_iteration m a b) && clash a b
+
+-- each span of the second lies in that of the first
+abbrev pub contains : List Span → List Span → Bool
+contains [] [] = true
+contains [] (t ∷ b) = false
+contains (s ∷ a) [] = false
+contains (s ∷ a) (t ∷ b) = span_covers s t && contains a b
+
+-- the known access is of the run of this one, has its block, and writes if it does
+abbrev pub stands_for : Map → Use → Use → Bool
+stands_for m known this =
+    counts m known && same_run m known this && known.array == this.array && (writes known.mode || not (writes this.mode)) && contains known.rect this.rect
+
+-- what races with the last would race with one of the two
+abbrev pub settles : Map → Use → Use → Use → Bool
+settles m one two this =
+    stands_for m one this && stands_for m two this && (not (same_iteration m one two) || same_iteration m one this)

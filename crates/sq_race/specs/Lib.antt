@@ -8,3 +8,4 @@ pub mod Pairs
 pub mod Least
 pub mod Table
 pub mod Race
+pub mod Selection

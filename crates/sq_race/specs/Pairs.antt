@@ -80,3 +80,7 @@ pub record NoneWith (m : Map) (before : List Use) (b : Use) (upto : ℕ) : Type 
 -- none of the first `upto` accesses races with an earlier one
 pub record NoneYet (m : Map) (uses : List Use) (upto : ℕ) : Type 0 where
   pub at : (i j : ℕ) → j < upto → RaceAt m uses i j → ⊥
+
+-- none of them races with this one
+pub record NoneAt (m : Map) (uses : List Use) (later : ℕ) : Type 0 where
+  pub at : (i : ℕ) → RaceAt m uses i later → ⊥

@@ -135,9 +135,17 @@ abbrev pub IsFirstOf : List Map → List Use → Option Found → Type 0
 IsFirstOf maps uses None = (s : List ℕ) (y : Found) → HoldsIn maps uses s y → ⊥
 IsFirstOf maps uses (Some x) = IsFirstIn maps uses x
 
--- of the first `upto` maps none has a race
-pub record NoneOfMaps (maps : List Map) (uses : List Use) (upto : ℕ) : Type 0 where
-  pub at : (s : List ℕ) (y : Found) → HoldsIn maps uses s y → y.map < upto → ⊥
+-- this is a race, and of the maps from number `from` up to `to` none has one before it
+pub record IsFirstOfSome (maps : List Map) (uses : List Use) (from to : ℕ) (x : Found) : Type 0 where
+  pub round : List ℕ
+  pub holds : HoldsIn maps uses round x
+  pub below : x.map < to
+  pub least : (s : List ℕ) (y : Found) → HoldsIn maps uses s y → from ≤ y.map → y.map < to → AtOrBefore round x s y
+
+-- these maps have no race, or this is the first of theirs
+abbrev pub IsFirstAmong : List Map → List Use → ℕ → ℕ → Option Found → Type 0
+IsFirstAmong maps uses from to None = (s : List ℕ) (y : Found) → HoldsIn maps uses s y → from ≤ y.map → y.map < to → ⊥
+IsFirstAmong maps uses from to (Some x) = IsFirstOfSome maps uses from to x
 
 -- this is told of the accesses with these numbers
 pub record IsTold (form : ℕ) (variant : Option Variant) (maps : List Map) (uses : List Use) (x : Found) (race : Race) : Type 0 where

@@ -11,6 +11,8 @@ mod order;
 mod pairs;
 mod plain;
 mod race;
+mod recent;
 mod table;
+mod taken;
 
 pub use race::{Race, first_race};

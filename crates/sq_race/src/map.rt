@@ -6,7 +6,7 @@ ghost use Rattle.sq_race.specs.Blocks as blocks;
 
 use crate::block::Block;
 use sq_ast::Mode;
-use sq_rect::{Rect, overlap};
+use sq_rect::{Rect, inside, overlap};
 use sq_spec::Use;
 use sq_text::{Place, Span};
 
@@ -46,7 +46,7 @@ impl Map {
     {
         self.calls.lo <= access.call
             && access.call < self.calls.hi
-            && !reduces(self.reduced, access.arg)
+            && !reduces(self.reduced, access.arg as usize)
     }
 
     /// Whether the two stand in one run of the map.
@@ -95,6 +95,34 @@ fn share(a: &Rect, b: &Rect) -> bool
     ensures { result ≡ spec.shares a.now b.now }
 {
     a.as_slice().len() == b.as_slice().len() && overlap(a, b)
+}
+
+// Whether each coordinate of the second block lies in the first.
+fn contains(outer: &Rect, inner: &Rect) -> bool
+    ensures { result ≡ spec.contains outer.now inner.now }
+{
+    outer.as_slice().len() == inner.as_slice().len() && inside(outer, inner)
+}
+
+/// Whether the known access is of this one's run, has its block, and writes if it does.
+pub fn stands_for(map: &Map, known: &Use, this: &Use) -> bool
+    ensures { result ≡ spec.stands_for map.now known.now this.now }
+{
+    map.counts(known)
+        && map.same_run(known, this)
+        && known.array == this.array
+        && (is_write(known) || !is_write(this))
+        && contains(&known.rect, &this.rect)
+}
+
+/// Whether two earlier accesses would race with each that this one races with: what is of another iteration than this
+/// one is of another than one of these.
+pub fn settles(map: &Map, one: &Use, two: &Use, this: &Use) -> bool
+    ensures { result ≡ spec.settles map.now one.now two.now this.now }
+{
+    stands_for(map, one, this)
+        && stands_for(map, two, this)
+        && (!map.same_iteration(one, two) || map.same_iteration(one, this))
 }
 
 fn reduces(reduced: Option<usize>, arg: usize) -> bool

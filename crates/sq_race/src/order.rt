@@ -5,16 +5,18 @@ ghost use Rattle.sq_race.specs.Order as spec;
 ghost use Rattle.sq_race.specs.Pairs.{AreWithin};
 
 use crate::map::{Map, first};
+use crate::taken::{Taken, nth};
 use sq_spec::Use;
 
 /// Whether the runs of the map follow one another by the numbers of the maps round it.
-pub fn are_in_order(map: &Map, uses: &[Use]) -> bool
+pub fn are_in_order(map: &Map, uses: &[Taken<'_>]) -> bool
     ensures { result ≡ true → spec.AreInOrder map.now uses.now }
 {
     let mut last = 0;
     for number in 0..uses.len() {
-        if map.counts(&uses[number]) {
-            if !follows(map, &uses[last], &uses[number]) {
+        let access = nth(uses, number);
+        if map.counts(access) {
+            if !follows(map, nth(uses, last), access) {
                 return false;
             }
             last = number;
@@ -62,12 +64,13 @@ fn larger(a: usize, b: usize) -> usize
 }
 
 /// How many arrays there are, where none of a higher number is accessed.
-pub fn arrays_of(uses: &[Use]) -> usize
+pub fn arrays_of(uses: &[Taken<'_>]) -> usize
     ensures { AreWithin result uses.now }
 {
     let mut count = 0;
     for number in 0..uses.len() {
-        count = larger(count, uses[number].array as usize + 1);
+        let access = nth(uses, number);
+        count = larger(count, access.array as usize + 1);
     }
     count
 }

@@ -8,6 +8,8 @@ ghost use Rattle.sq_race.specs.Pairs as pairs;
 
 use crate::map::{Map, block_of, is_write};
 use crate::marks::Marks;
+use crate::recent::Recent;
+use crate::taken::{Taken, nth};
 use sq_spec::Use;
 use std::alloc::{AllocError, Global};
 
@@ -39,7 +41,7 @@ impl Seen {
         &mut self,
         alloc: Global,
         map: &Map,
-        uses: &[Use],
+        uses: &[Taken<'_>],
         later: usize,
     ) -> Result<(), AllocError>
         requires within { later < length uses.now }
@@ -50,8 +52,8 @@ impl Seen {
         ensures ready { OnOk result (pairs.IsReady map.now uses.now (later + 1) self.new.since self.new.marks.items) }
         ensures arrays { OnOk result (length self.new.marks.items ≡ length self.old.marks.items) }
     {
-        let first = &uses[self.since];
-        let this = &uses[later];
+        let first = nth(uses, self.since);
+        let this = nth(uses, later);
         if map.same_iteration(first, this) {
             return Ok(());
         }
@@ -73,6 +75,20 @@ impl Seen {
         let marks = &self.marks[access.array as usize];
         marks.meets(&block_of(&access.rect), is_write(access))
     }
+
+    // Whether access number `later` is known to race with none before it, if none of those races with another.
+    fn is_apart(&self, recent: &mut Recent, map: &Map, uses: &[Taken<'_>], later: usize) -> bool
+        requires within { later < length uses.now }
+        requires arrays { pairs.AreWithin (length self.now.marks.items) uses.now }
+        requires none { pairs.NoneYet map.now uses.now later }
+        requires ready { pairs.IsReady map.now uses.now (later + 1) self.now.since self.now.marks.items }
+        ensures { result ≡ true → pairs.NoneAt map.now uses.now later }
+    {
+        if recent.shows(map, uses, later) {
+            return true;
+        }
+        !self.may_race(nth(uses, later))
+    }
 }
 
 fn blanks(alloc: Global, arrays: usize) -> Result<Vec<Marks>, AllocError>
@@ -89,7 +105,7 @@ fn blanks(alloc: Global, arrays: usize) -> Result<Vec<Marks>, AllocError>
 fn mark_all(
     alloc: Global,
     map: &Map,
-    uses: &[Use],
+    uses: &[Taken<'_>],
     from: usize,
     to: usize,
     marks: &mut Vec<Marks>,
@@ -100,7 +116,7 @@ fn mark_all(
     ensures { OnOk result (pairs.AreMarked map.now uses.now from to marks.old.items marks.new.items) }
 {
     for number in from..to {
-        let access = &uses[number];
+        let access = nth(uses, number);
         if map.counts(access) {
             mark(alloc, access, marks)?;
         }
@@ -116,11 +132,12 @@ fn mark(alloc: Global, access: &Use, marks: &mut Vec<Marks>) -> Result<(), Alloc
 }
 
 /// The first access that races with a later one.
-pub fn earliest(map: &Map, before: &[Use], later: &Use) -> Option<usize>
+pub fn earliest(map: &Map, before: &[Taken<'_>], later: &Use) -> Option<usize>
     ensures { pairs.IsEarliest map.now before.now later.now result }
 {
     for (number, access) in before.iter().enumerate() {
-        if map.races(access, later) {
+        let known = access.access();
+        if map.races(known, later) {
             return Some(number);
         }
     }
@@ -131,7 +148,7 @@ pub fn earliest(map: &Map, before: &[Use], later: &Use) -> Option<usize>
 pub fn first_pair(
     alloc: Global,
     map: &Map,
-    uses: &[Use],
+    uses: &[Taken<'_>],
     arrays: usize,
 ) -> Result<Option<Pair>, AllocError>
     requires arrays { pairs.AreWithin arrays uses.now }
@@ -139,11 +156,12 @@ pub fn first_pair(
     ensures { IfOk result (λ pair. pairs.IsFirstPair map.now uses.now pair) }
 {
     let mut seen = Seen::new(alloc, arrays)?;
+    let mut recent = Recent::new(alloc, uses.len())?;
     for later in 0..uses.len() {
-        let access = &uses[later];
+        let access = nth(uses, later);
         if map.counts(access) {
             seen.go_on(alloc, map, uses, later)?;
-            if seen.may_race(access) {
+            if !seen.is_apart(&mut recent, map, uses, later) {
                 match earliest(map, &uses[..later], access) {
                     Some(earlier) => return Ok(Some(Pair { later, earlier })),
                     None => {}

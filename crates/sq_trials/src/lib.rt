@@ -7,3 +7,5 @@ mod forms_tests;
 mod leaf_tests;
 #[cfg(test)]
 mod race_tests;
+#[cfg(test)]
+mod random_races;

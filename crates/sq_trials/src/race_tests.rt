@@ -17,6 +17,9 @@ const MACHINE: &[u8] =
 const ONE_FORM: &[u8] =
     b"mapping 1; entry top(N = 8); instance top = t::inner @ host { call u -> low; } instance low = u::leaf @ core { }";
 
+const BANDS: &[u8] =
+    b"mapping 1; entry top(N = 6, M = 7); instance top = t::inner @ host { tunable S = [0, 3]; tunable E = [4, 6]; tunable T = [0, 3]; tunable G = [4, 6]; call u -> low; } instance low = u::leaf @ core { }";
+
 const TWO_FORMS: &[u8] =
     b"mapping 1; entry top(N = 8); instance top = t::inner @ host { call s -> mid; } instance mid = s::inner @ host { call u -> low; } instance low = u::leaf @ core { }";
 
@@ -35,7 +38,7 @@ type Told = (
 /// A program, its mapping, and its first race.
 type Case = (&'static [u8], &'static [u8], Option<Told>);
 
-const CASES: [Case; 13] = [
+const CASES: [Case; 16] = [
     // Blocks that only touch; one block read by all iterations; two calls of one iteration; iterations one after another.
     (
         b"task t::inner(inout int A[N]) { blkset Ab = rchop(A, 2);
@@ -137,6 +140,31 @@ task s::inner(inout int B[M]) { blkset Bb = rchop(B, 4);
 task u::leaf(inout int Y[L]) { }",
         TWO_FORMS,
         Some((1, 3, 3, b"B", 0, (4, 8), 1, (4, 8))),
+    ),
+    // Of races in two forms the one of the first.
+    (
+        b"task t::inner(inout int A[N]) {
+  mappar (int i = 0 to 2) { s(A); } }
+task s::inner(inout int B[M]) { mappar (int i = 0 to 2) { u(B); } }
+task u::leaf(inout int Y[L]) { }",
+        TWO_FORMS,
+        Some((0, 2, 3, b"A", 0, (0, 8), 1, (0, 8))),
+    ),
+    // One block written by both iterations, and blocks with other numbers that overlap.
+    (
+        b"task t::inner(in int A[N], out int B[N]) { blkset Ab = rchop(A, 4); blkset Bb = rchop(B, 4);
+  mappar (int i = 0 to 2) { u(Ab[i], Bb[0]); } }
+task u::leaf(in int X[K], out int Y[L]) { }",
+        ONE_FORM,
+        Some((0, 2, 3, b"B", 0, (0, 4), 1, (0, 4))),
+    ),
+    (
+        b"task t::inner(in int A[N], out int B[M]) { tunable int S[]; tunable int E[]; tunable int T[]; tunable int G[];
+  blkset Ab = ichop(A, S, E); blkset Bb = ichop(B, T, G);
+    mappar (int i = 0 to len(S)) { u(Ab[i], Bb[i]); } }
+task u::leaf(in int X[K], out int Y[L]) { }",
+        BANDS,
+        Some((0, 3, 5, b"B", 0, (0, 4), 1, (3, 6))),
     ),
 ];
 

@@ -1,5 +1,13 @@
-use Rattle.sq_race.proofs.Leasts.{least_if}
+use Rattle.std.proofs.Common.{◌∙◌, ap, sym}
+use Rattle.sq_race.specs.Selection.{taken}
+use Rattle.sq_race.proofs.Selected.{least_is}
 use Rattle.sq_race.proofs.plain.race_of.Goals as goal
 
-pub returns-then-are_in_order : goal.returns-then-are_in_order
-returns-then-are_in_order c = least_if c.args.map.now c.args.uses.now c.first_pair.result (c.are_in_order.ensures c.if-are_in_order.true) c.first_pair.ensures
+pub returns : goal.returns
+returns c =
+    least_is c.args.map.now c.args.uses.now c.deref-3.result.now c.args.numbers.now c.deref.result.now c.deref-4.result.now c.in_ok-found.found c.renumbered.result c.requires
+    (c.deref.ensures.value ∙ c.in_ok-arrays.ensures)
+    (c.deref-4.ensures.value ∙ c.in_ok-numbers.ensures)
+    (c.deref-3.ensures.value ∙ c.in_ok-taken.ensures ∙ ap (taken c.args.uses.now) (c.deref-2.ensures.value ∙ sym c.deref-4.ensures.value))
+    c.in_ok-found.ensures
+    c.renumbered.ensures
