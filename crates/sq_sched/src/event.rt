@@ -1,0 +1,123 @@
+//! Events: the actions of a term with their places and numbers.
+
+ghost use Rattle.std.specs.Prelude.{◌≡◌};
+ghost use Rattle.sq_sched.specs.Words as spec;
+ghost use Rattle.sq_sched.specs.Words.{env_of, half};
+ghost use Rattle.sq_sched.specs.Seen.{seen};
+
+use crate::env::{Env, Spot, count_of, half32, node_of, spot_of};
+use sq_ir::{Action, LeafView, Num, Plan};
+use sq_num::{Elem, RedOp};
+use sq_rect::{Path, View, Views};
+
+/// What a plan does in one step. Bytes and elements are counted from the spots on.
+#[derive(Drop)]
+pub enum Event {
+    Copy {
+        from: Spot,
+        to: Spot,
+        bytes: u32,
+    },
+    Fill {
+        to: Spot,
+        elem: Elem,
+        count: u32,
+        value: i64,
+    },
+    /// Each element of the row at `to` becomes itself reduced with that of the row at `from`.
+    Acc {
+        op: RedOp,
+        elem: Elem,
+        from: Spot,
+        to: Spot,
+        count: u32,
+    },
+    /// A leaf call at a node: the number of its code, its arrays, and the iterations round it.
+    Leaf {
+        node: u32,
+        code: u32,
+        views: Views,
+        path: Path,
+    },
+}
+
+// The first 64 numbers of a path.
+fn path_of(numbers: &[Num], plan: &Plan, env: &Env<'_>) -> Path
+    ensures { result ≡ spec.path_of plan.now numbers.now (env_of env.now) }
+{
+    let mut path = Path::new();
+    for number in numbers {
+        if path.as_slice().len() < 64 {
+            path.push(half32(u128::from(count_of(number, plan, env))));
+        }
+    }
+    path
+}
+
+fn view_of(view: &LeafView, plan: &Plan, env: &Env<'_>) -> View
+    ensures { result ≡ spec.view plan.now view.now (env_of env.now) }
+{
+    let spot = spot_of(&view.slot, plan, env);
+    View {
+        at: spot.at,
+        elem: view.elem,
+        extents: view.extents.copy(),
+        strides: view.strides.copy(),
+    }
+}
+
+// The first 32 views.
+fn views_of(list: &[LeafView], plan: &Plan, env: &Env<'_>) -> Views
+    ensures { result ≡ spec.views_of plan.now list.now (env_of env.now) }
+{
+    let mut views = Views::new();
+    for view in list {
+        if views.as_slice().len() < 32 {
+            views.push(view_of(view, plan, env));
+        }
+    }
+    views
+}
+
+/// The event of an action.
+pub(crate) fn event_for(action: &Action, plan: &Plan, env: &Env<'_>) -> Event
+    ensures { seen result ≡ spec.event plan.now action.now (env_of env.now) }
+{
+    match action {
+        Action::CopyRow { from, to, bytes } => Event::Copy {
+            from: spot_of(from, plan, env),
+            to: spot_of(to, plan, env),
+            bytes: *bytes,
+        },
+        Action::FillRow {
+            to,
+            elem,
+            count,
+            value,
+        } => Event::Fill {
+            to: spot_of(to, plan, env),
+            elem: *elem,
+            count: *count,
+            value: *value,
+        },
+        Action::AccRow {
+            op,
+            elem,
+            from,
+            to,
+            count,
+        } => Event::Acc {
+            op: *op,
+            elem: *elem,
+            from: spot_of(from, plan, env),
+            to: spot_of(to, plan, env),
+            count: *count,
+        },
+        Action::Leaf { code, views, path } => Event::Leaf {
+            node: half32(u128::from(node_of(env))),
+            code: *code,
+            views: views_of(views.as_slice(), plan, env),
+            path: path_of(path.as_slice(), plan, env),
+        },
+    }
+}

@@ -1,0 +1,384 @@
+//! Where a ready event stands in a term, and which event it is.
+
+ghost use Rattle.std.specs.Prelude.{◌≡◌, ◌+◌, ◌*◌, ◌<◌, ◌≤◌, Some, length};
+ghost use Rattle.sq_ir.specs.Tree.{ready, event_at};
+ghost use Rattle.sq_sched.specs.Words.{env_of};
+ghost use Rattle.sq_sched.specs.Seen.{seen};
+ghost use Rattle.sq_sched.specs.Shapes.{frame_in, sum_of, rest_of, IsRight};
+ghost use Rattle.sq_sched.specs.Forms.{made, frames, greatest, total, stop, fan, inside, frames_at, sizes_of, items_of, before, seq_form, par_form, loop_form, spread_form, case_form, within_form, InPart, InItems};
+
+use crate::env::{Chain, Env, child_node, children_of, count_of};
+use crate::event::{Event, event_for};
+use crate::frame::Frame;
+use crate::frames::{Within, arm_for, frame_at, frames_of};
+use crate::sizes::Sizes;
+use sq_ir::{Num, Plan, Term};
+use sq_text::SpreadRule;
+
+/// Finds the part in which the k-th ready event stands.
+pub(crate) fn find_part(sizes: &[Sizes], fs: &[Frame], o: usize, k: u64) -> Within
+    requires fits { o + 1 + before sizes.now (length sizes.now) ≤ length fs.now }
+    requires there { k < sum_of (length sizes.now) (λ i. (frame_in fs.now (o + (1 + before sizes.now i))).ready) 0 }
+    ensures found { InItems sizes.now (frame_in fs.now) o k result.part result.event }
+    ensures place { result.place ≡ o + (1 + before sizes.now result.part) }
+{
+    let mut part = 0;
+    let mut place = o + 1;
+    let mut event = k;
+    while part < sizes.len() {
+        let ready = frame_at(fs, place).ready;
+        if event < ready {
+            return Within { part, place, event };
+        }
+        event -= ready;
+        place += frames_of(sizes, part) as usize;
+        part += 1;
+    }
+    unreachable!()
+}
+
+/// Finds the child at which the k-th ready event stands, of children with so many frames each.
+pub(crate) fn find_child(children: u32, width: u64, fs: &[Frame], o: usize, k: u64) -> Within
+    requires fits { o + 1 + children * width ≤ length fs.now }
+    requires there { k < sum_of children (λ i. (frame_in fs.now (o + (1 + i * width))).ready) 0 }
+    ensures found { InPart children (λ c. 1 + c * width) (frame_in fs.now) o k result.part result.event }
+    ensures place { result.place ≡ o + (1 + result.part * width) }
+{
+    let mut part = 0;
+    let mut place = o + 1;
+    let mut event = k;
+    while part < children as usize {
+        let ready = frame_at(fs, place).ready;
+        if event < ready {
+            return Within { part, place, event };
+        }
+        event -= ready;
+        place += width as usize;
+        part += 1;
+    }
+    unreachable!()
+}
+
+/// Tells the k-th ready event from left to right.
+#[cycle(reads)]
+pub(crate) fn event_of(
+    t: &Term,
+    s: &Sizes,
+    plan: &Plan,
+    env: &Env<'_>,
+    fs: &[Frame],
+    o: usize,
+    k: u64,
+    told: &mut Event,
+)
+    requires sizes { s.now ≡ (made plan.now t.now).sizes }
+    requires fits { o + frames s.now ≤ length fs.now }
+    requires right { IsRight ((made plan.now t.now).form (env_of env.now)) (frame_in fs.now) o }
+    requires there { k < ready (rest_of ((made plan.now t.now).form (env_of env.now)) (frame_in fs.now) o) }
+    ensures { event_at (rest_of ((made plan.now t.now).form (env_of env.now)) (frame_in fs.now) o) k ≡ Some (seen told.new) }
+{
+    match t {
+        Term::Skip => unreachable!(),
+        Term::Act(action) => {
+            *told = event_for(action, plan, env);
+        }
+        Term::Seq(parts) => event_seq(
+            parts.as_slice(),
+            s.parts.as_slice(),
+            plan,
+            env,
+            fs,
+            o,
+            k,
+            told,
+        ),
+        Term::Par(parts) => event_par(
+            parts.as_slice(),
+            s.parts.as_slice(),
+            plan,
+            env,
+            fs,
+            o,
+            k,
+            told,
+        ),
+        Term::Loop { count, body } => event_loop(
+            body.get(),
+            &s.parts.as_slice()[0],
+            count,
+            plan,
+            env,
+            fs,
+            o,
+            k,
+            told,
+        ),
+        Term::Spread { count, rule, body } => {
+            event_spread(
+                body.get(),
+                &s.parts.as_slice()[0],
+                count,
+                *rule,
+                plan,
+                env,
+                fs,
+                o,
+                k,
+                told,
+            )
+        }
+        Term::Case { pick, arms } => event_case(
+            arms.as_slice(),
+            s.parts.as_slice(),
+            pick,
+            plan,
+            env,
+            fs,
+            o,
+            k,
+            told,
+        ),
+        Term::Within {
+            child,
+            buffers,
+            body,
+        } => {
+            let size = &s.parts.as_slice()[0];
+            event_within(
+                body.get(),
+                size,
+                child,
+                buffers.as_slice(),
+                plan,
+                env,
+                fs,
+                o,
+                k,
+                told,
+            )
+        }
+    }
+}
+
+// Tells the k-th ready event of a sequence.
+#[cycle(reads)]
+fn event_seq(
+    parts: &[Term],
+    sizes: &[Sizes],
+    plan: &Plan,
+    env: &Env<'_>,
+    fs: &[Frame],
+    o: usize,
+    k: u64,
+    told: &mut Event,
+)
+    requires sizes { sizes.now ≡ sizes_of plan.now parts.now }
+    requires fits { o + stop (1 + greatest sizes.now) ≤ length fs.now }
+    requires right { IsRight (seq_form plan.now parts.now (env_of env.now)) (frame_in fs.now) o }
+    requires there { k < ready (rest_of (seq_form plan.now parts.now (env_of env.now)) (frame_in fs.now) o) }
+    ensures { event_at (rest_of (seq_form plan.now parts.now (env_of env.now)) (frame_in fs.now) o) k ≡ Some (seen told.new) }
+{
+    event_one(
+        parts,
+        sizes,
+        frame_at(fs, o).at as usize,
+        plan,
+        env,
+        fs,
+        o + 1,
+        k,
+        told,
+    )
+}
+
+// Tells the k-th ready event of parts beside one another.
+#[cycle(reads)]
+fn event_par(
+    parts: &[Term],
+    sizes: &[Sizes],
+    plan: &Plan,
+    env: &Env<'_>,
+    fs: &[Frame],
+    o: usize,
+    k: u64,
+    told: &mut Event,
+)
+    requires sizes { sizes.now ≡ sizes_of plan.now parts.now }
+    requires fits { o + stop (1 + total sizes.now) ≤ length fs.now }
+    requires right { IsRight (par_form plan.now parts.now (env_of env.now)) (frame_in fs.now) o }
+    requires there { k < ready (rest_of (par_form plan.now parts.now (env_of env.now)) (frame_in fs.now) o) }
+    ensures { event_at (rest_of (par_form plan.now parts.now (env_of env.now)) (frame_in fs.now) o) k ≡ Some (seen told.new) }
+{
+    let found = find_part(sizes, fs, o, k);
+    event_one(
+        parts,
+        sizes,
+        found.part,
+        plan,
+        env,
+        fs,
+        found.place,
+        found.event,
+        told,
+    )
+}
+
+// Tells the k-th ready event of a case.
+#[cycle(reads)]
+fn event_case(
+    arms: &[Term],
+    sizes: &[Sizes],
+    pick: &Num,
+    plan: &Plan,
+    env: &Env<'_>,
+    fs: &[Frame],
+    o: usize,
+    k: u64,
+    told: &mut Event,
+)
+    requires sizes { sizes.now ≡ sizes_of plan.now arms.now }
+    requires fits { o + stop (1 + greatest sizes.now) ≤ length fs.now }
+    requires right { IsRight (case_form plan.now pick.now arms.now (env_of env.now)) (frame_in fs.now) o }
+    requires there { k < ready (rest_of (case_form plan.now pick.now arms.now (env_of env.now)) (frame_in fs.now) o) }
+    ensures { event_at (rest_of (case_form plan.now pick.now arms.now (env_of env.now)) (frame_in fs.now) o) k ≡ Some (seen told.new) }
+{
+    let i = arm_for(pick, plan, env, arms.len());
+    event_one(arms, sizes, i, plan, env, fs, o + 1, k, told)
+}
+
+// Tells the k-th ready event of the i-th of some parts.
+#[cycle(reads)]
+fn event_one(
+    parts: &[Term],
+    sizes: &[Sizes],
+    i: usize,
+    plan: &Plan,
+    env: &Env<'_>,
+    fs: &[Frame],
+    p: usize,
+    k: u64,
+    told: &mut Event,
+)
+    requires sizes { sizes.now ≡ sizes_of plan.now parts.now }
+    requires part { i < length parts.now }
+    requires fits { p + frames_at sizes.now i ≤ length fs.now }
+    requires right { IsRight (items_of plan.now parts.now (env_of env.now) i) (frame_in fs.now) p }
+    requires there { k < ready (rest_of (items_of plan.now parts.now (env_of env.now) i) (frame_in fs.now) p) }
+    ensures { event_at (rest_of (items_of plan.now parts.now (env_of env.now) i) (frame_in fs.now) p) k ≡ Some (seen told.new) }
+{
+    let part = &parts[i];
+    let size = &sizes[i];
+    event_of(part, size, plan, env, fs, p, k, told)
+}
+
+// Tells the k-th ready event of the body of a scope.
+#[cycle(reads)]
+fn event_inside(
+    body: &Term,
+    size: &Sizes,
+    child: &Option<Num>,
+    plan: &Plan,
+    env: &Env<'_>,
+    fs: &[Frame],
+    p: usize,
+    k: u64,
+    told: &mut Event,
+)
+    requires sizes { size.now ≡ (made plan.now body.now).sizes }
+    requires fits { p + frames size.now ≤ length fs.now }
+    requires right { IsRight ((made plan.now body.now).form (inside plan.now child.now (env_of env.now))) (frame_in fs.now) p }
+    requires there { k < ready (rest_of ((made plan.now body.now).form (inside plan.now child.now (env_of env.now))) (frame_in fs.now) p) }
+    ensures { event_at (rest_of ((made plan.now body.now).form (inside plan.now child.now (env_of env.now))) (frame_in fs.now) p) k ≡ Some (seen told.new) }
+{
+    match child {
+        None => event_of(body, size, plan, env, fs, p, k, told),
+        Some(c) => {
+            let c = count_of(c, plan, env);
+            let nodes = Chain::Link(child_node(plan, env, c), env.nodes);
+            let inner = Env {
+                turns: env.turns,
+                nodes: &nodes,
+            };
+            event_of(body, size, plan, &inner, fs, p, k, told)
+        }
+    }
+}
+
+// Tells the k-th ready event of a loop.
+#[cycle(reads)]
+fn event_loop(
+    body: &Term,
+    size: &Sizes,
+    count: &Num,
+    plan: &Plan,
+    env: &Env<'_>,
+    fs: &[Frame],
+    o: usize,
+    k: u64,
+    told: &mut Event,
+)
+    requires sizes { size.now ≡ (made plan.now body.now).sizes }
+    requires fits { o + stop (1 + frames size.now) ≤ length fs.now }
+    requires right { IsRight (loop_form plan.now count.now body.now (env_of env.now)) (frame_in fs.now) o }
+    requires there { k < ready (rest_of (loop_form plan.now count.now body.now (env_of env.now)) (frame_in fs.now) o) }
+    ensures { event_at (rest_of (loop_form plan.now count.now body.now (env_of env.now)) (frame_in fs.now) o) k ≡ Some (seen told.new) }
+{
+    let turns = Chain::Link(frame_at(fs, o).at, env.turns);
+    let inner = Env {
+        turns: &turns,
+        nodes: env.nodes,
+    };
+    event_of(body, size, plan, &inner, fs, o + 1, k, told)
+}
+
+// Tells the k-th ready event of a spread.
+#[cycle(reads)]
+fn event_spread(
+    body: &Term,
+    size: &Sizes,
+    count: &Num,
+    rule: SpreadRule,
+    plan: &Plan,
+    env: &Env<'_>,
+    fs: &[Frame],
+    o: usize,
+    k: u64,
+    told: &mut Event,
+)
+    requires sizes { size.now ≡ (made plan.now body.now).sizes }
+    requires fits { o + stop (1 + stop (frames size.now * fan plan.now.nodes)) ≤ length fs.now }
+    requires right { IsRight (spread_form plan.now count.now rule body.now (env_of env.now)) (frame_in fs.now) o }
+    requires there { k < ready (rest_of (spread_form plan.now count.now rule body.now (env_of env.now)) (frame_in fs.now) o) }
+    ensures { event_at (rest_of (spread_form plan.now count.now rule body.now (env_of env.now)) (frame_in fs.now) o) k ≡ Some (seen told.new) }
+{
+    let found = find_child(children_of(plan, env), size.frames, fs, o, k);
+    let turns = Chain::Link(frame_at(fs, found.place).turn, env.turns);
+    let inner = Env {
+        turns: &turns,
+        nodes: env.nodes,
+    };
+    event_of(body, size, plan, &inner, fs, found.place, found.event, told)
+}
+
+// Tells the k-th ready event of a scope.
+#[cycle(reads)]
+fn event_within(
+    body: &Term,
+    size: &Sizes,
+    child: &Option<Num>,
+    buffers: &[u32],
+    plan: &Plan,
+    env: &Env<'_>,
+    fs: &[Frame],
+    o: usize,
+    k: u64,
+    told: &mut Event,
+)
+    requires sizes { size.now ≡ (made plan.now body.now).sizes }
+    requires fits { o + stop (1 + frames size.now) ≤ length fs.now }
+    requires right { IsRight (within_form plan.now child.now buffers.now body.now (env_of env.now)) (frame_in fs.now) o }
+    requires there { k < ready (rest_of (within_form plan.now child.now buffers.now body.now (env_of env.now)) (frame_in fs.now) o) }
+    ensures { event_at (rest_of (within_form plan.now child.now buffers.now body.now (env_of env.now)) (frame_in fs.now) o) k ≡ Some (seen told.new) }
+{
+    event_inside(body, size, child, plan, env, fs, o + 1, k, told)
+}
