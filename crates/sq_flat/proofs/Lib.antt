@@ -1,0 +1,13 @@
+pub mod Turning
+pub mod Elements
+pub mod Replaced
+pub mod Standing
+pub mod Fitting
+pub mod Entered
+pub mod Returned
+pub mod Following
+pub mod Opened
+pub mod Calling
+pub mod Cells
+pub mod Gathered
+pub mod Checks

@@ -1,0 +1,5 @@
+pub mod Blocks
+pub mod Memory
+pub mod Works
+pub mod Ready
+pub mod Checked

@@ -1,0 +1,341 @@
+//! Evaluating forms.
+
+ghost use Rattle.std.specs.Prelude.{◌≡◌, ◌+◌, ◌<◌, ◌≤◌, ◌∷◌, [], ℕ, List, Bool, true, get_or, map, length, slice_get, Some, Err, IfSome, IfNone};
+ghost use Rattle.sq_rect.specs.declared.view.View.{View};
+ghost use Rattle.sq_leaf.specs.Source.{Arrays};
+ghost use Rattle.sq_leaf.specs.Leaf.{leaf_value};
+ghost use Rattle.sq_leaf.specs.Line.{are_in_line};
+ghost use Rattle.sq_spec.specs.Meaning.{Outcome, in_turn, leaf_outcome, numbered};
+ghost use Rattle.sq_spec.specs.Work.{Call};
+ghost use Rattle.sq_leaf.specs.Views.{Shows, shape_of};
+ghost use Rattle.sq_spec.specs.InTurn.{gathering, serial};
+ghost use Rattle.sq_flat.specs.declared.form.FormCode.{FormCode as Form};
+ghost use Rattle.sq_flat.specs.Memory as memory;
+ghost use Rattle.sq_flat.specs.Ready as ready;
+ghost use Rattle.sq_spec.specs.BegunWork.{begun_work};
+ghost use Rattle.sq_flat.specs.Works as spec;
+
+use crate::form::{Body, End, FormCode, Trapped};
+use crate::memory::{clear, combine, enter, leave, saved};
+use crate::ready::{are_lined, are_ready, total};
+use sq_leaf::laws::arrays_in_line_can_be_run_over;
+use sq_leaf::{LeafCode, run_leaf};
+use sq_rect::Views;
+use sq_spec::{Begun, Manner, Reached, Reduction};
+use sqlite_items::at;
+use std::alloc::{AllocError, Global};
+
+// The forms that are evaluated.
+#[derive(Clone, Copy)]
+struct Setting<'a> {
+    alloc: Global,
+    forms: &'a [FormCode],
+}
+
+fn leaf(code: &LeafCode, views: &Views, bytes: &mut [u8], alloc: Global) -> Result<(), End>
+    requires line { are_in_line 0 (length bytes.old) views.now ≡ true }
+    ensures { (s : Arrays) → Shows views.now bytes.old s → spec.Follows views.now bytes.new result (leaf_outcome (leaf_value code.now (map shape_of views.now) s)) }
+{
+    arrays_in_line_can_be_run_over();
+    match run_leaf(code, bytes, views) {
+        Ok(()) => Ok(()),
+        Err(trap) => Err(End::Trapped(Trapped {
+            trap,
+            turns: Vec::new(alloc),
+        })),
+    }
+}
+
+// The trap's path begins with the number of the iteration.
+fn in_iteration(end: End, t: u32) -> End
+    ensures { (vs : List View) (bytes : List ℕ) (outcome : Outcome) → spec.Follows vs bytes (Err end) outcome → spec.Follows vs bytes (Err result) (numbered t outcome) }
+{
+    match end {
+        End::NoMemory => End::NoMemory,
+        End::Trapped(Trapped { trap, mut turns }) => match turns.push(t) {
+            Ok(()) => End::Trapped(Trapped { trap, turns }),
+            Err(_) => End::NoMemory,
+        },
+    }
+}
+
+#[tactic(auto, using(crate::proofs::Fitting::zero_past))]
+fn count_at(counts: &[u32], k: usize) -> u32
+    ensures { result ≡ get_or counts.now k 0 }
+{
+    if k < counts.len() { counts[k] } else { 0 }
+}
+
+#[tactic(auto, using(crate::proofs::Fitting::zero_past))]
+fn start_at(starts: &[usize], k: usize) -> usize
+    ensures { result ≡ get_or starts.now k 0 }
+{
+    if k < starts.len() { starts[k] } else { 0 }
+}
+
+// Statements one after another, where they are begun for the k-th time.
+#[cycle(run)]
+fn statements(
+    list: &[Begun],
+    k: usize,
+    setting: &Setting<'_>,
+    calls: usize,
+    left: u32,
+    views: &Views,
+    bytes: &mut [u8],
+) -> Result<(), End>
+    requires line { ready.IsLine views.now }
+    requires placed { memory.ArePlaced views.now bytes.old }
+    requires forms { ready.AreForms setting.now.forms.now }
+    requires rows { ready.AreReady setting.now.forms.now views.now list.now }
+    ensures { (s : Arrays) → Shows views.now bytes.old s → spec.Follows views.now bytes.new result (serial (spec.list_work (spec.form_work setting.now.forms.now calls) list.now k) s) }
+{
+    for s in list {
+        match statement(s, k, setting, calls, left, views, bytes) {
+            Ok(()) => {}
+            Err(end) => return Err(end),
+        }
+    }
+    Ok(())
+}
+
+#[cycle(run)]
+fn statement(
+    s: &Begun,
+    k: usize,
+    setting: &Setting<'_>,
+    calls: usize,
+    left: u32,
+    views: &Views,
+    bytes: &mut [u8],
+) -> Result<(), End>
+    requires line { ready.IsLine views.now }
+    requires placed { memory.ArePlaced views.now bytes.old }
+    requires forms { ready.AreForms setting.now.forms.now }
+    requires rows { ready.AreReady setting.now.forms.now views.now (s.now ∷ []) }
+    ensures { (a : Arrays) → Shows views.now bytes.old a → spec.Follows views.now bytes.new result (serial (begun_work (spec.form_work setting.now.forms.now calls) s.now k) a) }
+{
+    match s {
+        Begun::Call { lower: _, times } => match at(times.as_slice(), k) {
+            None => Ok(()),
+            Some(r) => call(r, setting, calls, left, views, bytes),
+        },
+        Begun::Map {
+            place: _,
+            manner,
+            counts,
+            starts,
+            body,
+        } => {
+            let count = count_at(counts.as_slice(), k);
+            let from = start_at(starts.as_slice(), k);
+            match manner {
+                Manner::InTurn | Manner::AtOnce => turns(
+                    body.as_slice(),
+                    count,
+                    from,
+                    setting,
+                    calls,
+                    left,
+                    views,
+                    bytes,
+                ),
+                Manner::Gathering(r) => gatherings(
+                    r,
+                    body.as_slice(),
+                    count,
+                    from,
+                    setting,
+                    calls,
+                    left,
+                    views,
+                    bytes,
+                ),
+            }
+        }
+    }
+}
+
+// Iterations one after another; the body is begun for the first time that has the number `from`.
+#[cycle(run)]
+fn turns(
+    body: &[Begun],
+    count: u32,
+    from: usize,
+    setting: &Setting<'_>,
+    calls: usize,
+    left: u32,
+    views: &Views,
+    bytes: &mut [u8],
+) -> Result<(), End>
+    requires line { ready.IsLine views.now }
+    requires placed { memory.ArePlaced views.now bytes.old }
+    requires forms { ready.AreForms setting.now.forms.now }
+    requires rows { ready.AreReady setting.now.forms.now views.now body.now }
+    ensures { (s : Arrays) → Shows views.now bytes.old s → spec.Follows views.now bytes.new result (in_turn count (λ t. serial (spec.list_work (spec.form_work setting.now.forms.now calls) body.now (from + t))) s) }
+{
+    if left == 0 {
+        return Err(End::NoMemory);
+    }
+    for t in 0..count {
+        let Some(k) = from.checked_add(t as usize) else {
+            return Err(End::NoMemory);
+        };
+        match statements(body, k, setting, calls, left - 1, views, bytes) {
+            Ok(()) => {}
+            Err(end) => return Err(in_iteration(end, t)),
+        }
+    }
+    Ok(())
+}
+
+// The iterations of a reduction.
+#[cycle(run)]
+fn gatherings(
+    r: &Reduction,
+    body: &[Begun],
+    count: u32,
+    from: usize,
+    setting: &Setting<'_>,
+    calls: usize,
+    left: u32,
+    views: &Views,
+    bytes: &mut [u8],
+) -> Result<(), End>
+    requires line { ready.IsLine views.now }
+    requires placed { memory.ArePlaced views.now bytes.old }
+    requires forms { ready.AreForms setting.now.forms.now }
+    requires rows { ready.AreReady setting.now.forms.now views.now body.now }
+    ensures { (s : Arrays) → Shows views.now bytes.old s → spec.Follows views.now bytes.new result (in_turn count (λ t. gathering r.now (serial (spec.list_work (spec.form_work setting.now.forms.now calls) body.now (from + t)))) s) }
+{
+    if left == 0 {
+        return Err(End::NoMemory);
+    }
+    for t in 0..count {
+        let Some(k) = from.checked_add(t as usize) else {
+            return Err(End::NoMemory);
+        };
+        match gather(r, body, k, setting, calls, left - 1, views, bytes) {
+            Ok(()) => {}
+            Err(end) => return Err(in_iteration(end, t)),
+        }
+    }
+    Ok(())
+}
+
+// One of them: the array that is reduced into holds the identity at its start.
+#[cycle(run)]
+fn gather(
+    r: &Reduction,
+    body: &[Begun],
+    k: usize,
+    setting: &Setting<'_>,
+    calls: usize,
+    left: u32,
+    views: &Views,
+    bytes: &mut [u8],
+) -> Result<(), End>
+    requires line { ready.IsLine views.now }
+    requires placed { memory.ArePlaced views.now bytes.old }
+    requires forms { ready.AreForms setting.now.forms.now }
+    requires rows { ready.AreReady setting.now.forms.now views.now body.now }
+    ensures { (s : Arrays) → Shows views.now bytes.old s → spec.Follows views.now bytes.new result (gathering r.now (serial (spec.list_work (spec.form_work setting.now.forms.now calls) body.now k)) s) }
+{
+    let Some(view) = at(views.as_slice(), r.array as usize) else {
+        return Err(End::NoMemory);
+    };
+    if view.elem != r.elem {
+        return Err(End::NoMemory);
+    }
+    let Ok(mut before) = saved(setting.alloc, view, bytes) else {
+        return Err(End::NoMemory);
+    };
+    clear(r.op, view, bytes);
+    match statements(body, k, setting, calls, left, views, bytes) {
+        Ok(()) => {
+            combine(r.op, view, before.as_mut_slice(), bytes);
+            Ok(())
+        }
+        Err(end) => Err(end),
+    }
+}
+
+#[cycle(run)]
+fn call(
+    r: &Reached,
+    setting: &Setting<'_>,
+    calls: usize,
+    left: u32,
+    views: &Views,
+    bytes: &mut [u8],
+) -> Result<(), End>
+    requires line { ready.IsLine views.now }
+    requires placed { memory.ArePlaced views.now bytes.old }
+    requires forms { ready.AreForms setting.now.forms.now }
+    requires row { ready.RowFits setting.now.forms.now views.now r.now }
+    ensures { (lower : Bool) (s : Arrays) → Shows views.now bytes.old s → spec.Follows views.now bytes.new result (serial (Call r.now.form lower r.now.args (spec.form_work setting.now.forms.now calls r.now.form)) s) }
+{
+    if left == 0 || calls == 0 {
+        return Err(End::NoMemory);
+    }
+    let Some(f) = at(setting.forms, r.form) else {
+        return Err(End::NoMemory);
+    };
+    let args = r.args.as_slice();
+    let inner = f.views.as_slice();
+    let Ok(mut memory) = enter(setting.alloc, args, views.as_slice(), bytes, inner) else {
+        return Err(End::NoMemory);
+    };
+    let inside = memory.as_mut_slice();
+    match run(f, setting, calls - 1, left - 1, inside) {
+        Ok(()) => {
+            leave(args, 0, views.as_slice(), inner, inside, bytes);
+            Ok(())
+        }
+        Err(end) => Err(end),
+    }
+}
+
+// Runs a form over its memory.
+#[cycle(run)]
+fn run(
+    f: &FormCode,
+    setting: &Setting<'_>,
+    calls: usize,
+    left: u32,
+    bytes: &mut [u8],
+) -> Result<(), End>
+    requires form { ready.IsForm setting.now.forms.now f.now }
+    requires forms { ready.AreForms setting.now.forms.now }
+    requires size { length bytes.old ≡ memory.total (map shape_of f.now.views) }
+    ensures { (s : Arrays) → Shows f.now.views bytes.old s → spec.Follows f.now.views bytes.new result (serial (spec.body_work (spec.form_work setting.now.forms.now calls) f.now.views f.now.body) s) }
+{
+    match &f.body {
+        Body::Leaf(code) => leaf(code, &f.views, bytes, setting.alloc),
+        Body::Inner(list) => statements(list.as_slice(), 0, setting, calls, left, &f.views, bytes),
+    }
+}
+
+// How many maps and calls may stand within one another while forms run; a program that is resolved has fewer.
+const MOST_NESTED: u32 = 1024;
+
+/// Runs the first of these forms over the memory of its arrays, which stand in it as its views say: the arrays that they
+/// show change as the source means, or its trap is answered. None where the forms aren't ready (`are_ready`) or the
+/// memory has another size; then nothing is changed.
+pub fn run_entry(alloc: Global, forms: &[FormCode], bytes: &mut [u8]) -> Option<Result<(), End>>
+    ensures meant { (f : Form) (s : Arrays) → slice_get forms.now 0 ≡ Some f → Shows f.views bytes.old s → IfSome result (λ r. spec.Follows f.views bytes.new r (serial (spec.form_work forms.now (length forms.now) 0) s)) }
+    ensures none { IfNone result (bytes.new ≡ bytes.old) }
+{
+    if !are_ready(forms) {
+        return None;
+    }
+    let Some(f) = at(forms, 0) else {
+        return None;
+    };
+    let views = f.views.as_slice();
+    if !are_lined(views) || bytes.len() != total(views) {
+        return None;
+    }
+    let setting = Setting { alloc, forms };
+    Some(run(f, &setting, forms.len() - 1, MOST_NESTED, bytes))
+}
