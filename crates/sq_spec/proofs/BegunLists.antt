@@ -14,11 +14,7 @@ use Rattle.sq_ast.specs.declared.stmt.Range.{Range}
 use Rattle.sq_ast.specs.declared.stmt.Stmt.{Stmt}
 use Rattle.sq_spec.specs.declared.begun.Begun.{Begun}
 use Rattle.sq_spec.specs.Stmts.{portion}
-use Rattle.sq_ast.specs.declared.program.Body.{Body}
-use Rattle.sq_ast.specs.declared.program.Body.TheVariants as body
-use Rattle.sq_ast.specs.declared.program.Variant.{Variant}
-use Rattle.sq_spec.specs.Decls.{Scope}
-use Rattle.sq_spec.specs.Begun.{over, number_or, reached, Tabled, all_of, tabled, tables, elems_of, body_tables}
+use Rattle.sq_spec.specs.Begun.{over, number_or, reached, Tabled, all_of, tabled}
 use Rattle.sq_spec.proofs.OpenedBegun.{same_calls}
 
 map_both : {A B : Type 0} (f : A → B) (xs ys : List A) → map f (xs ++ ys) ≡ map f xs ++ map f ys
@@ -62,11 +58,3 @@ module _ (forms : Forms) (frame : Frame) (names : Names) (elems : List Elem) (nu
       let all : all_of (map each (drop i list)) call reduced nest ≡ table ∷ rest next =
       ap (λ l. all_of (map each l) call reduced nest) split ∙ (ap (λ b. b ∷ rest (call + (each x).calls)) (sym is) ∙ ap (λ n. table ∷ rest n) (sym after)) in
       ap (λ l. l ++ rest next) pushed ∙ (append_assoc old (table ∷ []) (rest next) ∙ (ap (λ l. old ++ l) (sym all) ∙ kept))
-
--- the statements of a body
-pub body_is : (forms : Forms) (frame : Frame) (v : Variant) (b : Body) (scope : Scope) (list seen : List Stmt) (elems : List Elem) (made : List Begun)
-    → made ≡ tables forms frame scope.names elems scope.numbers seen → b ≡ body.Inner list → seen ≡ list → elems ≡ elems_of v scope
-    → made ≡ body_tables forms frame v b scope
-body_is forms frame v b scope list seen elems made is inner same types =
-    is ∙ (ap (tables forms frame scope.names elems scope.numbers) same
-    ∙ (ap (λ es. tables forms frame scope.names es scope.numbers list) types ∙ ap (λ x. body_tables forms frame v x scope) (sym inner)))

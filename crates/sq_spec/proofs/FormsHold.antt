@@ -185,7 +185,7 @@ module _ (variants : List Variant) (instances : List Instance) where
   found_went n k r s lu ll rec e None there h = went_none (suc n) k r s (beyond_by r.found k there) e
   found_went n k r s lu ll rec e (Some form) there h = step_went n k r s lu ll rec form there (walked variants instances k form.1 r.found) refl h
 
-  went : (n k : ℕ) (r s : Resolving) → length r.uses ≡ k → length r.forms ≡ k → walk_from variants instances n k r ≡ Ok s → Went n k r s
+  pub went : (n k : ℕ) (r s : Resolving) → length r.uses ≡ k → length r.forms ≡ k → walk_from variants instances n k r ≡ Ok s → Went n k r s
   went zero k r s lu ll e = let is : r ≡ s = cc e in subst (Went 0 k r) is (record {
     found = keeps_all r.found;
     uses = keeps_all r.uses;

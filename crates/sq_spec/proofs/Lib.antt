@@ -35,3 +35,7 @@ pub mod BegunLists
 pub mod ReachedHold
 pub mod Rows
 pub mod TablesMean
+pub mod Numbered
+pub mod NumberedForms
+pub mod WhatRuns
+pub mod EntryHolds

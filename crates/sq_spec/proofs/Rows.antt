@@ -7,6 +7,7 @@ use Rattle.sq_spec.specs.declared.begun.Reduction.{Reduction}
 use Rattle.sq_spec.specs.Begun.{over}
 use Rattle.sq_spec.specs.Work.{Work, Then, Each, AtOnce, Gathers}
 use Rattle.sq_spec.specs.Meaning.{Outcome, and_then, numbered, any_below, writes, apart, taken, cleared, gathered, meaning}
+use Rattle.sq_spec.specs.InTurn.{gathering, serial}
 use Rattle.sq_spec.proofs.Serial.{in_turn_same}
 
 -- the iterations of a map in the k times before
@@ -17,12 +18,14 @@ begun_before (suc k) (n ∷ counts) = n + begun_before k counts
 
 -- ---- works that mean the same
 
+-- and do the same where all iterations follow one another
 pub record Alike (w v : Work) : Type 0 where
   pub means : meaning w ≡ meaning v
   pub written : writes w ≡ writes v
+  pub runs : serial w ≡ serial v
 
 pub alike_itself : (w : Work) → Alike w w
-alike_itself w = record { means = refl; written = refl }
+alike_itself w = record { means = refl; written = refl; runs = refl }
 
 pub alike_then : (a b c d : Work) → Alike a b → Alike c d → Alike (Then a c) (Then b d)
 alike_then a b c d first second = record {
@@ -30,6 +33,7 @@ alike_then a b c d first second = record {
       ∙ ap (and_then (meaning b s)) second.means);
   written = fun_ext (λ n. fun_ext (λ cs. ap₂ (λ x y. x || y) (ap (λ (f : ℕ → List ℕ → Bool). f n cs) first.written)
       (ap (λ (f : ℕ → List ℕ → Bool). f n cs) second.written)));
+  runs = fun_ext (λ s. ap (λ (o : Outcome). and_then o (serial c)) (ap (λ (f : Arrays → Outcome). f s) first.runs) ∙ ap (and_then (serial b s)) second.runs);
 }
 
 below_same : (count : ℕ) (f g : ℕ → Bool) → ((t : ℕ) → t < count → f t ≡ g t) → any_below count f ≡ any_below count g
@@ -54,6 +58,7 @@ module _ (count : ℕ) (w v : ℕ → Work) (alike : (t : ℕ) → t < count →
   alike_each = record {
     means = fun_ext (in_turn_same count (λ t. meaning (w t)) (λ t. meaning (v t)) (λ t lt. (alike t lt).means));
     written = fun_ext (λ n. fun_ext (λ cs. some_written n cs));
+    runs = fun_ext (in_turn_same count (λ t. serial (w t)) (λ t. serial (v t)) (λ t lt. (alike t lt).runs));
   }
 
   pub alike_at_once : (place : Place) → Alike (AtOnce place count w) (AtOnce place count v)
@@ -61,6 +66,7 @@ module _ (count : ℕ) (w v : ℕ → Work) (alike : (t : ℕ) → t < count →
     means = fun_ext (λ s. apart_same count (λ t. taken (writes (w t))) (λ t. taken (writes (v t))) (λ t. meaning (w t) s) (λ t. meaning (v t) s)
         (λ t lt. ap taken (alike t lt).written) (λ t lt. ap (λ (f : Arrays → Outcome). f s) (alike t lt).means) s);
     written = fun_ext (λ n. fun_ext (λ cs. some_written n cs));
+    runs = fun_ext (in_turn_same count (λ t. serial (w t)) (λ t. serial (v t)) (λ t lt. (alike t lt).runs));
   }
 
   pub alike_gathers : (r : Reduction) (place : Place) → Alike (Gathers r place count w) (Gathers r place count v)
@@ -70,6 +76,7 @@ module _ (count : ℕ) (w v : ℕ → Work) (alike : (t : ℕ) → t < count →
         (λ t lt. ap (λ (f : Arrays → Outcome). f (cleared r s)) (alike t lt).means) s);
     written = fun_ext (λ n. fun_ext (λ cs. below_same count (λ t. nat_eq n r.array || writes (w t) n cs) (λ t. nat_eq n r.array || writes (v t) n cs)
         (λ t lt. ap (λ (f : ℕ → List ℕ → Bool). nat_eq n r.array || f n cs) (alike t lt).written)));
+    runs = fun_ext (in_turn_same count (λ t. gathering r (serial (w t))) (λ t. gathering r (serial (v t))) (λ t lt. ap (gathering r) (alike t lt).runs));
   }
 
 -- ---- lists

@@ -6,8 +6,6 @@ use Rattle.sq_num.specs.declared.Elem.TheVariants.{Long}
 use Rattle.sq_num.specs.declared.RedOp.{RedOp}
 use Rattle.sq_text.specs.Names.{Bytes, same_name}
 use Rattle.sq_ast.specs.declared.expr.ArgUse.{ArgUse}
-use Rattle.sq_ast.specs.declared.program.Body.{Body}
-use Rattle.sq_ast.specs.declared.program.Body.TheVariants as body
 use Rattle.sq_ast.specs.declared.program.Param.{Param}
 use Rattle.sq_ast.specs.declared.program.Variant.{Variant}
 use Rattle.sq_ast.specs.declared.stmt.Call.{Call}
@@ -17,7 +15,6 @@ use Rattle.sq_ast.specs.declared.stmt.MapKind.TheVariants.{Par, Seq, Reduce}
 use Rattle.sq_ast.specs.declared.stmt.Stmt.{Stmt}
 use Rattle.sq_ast.specs.declared.stmt.Stmt.TheOpen.{Stmt-F}
 use Rattle.sq_ast.specs.declared.stmt.Stmt.TheFolds.{fold-Stmt}
-use Rattle.sq_mapfile.specs.declared.mapping.Instance.{Instance}
 use Rattle.sq_blocks.specs.Names.{Numbers, Lists}
 use Rattle.sq_spec.specs.declared.begun.Reduction.{Reduction}
 use Rattle.sq_spec.specs.declared.begun.Manner.{Manner}
@@ -25,18 +22,15 @@ use Rattle.sq_spec.specs.declared.begun.Manner.TheVariants as manner
 use Rattle.sq_spec.specs.declared.begun.Reached.{Reached}
 use Rattle.sq_spec.specs.declared.begun.Begun.{Begun}
 use Rattle.sq_spec.specs.declared.begun.Begun.TheVariants as begun
-use Rattle.sq_spec.specs.declared.form.Found.{Found}
 use Rattle.sq_spec.specs.declared.form.LocalArray.{LocalArray}
 use Rattle.sq_spec.specs.declared.known.Array.{Array}
 use Rattle.sq_spec.specs.Faults.{Value, value_or}
-use Rattle.sq_spec.specs.Steps.{Forms, Key, key_number}
-use Rattle.sq_spec.specs.Tables.{variant_of}
+use Rattle.sq_spec.specs.Steps.{Forms, key_number}
 use Rattle.sq_spec.specs.Args.{Names, arguments}
 use Rattle.sq_spec.specs.Worlds.{Frame, Callee, callee_of}
 use Rattle.sq_spec.specs.Calls.{key_of, flags, extents_of}
 use Rattle.sq_spec.specs.Stmts.{bounds, times_of, in_iteration, reduced_by}
-use Rattle.sq_spec.specs.Decls.{Scope, empty_scope, params_from, all_declared}
-use Rattle.sq_spec.specs.Resolving.{frame_in}
+use Rattle.sq_spec.specs.Decls.{Scope}
 
 -- ---- when a statement is begun
 
@@ -129,7 +123,7 @@ module _ (forms : Forms) (frame : Frame) (names : Names) (elems : List Elem) (nu
   abbrev pub tables : List Stmt → List Begun
   tables list = all_of (map tabled list) 0 None []
 
--- ---- forms
+-- ---- the arrays of a form
 
 abbrev pub param_elems : List Param → List Elem
 param_elems list = map (λ p. p.elem) list
@@ -139,36 +133,6 @@ local_elems list = map (λ l. l.elem) list
 
 abbrev pub elems_of : Variant → Scope → List Elem
 elems_of v scope = param_elems v.params ++ local_elems scope.locals
-
--- forms: all that were found; leaf code has no calls and no maps
-module _ (forms : Forms) where
-  abbrev pub body_tables : Frame → Variant → Body → Scope → List Begun
-  body_tables frame v (body.Inner list) scope = tables forms frame scope.names (elems_of v scope) scope.numbers list
-  body_tables frame v (body.Leaf list) scope = []
-
-  abbrev pub declared_tables : Frame → Variant → Value Scope → List Begun
-  declared_tables frame v (Ok scope) = body_tables frame v v.body scope
-  declared_tables frame v (Err fault) = []
-
-  abbrev pub scope_tables : Frame → Instance → Variant → Option Scope → List Begun
-  scope_tables frame x v None = []
-  scope_tables frame x v (Some scope) = declared_tables frame v (all_declared x.tunings scope v.decls)
-
-  abbrev pub variant_tables : List Variant → List Instance → Instance → ℕ → Found → Option Variant → List Begun
-  variant_tables variants instances x k f None = []
-  variant_tables variants instances x k f (Some v) = scope_tables (frame_in variants instances x k f) x v (params_from empty_scope v.params 0 f.extents)
-
-  abbrev pub instance_tables : List Variant → List Instance → ℕ → Found → Option Instance → List Begun
-  instance_tables variants instances k f None = []
-  instance_tables variants instances k f (Some x) = variant_tables variants instances x k f (variant_of variants x.task x.kind)
-
-  abbrev pub found_tables : List Variant → List Instance → ℕ → Option (Key × Found) → List Begun
-  found_tables variants instances k None = []
-  found_tables variants instances k (Some form) = instance_tables variants instances k form.1 (slice_get instances form.1.instance)
-
--- the statements of the form with this number
-abbrev pub statements_of : List Variant → List Instance → Forms → ℕ → List Begun
-statements_of variants instances forms k = found_tables forms variants instances k (slice_get forms k)
 
 -- ---- what the code does
 

@@ -21,3 +21,7 @@ pub mod InTurn
 pub mod Examples
 pub mod Begun
 pub mod BegunWork
+pub mod Bodies
+pub mod Walked
+pub mod Entry
+pub mod Numbered

@@ -15,7 +15,8 @@ use Rattle.sq_ast.specs.declared.program.Variant.{Variant}
 use Rattle.sq_mapfile.specs.declared.mapping.Instance.{Instance}
 use Rattle.sq_mapfile.specs.declared.mapping.Mapping.{Mapping}
 use Rattle.sq_blocks.specs.Names.{Numbers}
-use Rattle.sq_leaf.specs.Source.{Arrays, Shape}
+use Rattle.sq_leaf.specs.declared.shape.Shape.{Shape}
+use Rattle.sq_leaf.specs.Source.{Arrays}
 use Rattle.sq_leaf.specs.Leaf.{leaf_value}
 use Rattle.sq_spec.specs.declared.args.Argument.{Argument}
 use Rattle.sq_spec.specs.declared.form.Found.{Found}

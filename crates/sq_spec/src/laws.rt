@@ -1,6 +1,7 @@
 //! What follows from the definitions of the walk.
 
 ghost use Rattle.sq_spec.specs.Laws.{FirstFault, AllPassed, KeyIsForm, PassedIsUnaliased, AliasIsExact, InPlaceIsApart, FlagsAreExact, ShapeIsExact, LimitIsExact, EachWalked, FewForms, CallersFirst};
+ghost use Rattle.sq_spec.specs.Entry.{EntryIsFirst};
 ghost use Rattle.sq_spec.specs.Insides.{ArgumentsLieInside, AccessesLieInside};
 ghost use Rattle.sq_spec.specs.Named.{DeclaredNamesStand, VariablesStand, StandingNamesServe};
 ghost use Rattle.sq_spec.specs.Needs.{NeedIsOne, NoFormNoNeed, EntryIsAtRoot, FormsRunAtTheirLevel, CallsAreThoseReached};
@@ -60,6 +61,11 @@ pub fn each_form_was_walked()
 /// There are no more forms than the greatest number of them.
 pub fn forms_are_few()
     ensures { FewForms }
+{}
+
+/// The first form is the entry's, with the extents that the mapping's sizes give its parameters.
+pub fn entry_is_first()
+    ensures { EntryIsFirst }
 {}
 
 /// Forms are a tree: each but the entry is called from a form before it, of those that are found and of the answer's.

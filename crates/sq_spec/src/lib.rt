@@ -4,6 +4,7 @@
 mod args;
 mod begun;
 mod bodies;
+mod body;
 mod call;
 mod decls;
 mod faults;
@@ -22,5 +23,6 @@ mod world;
 
 pub use args::Argument;
 pub use begun::{Begun, Manner, Reached, Reduction};
+pub use body::{Body, FormBody};
 pub use form::{Caller, Form, LocalArray, Use};
 pub use resolved::{Resolved, resolve};

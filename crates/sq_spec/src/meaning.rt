@@ -2,6 +2,7 @@
 
 ghost use Rattle.sq_spec.specs.InTurn.{ChangesWritten, DependsOnTouched, RaceFreeIsSerial};
 ghost use Rattle.sq_spec.specs.BegunWork.{TablesMeanStatements};
+ghost use Rattle.sq_spec.specs.Numbered.{TablesMeanProgram};
 ghost use Rattle.sq_spec.specs.Examples.{MovesDiffer, SumsCombine, TrapsHavePaths};
 
 /// A work changes only what it writes.
@@ -37,4 +38,11 @@ pub fn traps_have_their_paths()
 /// The tables of a form's statements mean what the statements mean.
 pub fn tables_mean_the_statements()
     ensures { TablesMeanStatements }
+{}
+
+/// Without a race the tables of a program's forms mean what the program means, with the iterations of all maps one after
+/// another.
+#[tactic(auto, using(crate::proofs::NumberedForms::tables_mean_program))]
+pub fn tables_mean_the_program()
+    ensures { TablesMeanProgram }
 {}

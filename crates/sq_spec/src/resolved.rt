@@ -1,26 +1,32 @@
 //! The forms of a program under its mapping.
 
-ghost use Rattle.std.specs.Prelude.{◌≡◌, ◌<◌, Some, Ok, length, slice_get, IfOk};
+ghost use Rattle.std.specs.Prelude.{◌≡◌, ◌<◌, Some, Ok, true, length, slice_get, IfOk};
 ghost use Rattle.sq_text.specs.declared.fault.Fault.{Fault};
 ghost use Rattle.sq_text.specs.Answers.{IfRefused};
+ghost use Rattle.sq_ast.specs.Grammar.{most_levels};
+ghost use Rattle.sq_types.specs.Nesting.{HasLoops};
+ghost use Rattle.sq_types.specs.Sound.{is_sound};
 ghost use Rattle.sq_mapfile.specs.Sound.{Sound};
 ghost use Rattle.sq_spec.specs.Forms.{AreForms, IsFirstMet};
-ghost use Rattle.sq_spec.specs.Resolving.{Resolves, resolved};
-ghost use Rattle.sq_spec.specs.Begun.{statements_of};
+ghost use Rattle.sq_spec.specs.Resolving.{Resolves, resolved, entry_params};
+ghost use Rattle.sq_spec.specs.Bodies.{body_of};
+ghost use Rattle.sq_spec.specs.Walked.{IsWalked};
 ghost use Rattle.sq_spec.specs.Works.{found_in};
 
-use crate::begun::Begun;
 use crate::bodies;
+use crate::body::FormBody;
 use crate::form::{Form, Found, Key, Use};
 use crate::forms::{Resolving, resolve_forms};
-use crate::tables::Variants;
+use crate::tables::{Variants, variant_in};
 use indexmap::IndexMap;
-use sq_ast::Program;
+use sq_ast::laws::given_programs_are_formed;
+use sq_ast::{Param, Program};
+use sq_leaf::laws::leaf_variants_may_be_compiled;
 use sq_machfile::Machine;
 use sq_mapfile::{Instance, Mapping};
 use sq_text::Stop;
 use sq_types::Typed;
-use sqlite_items::Items;
+use sqlite_items::{Items, at};
 use std::alloc::{AllocError, Global};
 
 /// A program, its mapping and its machine, with the forms in the order in which they are found, and the accesses of each.
@@ -33,6 +39,7 @@ pub struct Resolved<'a> {
     forms: Items<Form>,
     uses: Items<Items<Use>>,
     ghost paired: { length uses ≡ length forms },
+    ghost walked: { ∥ IsWalked typed.now machine.now.levels mapping.now found.entries forms uses ∥₁ },
 }
 
 impl<'a> Resolved<'a> {
@@ -72,35 +79,57 @@ impl<'a> Resolved<'a> {
         self.uses.as_slice()[form as usize].as_slice()
     }
 
-    /// The statements of a form, with what each is begun with in one run of the form.
-    pub fn statements(&self, alloc: Global, form: u32) -> Result<Items<Begun>, AllocError>
-        ensures { IfOk result (λ list. list ≡ statements_of self.now.typed.now.tasks self.now.mapping.now.instances self.now.found.entries form) }
+    /// The parameters of the entry.
+    pub fn entry_params(&self) -> &'a [Param]
+        ensures { result.now ≡ entry_params self.now.typed.now.tasks (slice_get self.now.mapping.now.instances self.now.mapping.now.entry) }
     {
-        let list = form_statements(
+        params_of(self.typed.program(), self.mapping)
+    }
+
+    /// The arrays of a form and what it does; of statements, with what each is begun with in one run of the form.
+    pub fn body(&self, alloc: Global, form: u32) -> Result<FormBody, AllocError>
+        ensures { IfOk result (λ b. b ≡ body_of self.now.typed.now.tasks self.now.mapping.now.instances self.now.found.entries form) }
+    {
+        let body = form_body(
             alloc,
             self.typed.program(),
             self.mapping.instances.as_slice(),
             &self.found,
             form,
         );
-        match list {
-            Ok(list) => Ok(list),
+        match body {
+            Ok(body) => Ok(body),
             Err(_) => Err(AllocError),
         }
     }
 }
 
-fn form_statements(
+fn params_of<'a>(program: &'a Program, mapping: &Mapping) -> &'a [Param]
+    ensures { result.now ≡ entry_params program.now.tasks (slice_get mapping.now.instances mapping.now.entry) }
+{
+    match at(mapping.instances.as_slice(), mapping.entry as usize) {
+        Some(x) => match variant_in(program.tasks.as_slice(), &x.task, x.kind) {
+            Some(v) => v.params.as_slice(),
+            None => &[],
+        },
+        None => &[],
+    }
+}
+
+fn form_body(
     alloc: Global,
     program: &Program,
     instances: &[Instance],
     found: &IndexMap<Key, Found>,
     form: u32,
-) -> Result<Items<Begun>, Stop>
-    ensures { IfOk result (λ list. list ≡ statements_of program.now.tasks instances.now found.now.entries form) }
+) -> Result<FormBody, Stop>
+    requires sound { is_sound program.now ≡ true }
+    requires loops { HasLoops most_levels program.now.tasks }
+    ensures { IfOk result (λ b. b ≡ body_of program.now.tasks instances.now found.now.entries form) }
 {
+    leaf_variants_may_be_compiled();
     let variants = Variants::new(alloc, program.tasks.as_slice())?;
-    bodies::statements_of(alloc, &variants, instances, found, form)
+    bodies::body_of(alloc, &variants, instances, found, form)
 }
 
 fn resolve_program(alloc: Global, program: &Program, mapping: &Mapping) -> Result<Resolving, Stop>
@@ -126,6 +155,7 @@ pub fn resolve<'a>(
     ensures mapping { IfOk result (λ r. r.mapping.now ≡ mapping.now) }
     ensures machine { IfOk result (λ r. r.machine.now ≡ machine.now) }
 {
+    given_programs_are_formed();
     let found = resolve_program(alloc, typed.program(), mapping)?;
     let walk = found.walk;
     Ok(Resolved {

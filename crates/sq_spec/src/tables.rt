@@ -9,6 +9,7 @@ ghost use Rattle.sq_spec.specs.Tables as spec;
 use sq_ast::{Variant, VariantKind};
 use sq_mapfile::{Route, Setting, Tuning};
 use sq_text::{FirstItems, Name};
+use sqlite_items::at;
 use std::alloc::{AllocError, Global};
 
 /// The variants of a program, with the first of each task and kind.
@@ -41,6 +42,28 @@ fn first_of_kind(
         }
     }
     Ok(first)
+}
+
+// The number of the first variant of the task and kind.
+fn first_number(list: &[Variant], task: &Name, kind: VariantKind) -> Option<usize>
+    ensures { result ≡ spec.first_of_kind kind 0 list.now task.now }
+{
+    for (i, v) in list.iter().enumerate() {
+        if is_same_kind(v.kind, kind) {
+            if *task == v.task {
+                return Some(i);
+            }
+        }
+    }
+    None
+}
+
+/// The variant of a task and kind, looked up without a table.
+pub fn variant_in<'a>(list: &'a [Variant], task: &Name, kind: VariantKind) -> Option<&'a Variant>
+    ensures { option_copied result ≡ spec.variant_of list.now task.now kind }
+{
+    let number = first_number(list, task, kind)?;
+    at(list, number)
 }
 
 impl<'a> Variants<'a> {

@@ -1,14 +1,25 @@
 use Rattle.std.proofs.Common.{refl, ap}
 use Rattle.sq_spec.specs.Resolving.{resolving_of}
+use Rattle.sq_spec.specs.Walked.{IsWalked}
 use Rattle.sq_spec.specs.Works.{found_in}
 use Rattle.sq_spec.proofs.AllForms.{paired, of_program}
 use Rattle.sq_spec.proofs.resolved.resolve.Goals as goal
 
 pub invariant_of-result : goal.invariant_of-result
-invariant_of-result c = record {
-  paired = paired c.args.typed.now.tasks c.args.mapping.now (resolving_of c.in_ok-found.found)
-      (of_program c.args.typed.now c.program.result.now c.args.mapping.now (resolving_of c.in_ok-found.found) c.program.ensures.same c.in_ok-found.ensures);
-}
+invariant_of-result c =
+    let found = c.in_ok-found.found in
+    let through = of_program c.args.typed.now c.program.result.now c.args.mapping.now (resolving_of found) c.program.ensures.same c.in_ok-found.ensures in
+    let walked : IsWalked c.args.typed.now c.args.machine.now.levels c.args.mapping.now found.walk.forms.entries found.forms found.uses = record {
+      formed = c.given_programs_are_formed.ensures c.args.typed.now c.program.ensures.given;
+      faultless = c.program.ensures.sound;
+      loops = c.program.ensures.loops;
+      read = c.requires;
+      through = through;
+    } in
+    record {
+      paired = paired c.args.typed.now.tasks c.args.mapping.now (resolving_of found) through;
+      walked = ∣ walked ∣₁;
+    }
 
 pub returns-clause-forms : goal.returns-clause-forms
 returns-clause-forms c = record {

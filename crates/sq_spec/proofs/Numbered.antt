@@ -1,0 +1,259 @@
+-- Where callees are known by their numbers, the statements of a form do the same, one iteration after another.
+use Rattle.std.proofs.Common.{◌≡◌, ℕ, zero, suc, ◌+◌, ◌<◌, List, [], ◌∷◌, map, slice_get, Option, Some, None, Ok, refl, sym, ap, ◌∙◌, subst, arith}
+use mathlib.Core.Path.{fun_ext}
+use Rattle.sq_num.specs.declared.Elem.{Elem}
+use Rattle.sq_text.specs.declared.place.Place.{Place}
+use Rattle.sq_text.specs.Names.{Bytes}
+use Rattle.sq_ast.specs.declared.expr.ArgUse.{ArgUse}
+use Rattle.sq_ast.specs.declared.program.Param.{Param}
+use Rattle.sq_ast.specs.declared.stmt.Call.{Call as CallStmt}
+use Rattle.sq_ast.specs.declared.stmt.Range.{Range}
+use Rattle.sq_ast.specs.declared.stmt.MapKind.{MapKind}
+use Rattle.sq_ast.specs.declared.stmt.Stmt.{Stmt, roll-Stmt}
+use Rattle.sq_ast.specs.declared.stmt.Stmt.TheVariants as s
+use Rattle.sq_ast.specs.declared.stmt.Stmt.TheOpen.{Stmt-F}
+use Rattle.sq_ast.specs.declared.stmt.Stmt.TheFolds.{fold-Stmt, fold-roll-Stmt, ind-Stmt, map-Stmt}
+use Rattle.sq_blocks.specs.Names.{Numbers}
+use Rattle.sq_leaf.specs.Source.{Arrays}
+use Rattle.sq_spec.specs.declared.form.Found.{Found}
+use Rattle.sq_spec.specs.declared.begun.Manner.{Manner}
+use Rattle.sq_spec.specs.declared.begun.Manner.TheVariants as manner
+use Rattle.sq_spec.specs.Faults.{value_or}
+use Rattle.sq_spec.specs.Steps.{Step, Part, Called, Forms, Opens, Counts, Tests, Calls, key_number}
+use Rattle.sq_spec.specs.Args.{Names, used, arguments, args_steps}
+use Rattle.sq_spec.specs.Worlds.{Frame, Callee, callee_of}
+use Rattle.sq_spec.specs.Calls.{Spot, called, served_steps, reached_steps}
+use Rattle.sq_spec.specs.Stmts.{Portion, portion, calls_of as portion_calls, all_of, after_calls, bounds, times_of, in_iteration, within, each, opens, outermost, iteration_steps, map_steps, stmts_steps}
+use Rattle.sq_spec.specs.Resolving.{start}
+use Rattle.sq_spec.specs.Reached.{calls_in}
+use Rattle.sq_spec.specs.Begun.{number_or, manner_of}
+use Rattle.sq_spec.specs.Work.{Work, Nothing, Then, Each, AtOnce, Gathers}
+use Rattle.sq_spec.specs.Meaning.{Outcome, and_then, entered, returned}
+use Rattle.sq_spec.specs.InTurn.{gathering, serial}
+use Rattle.sq_spec.specs.Works as works
+use Rattle.sq_spec.specs.Works.{Share, map_work, call_work, stmts_work}
+use Rattle.sq_spec.proofs.OpenedStmt.{portion_call, portion_map}
+use Rattle.sq_spec.proofs.Serial.{in_turn_same}
+
+-- works that do the same where all iterations follow one another
+pub record RunAlike (w v : Work) : Type 0 where
+  pub at : (s : Arrays) → serial w s ≡ serial v s
+
+then_alike : (a b c d : Work) → RunAlike a b → RunAlike c d → RunAlike (Then a c) (Then b d)
+then_alike a b c d first second =
+    record { at = λ s. ap (λ (o : Outcome). and_then o (serial c)) (first.at s) ∙ ap (and_then (serial b s)) (fun_ext second.at) }
+
+pub between : {w x v y : Work} → w ≡ x → v ≡ y → RunAlike x y → RunAlike w v
+between left right h = record { at = λ s. ap (λ (w : Work). serial w s) left ∙ (h.at s ∙ sym (ap (λ (w : Work). serial w s) right)) }
+
+map_alike : (m : Manner) (place : Place) (count : ℕ) (w v : ℕ → Work) → ((t : ℕ) → t < count → RunAlike (w t) (v t))
+    → RunAlike (map_work m place count w) (map_work m place count v)
+map_alike manner.InTurn place count w v h = record { at = in_turn_same count (λ t. serial (w t)) (λ t. serial (v t)) (λ t lt. fun_ext (h t lt).at) }
+map_alike manner.AtOnce place count w v h = record { at = in_turn_same count (λ t. serial (w t)) (λ t. serial (v t)) (λ t lt. fun_ext (h t lt).at) }
+map_alike (manner.Gathering r) place count w v h =
+    record { at = in_turn_same count (λ t. gathering r (serial (w t))) (λ t. gathering r (serial (v t))) (λ t lt. ap (gathering r) (fun_ext (h t lt).at)) }
+
+-- by: the work of a form by its number
+module _ (forms : Forms) (callee : ℕ → Found → Work) (by : ℕ → Work) where
+  -- the form that a call reaches, by what is known of it, does what the form of its number does
+  abbrev pub Suits : Called → Type 0
+  Suits c = (f : Found) → f.instance ≡ c.form.instance → f.extents ≡ c.form.extents
+      → RunAlike (callee (number_or (key_number forms c.key)) f) (by (number_or (key_number forms c.key)))
+
+  abbrev pub AllSuit : List Step → Type 0
+  AllSuit [] = Unit {0}
+  AllSuit (Opens ∷ rest) = AllSuit rest
+  AllSuit (Counts place ∷ rest) = AllSuit rest
+  AllSuit (Tests o ∷ rest) = AllSuit rest
+  AllSuit (Calls c ∷ rest) = Suits c × AllSuit rest
+
+  pub suit_each : (steps : List Step) → ((i : ℕ) (c : Called) → slice_get (calls_in steps) i ≡ Some c → Suits c) → AllSuit steps
+  suit_each [] h = tt
+  suit_each (Opens ∷ rest) h = suit_each rest h
+  suit_each (Counts place ∷ rest) h = suit_each rest h
+  suit_each (Tests o ∷ rest) h = suit_each rest h
+  suit_each (Calls c ∷ rest) h = (h 0 c refl, suit_each rest (λ i d e. h (suc i) d e))
+
+  -- ---- what suits in front of others leaves these
+
+  used_behind : (outer : Option Place) (later : List Step) → AllSuit (used outer later) → AllSuit later
+  used_behind None later h = h
+  used_behind (Some place) later h = h
+
+  opens_behind : (outer : Option Place) (later : List Step) → AllSuit (opens outer later) → AllSuit later
+  opens_behind None later h = h
+  opens_behind (Some place) later h = h
+
+  args_behind : (outer : Option Place) (names : Names) (numbers : Numbers) (reduced : Option Bytes) (params : List Param) (i : ℕ) (args : List ArgUse) (later : List Step)
+      → AllSuit (args_steps outer names numbers reduced params i args later) → AllSuit later
+  args_behind outer names numbers reduced params i [] later h = h
+  args_behind outer names numbers reduced params i (a ∷ rest) later h = args_behind outer names numbers reduced params (i + 1) rest later (used_behind outer _ h)
+
+  abbrev Leaves : Part → Type 0
+  Leaves part = (later : List Step) → AllSuit (part later) → AllSuit later
+
+  each_behind : (t n : ℕ) (part : ℕ → Part) → ((i : ℕ) → Leaves (part i)) → Leaves (each t n part)
+  each_behind t zero part leaves later h = h
+  each_behind t (suc n) part leaves later h = each_behind (t + 1) n part leaves later (leaves t _ h)
+
+  each_at : (t n : ℕ) (part : ℕ → Part) → ((i : ℕ) → Leaves (part i)) → (later : List Step) → AllSuit (each t n part later)
+      → (i : ℕ) → i < n → (more : List Step) × AllSuit (part (t + i) more)
+  each_at t zero part leaves later h i lt = absurd (omega (arith, lt))
+  each_at t (suc n) part leaves later h zero lt = let e : t ≡ t + 0 = omega arith in (each (t + 1) n part later, subst (λ k. AllSuit (part k (each (t + 1) n part later))) e h)
+  each_at t (suc n) part leaves later h (suc i) lt =
+      let found = each_at (t + 1) n part leaves later (leaves t _ h) i (omega (arith, lt)) in
+      let e : (t + 1) + i ≡ t + suc i = omega arith in
+      (found.0, subst (λ k. AllSuit (part k found.0)) e found.1)
+
+  -- ---- statements
+
+  -- the same form may be reached with other maps and forms round it
+  module _ (elems : List Elem) (frame : Frame) (m d : ℕ) where
+    abbrev other : Frame
+    other = record { variants = frame.variants; instances = frame.instances; routes = frame.routes; form = frame.form; level = frame.level; maps = m; depth = d }
+
+    abbrev by_number : ℕ → Found → Work
+    by_number n form = by n
+
+    abbrev wide : Stmt → Share
+    wide = fold-Stmt Share (works.stmt_step forms callee elems)
+
+    abbrev narrow : Stmt → Share
+    narrow = fold-Stmt Share (works.stmt_step forms by_number elems)
+
+    wide_call : (c : CallStmt) → wide (s.Call c) ≡ works.stmt_step forms callee elems (Stmt-F.Call c)
+    wide_call c = ap wide (sym (s.rolls-Call c)) ∙ fold-roll-Stmt Share (works.stmt_step forms callee elems) (Stmt-F.Call c)
+
+    narrow_call : (c : CallStmt) → narrow (s.Call c) ≡ works.stmt_step forms by_number elems (Stmt-F.Call c)
+    narrow_call c = ap narrow (sym (s.rolls-Call c)) ∙ fold-roll-Stmt Share (works.stmt_step forms by_number elems) (Stmt-F.Call c)
+
+    wide_map : (p : Place) (k : MapKind) (rs : List Range) (xs : List Stmt) → wide (s.Map p k rs xs) ≡ works.stmt_step forms callee elems (Stmt-F.Map p k rs (map wide xs))
+    wide_map p k rs xs = ap wide (sym (s.rolls-Map p k rs xs)) ∙ fold-roll-Stmt Share (works.stmt_step forms callee elems) (Stmt-F.Map p k rs xs)
+
+    narrow_map : (p : Place) (k : MapKind) (rs : List Range) (xs : List Stmt) → narrow (s.Map p k rs xs) ≡ works.stmt_step forms by_number elems
+        (Stmt-F.Map p k rs (map narrow xs))
+    narrow_map p k rs xs = ap narrow (sym (s.rolls-Map p k rs xs)) ∙ fold-roll-Stmt Share (works.stmt_step forms by_number elems) (Stmt-F.Map p k rs xs)
+
+    record Serves (p : Portion) (w v : Share) : Type 0 where
+      calls : p.calls ≡ w.calls
+      same : w.calls ≡ v.calls
+      behind : (names : Names) (spot : Spot) (numbers : Numbers) → Leaves (p.steps frame names spot numbers)
+      works : (names : Names) (spot : Spot) (numbers : Numbers) (later : List Step) → AllSuit (p.steps frame names spot numbers later)
+          → RunAlike (w.work other names spot numbers) (v.work frame names spot numbers)
+
+    abbrev Fits : Stmt → Type 0
+    Fits x = Serves (portion x) (wide x) (narrow x)
+
+    abbrev Known : Type 0
+    Known = (x : Stmt) × Fits x
+
+    abbrev stmts : List Known → List Stmt
+    stmts = map (λ q. q.0)
+
+    all_calls : (xs : List Known) → (portion_calls (map portion (stmts xs)) ≡ works.calls_of (map wide (stmts xs)))
+        × (works.calls_of (map wide (stmts xs)) ≡ works.calls_of (map narrow (stmts xs)))
+    all_calls [] = (refl, refl)
+    all_calls (x ∷ xs) =
+        let first = x.1.calls in
+        let second = x.1.same in
+        let more = all_calls xs in (
+          ap (λ n. n + portion_calls (map portion (stmts xs))) first ∙ ap (λ n. (wide x.0).calls + n) more.0,
+          ap (λ n. n + works.calls_of (map wide (stmts xs))) second ∙ ap (λ n. (narrow x.0).calls + n) more.1,
+        )
+
+    all_behind : (xs : List Known) (names : Names) (spot : Spot) (numbers : Numbers) → Leaves (all_of (map portion (stmts xs)) frame names spot numbers)
+    all_behind [] names spot numbers later h = h
+    all_behind (x ∷ xs) names spot numbers later h = all_behind xs names (after_calls spot (portion x.0).calls) numbers later (x.1.behind names spot numbers _ h)
+
+    all_serve : (xs : List Known) (names : Names) (spot : Spot) (numbers : Numbers) (later : List Step)
+        → AllSuit (all_of (map portion (stmts xs)) frame names spot numbers later)
+        → RunAlike (works.all_of (map wide (stmts xs)) other names spot numbers) (works.all_of (map narrow (stmts xs)) frame names spot numbers)
+    all_serve [] names spot numbers later h = record { at = λ s. refl }
+    all_serve (x ∷ xs) names spot numbers later h =
+        let behind = x.1.behind names spot numbers _ h in
+        let rest : RunAlike (works.all_of (map wide (stmts xs)) other names (after_calls spot (portion x.0).calls) numbers)
+        (works.all_of (map narrow (stmts xs)) frame names (after_calls spot (portion x.0).calls) numbers) =
+        all_serve xs names (after_calls spot (portion x.0).calls) numbers later behind in
+        then_alike _ _ _ _ (x.1.works names spot numbers _ h)
+        (subst (λ n. RunAlike (works.all_of (map wide (stmts xs)) other names (after_calls spot (wide x.0).calls) numbers)
+        (works.all_of (map narrow (stmts xs)) frame names (after_calls spot n) numbers)) (x.1.calls ∙ x.1.same)
+        (subst (λ n. RunAlike (works.all_of (map wide (stmts xs)) other names (after_calls spot n) numbers)
+        (works.all_of (map narrow (stmts xs)) frame names (after_calls spot (portion x.0).calls) numbers)) x.1.calls rest))
+
+    call_behind : (names : Names) (spot : Spot) (numbers : Numbers) (c : CallStmt) (o : Option Callee) → Leaves (served_steps frame names spot numbers c o)
+    call_behind names spot numbers c None later h = h
+    call_behind names spot numbers c (Some its) later h = (args_behind spot.outer names numbers spot.reduced its.params 0 c.args _ h).1
+
+    call_serves : (names : Names) (spot : Spot) (numbers : Numbers) (c : CallStmt) (o : Option Callee) (later : List Step)
+        → AllSuit (served_steps frame names spot numbers c o later)
+        → RunAlike (call_work forms callee elems other names spot numbers c o) (call_work forms by_number elems frame names spot numbers c o)
+    call_serves names spot numbers c None later h = record { at = λ s. refl }
+    call_serves names spot numbers c (Some its) later h =
+        let xs = arguments names numbers spot.reduced its.params 0 c.args in
+        let reached = args_behind spot.outer names numbers spot.reduced its.params 0 c.args (reached_steps frame its spot c xs later) h in
+        record {
+          at = λ s. ap (λ (o : Outcome). and_then o (λ inner. Ok (returned 0 xs inner s)))
+              ((reached.0 (called other its spot c xs).form refl refl).at (entered xs s));
+        }
+
+    map_behind : (p : Place) (kind : MapKind) (rs : List Range) (xs : List Known) (names : Names) (spot : Spot) (numbers : Numbers)
+        → Leaves (map_steps p kind rs (all_of (map portion (stmts xs))) frame names spot numbers)
+    map_behind p kind rs xs names spot numbers later h =
+        let ns = bounds rs numbers names.lists in
+        each_behind 0 (times_of ns)
+        (iteration_steps (outermost spot.outer p) (within spot p kind) rs (all_of (map portion (stmts xs))) (value_or [] ns) frame names numbers)
+        (λ t more g. all_behind xs names (within spot p kind t) (in_iteration rs (value_or [] ns) t numbers) more g) later (opens_behind spot.outer _ h)
+
+    map_serves : (p : Place) (kind : MapKind) (rs : List Range) (xs : List Known) (names : Names) (spot : Spot) (numbers : Numbers) (later : List Step)
+        → AllSuit (map_steps p kind rs (all_of (map portion (stmts xs))) frame names spot numbers later)
+        → RunAlike ((works.stmt_step forms callee elems (Stmt-F.Map p kind rs (map wide (stmts xs)))).work other names spot numbers)
+        ((works.stmt_step forms by_number elems (Stmt-F.Map p kind rs (map narrow (stmts xs)))).work frame names spot numbers)
+    map_serves p kind rs xs names spot numbers later h =
+        let ns = bounds rs numbers names.lists in
+        map_alike (manner_of elems names kind) p (times_of ns) _ _ (λ t lt.
+        let part = iteration_steps (outermost spot.outer p) (within spot p kind) rs (all_of (map portion (stmts xs))) (value_or [] ns) frame names numbers in
+        let found = each_at 0 (times_of ns) part (λ i more g. all_behind xs names (within spot p kind i) (in_iteration rs (value_or [] ns) i numbers) more g) later
+        (opens_behind spot.outer _ h) t lt in
+        let e : 0 + t ≡ t = omega arith in
+        all_serve xs names (within spot p kind t) (in_iteration rs (value_or [] ns) t numbers) found.0 (subst (λ k. AllSuit (part k found.0)) e found.1))
+
+    fits_step : (y : Stmt-F Known) → Fits (roll-Stmt (map-Stmt Known Stmt (λ q. q.0) y))
+    fits_step (Stmt-F.Call c) = subst Fits (sym (s.rolls-Call c)) (record {
+      calls = ap (λ (p : Portion). p.calls) (portion_call c) ∙ sym (ap (λ (w : Share). w.calls) (wide_call c));
+      same = ap (λ (w : Share). w.calls) (wide_call c) ∙ sym (ap (λ (w : Share). w.calls) (narrow_call c));
+      behind = λ names spot numbers. subst (λ (p : Portion). Leaves (p.steps frame names spot numbers)) (sym (portion_call c))
+          (call_behind names spot numbers c (callee_of frame c.task));
+      works = λ names spot numbers later h.
+          let left = ap (λ (w : Share). w.work other names spot numbers) (wide_call c) in
+          let right = ap (λ (w : Share). w.work frame names spot numbers) (narrow_call c) in
+          let its = subst (λ (p : Portion). AllSuit (p.steps frame names spot numbers later)) (portion_call c) h in
+          between left right (call_serves names spot numbers c (callee_of frame c.task) later its);
+    })
+    fits_step (Stmt-F.Map p kind rs xs) = subst Fits (sym (s.rolls-Map p kind rs (stmts xs))) (record {
+      calls = ap (λ (q : Portion). q.calls) (portion_map p kind rs (stmts xs)) ∙ ((all_calls xs).0 ∙ sym (ap (λ (w : Share). w.calls) (wide_map p kind rs (stmts xs))));
+      same = ap (λ (w : Share). w.calls) (wide_map p kind rs (stmts xs)) ∙ ((all_calls xs).1 ∙ sym (ap (λ (w : Share). w.calls) (narrow_map p kind rs (stmts xs))));
+      behind = λ names spot numbers. subst (λ (q : Portion). Leaves (q.steps frame names spot numbers)) (sym (portion_map p kind rs (stmts xs)))
+          (map_behind p kind rs xs names spot numbers);
+      works = λ names spot numbers later h.
+          let left = ap (λ (w : Share). w.work other names spot numbers) (wide_map p kind rs (stmts xs)) in
+          let right = ap (λ (w : Share). w.work frame names spot numbers) (narrow_map p kind rs (stmts xs)) in
+          let its = subst (λ (q : Portion). AllSuit (q.steps frame names spot numbers later)) (portion_map p kind rs (stmts xs)) h in
+          between left right (map_serves p kind rs xs names spot numbers later its);
+    })
+
+    fits : (x : Stmt) → Fits x
+    fits = ind-Stmt Fits (λ x y is. subst (λ z. Fits (roll-Stmt z)) is (fits_step y))
+
+    abbrev known : List Stmt → List Known
+    known [] = []
+    known (x ∷ xs) = (x, fits x) ∷ known xs
+
+    known_are : (xs : List Stmt) → stmts (known xs) ≡ xs
+    known_are [] = refl
+    known_are (x ∷ xs) = ap (λ ys. x ∷ ys) (known_are xs)
+
+    pub list_serves : (list : List Stmt) (names : Names) (numbers : Numbers) → AllSuit (stmts_steps list frame names start numbers [])
+        → RunAlike (stmts_work forms callee elems list other names start numbers) (stmts_work forms by_number elems list frame names start numbers)
+    list_serves list names numbers h =
+        subst (λ xs. RunAlike (works.all_of (map wide xs) other names start numbers) (works.all_of (map narrow xs) frame names start numbers)) (known_are list)
+        (all_serve (known list) names start numbers [] (subst (λ xs. AllSuit (all_of (map portion xs) frame names start numbers [])) (sym (known_are list)) h))
