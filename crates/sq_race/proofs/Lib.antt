@@ -11,3 +11,10 @@ pub mod Firsts
 pub mod Told
 pub mod Selected
 pub mod Settled
+pub mod Wholes
+pub mod Reducing
+pub mod Hits
+pub mod EachWork
+pub mod Modes
+pub mod FormFree
+pub mod FreeHold

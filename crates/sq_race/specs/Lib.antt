@@ -9,3 +9,4 @@ pub mod Least
 pub mod Table
 pub mod Race
 pub mod Selection
+pub mod Free

@@ -4,6 +4,7 @@
 mod block;
 mod cells;
 mod forms;
+pub mod laws;
 mod layers;
 mod map;
 mod marks;
