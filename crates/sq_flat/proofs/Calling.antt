@@ -1,5 +1,5 @@
 -- A call follows its meaning where its callee does.
-use Rattle.std.proofs.Common.{arith, ◌≡◌, ◌∙◌, sym, ap, subst, refl, ℕ, zero, suc, ◌-◌, List, map, length, slice_get, Some, Ok, Err}
+use Rattle.std.proofs.Common.{arith, ◌≡◌, ◌∙◌, sym, ap, subst, refl, ℕ, zero, suc, ◌-◌, List, map, length, slice_get, Option, Some, Ok, Err}
 use Rattle.sq_rect.specs.declared.view.View.{View}
 use Rattle.sq_leaf.specs.Source.{Arrays}
 use Rattle.sq_leaf.specs.Views.{Shows, shape_of}
@@ -10,9 +10,10 @@ use Rattle.sq_flat.specs.declared.form.FormCode.{FormCode}
 use Rattle.sq_flat.specs.declared.form.End.{End}
 use Rattle.sq_flat.specs.Memory.{total, ArePlaced, ArgFits, ArgsFit, FitFrom, start_bytes, end_bytes}
 use Rattle.sq_flat.specs.Ready.{IsLine, IsBody, IsForm, AreReady, RowFits}
-use Rattle.sq_flat.specs.declared.form.Body.TheVariants as body
+use Rattle.sq_spec.specs.declared.body.Body.TheVariants as body
 use Rattle.sq_spec.specs.declared.begun.Begun.{Begun}
-use Rattle.sq_flat.specs.Works.{body_work, code_work, form_work, Follows}
+use Rattle.sq_spec.specs.Bodies.{running, body_work}
+use Rattle.sq_flat.specs.Works.{body_in, form_work, Follows}
 use Rattle.sq_flat.proofs.Entered.{HaveSizes, have_sizes, start_length, line_placed, entered_shown}
 use Rattle.sq_flat.proofs.Returned.{end_shown}
 use Rattle.sq_flat.proofs.Fitting.{same_some}
@@ -49,11 +50,12 @@ returned_shows outer inner bytes memory args t s line placed inner_placed fit sh
     (subst (λ (us : List View). FitFrom us inner 0 args) same (fit_from outer inner args fit)) (subst (λ (us : List View). Shows us bytes s) same shows) inner_shows).shows)
 
 -- the form that is reached
-pub form_of : (forms : List FormCode) (calls k : ℕ) (f : FormCode) → (calls ≡ 0 → ⊥) → slice_get forms k ≡ Some f → form_work forms calls k ≡ body_work (form_work forms (calls - 1)) f.views f.body
+pub form_of : (forms : List FormCode) (calls k : ℕ) (f : FormCode) → (calls ≡ 0 → ⊥) → slice_get forms k ≡ Some f
+    → form_work forms calls k ≡ running (form_work forms (calls - 1)) (map shape_of f.views) f.body
 form_of forms zero k f some there = absurd (some refl)
 form_of forms (suc n) k f some there =
     let less : suc n - 1 ≡ n = omega arith in
-    ap (code_work (form_work forms n)) there ∙ ap (λ (m : ℕ). body_work (form_work forms m) f.views f.body) (sym less)
+    ap (λ (o : Option FormCode). body_work (form_work forms n) (body_in o)) there ∙ ap (λ (m : ℕ). running (form_work forms m) (map shape_of f.views) f.body) (sym less)
 
 pub row_form : (forms : List FormCode) (vs : List View) (r : Row) (f : FormCode) → RowFits forms vs r → slice_get forms r.form ≡ Some f → ArgsFit vs f.views r.args
 row_form forms vs r f fit there = subst (λ (g : FormCode). ArgsFit vs g.views r.args) (same_some fit.form f (sym fit.is ∙ there)) fit.args

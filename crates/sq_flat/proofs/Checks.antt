@@ -12,8 +12,8 @@ use Rattle.sq_spec.specs.declared.args.Argument.{Argument}
 use Rattle.sq_spec.specs.declared.begun.Reached.{Reached}
 use Rattle.sq_spec.specs.declared.begun.Begun.{Begun}
 use Rattle.sq_spec.specs.Calls.{lengths}
-use Rattle.sq_flat.specs.declared.form.Body.{Body}
-use Rattle.sq_flat.specs.declared.form.Body.TheVariants as body
+use Rattle.sq_spec.specs.declared.body.Body.{Body}
+use Rattle.sq_spec.specs.declared.body.Body.TheVariants as body
 use Rattle.sq_flat.specs.declared.form.FormCode.{FormCode}
 use Rattle.sq_flat.specs.Blocks.{Fits}
 use Rattle.sq_flat.specs.Memory.{size, lined, ArgFits}
@@ -149,6 +149,9 @@ row_fits forms vs r (Some f) is h =
       };
       few = ltb-true (length r.args) 4294967296 (first (nat_lt (length r.args) 4294967296) (are_blocks vs f.views 0 r.args) h);
     }
+
+pub row_ready : (forms : List FormCode) (vs : List View) (r : Reached) → reaches vs r (slice_get forms r.form) ≡ true → RowFits forms vs r
+row_ready forms vs r h = row_fits forms vs r (slice_get forms r.form) refl h
 
 all_rows_fit : (forms : List FormCode) (vs : List View) (rows : List Reached) → rows_fit forms vs rows ≡ true → RowsFit forms vs rows
 all_rows_fit forms vs [] h = tt

@@ -13,7 +13,8 @@ use Rattle.sq_text.specs.declared.place.Span.{Span}
 use Rattle.sq_rect.specs.declared.view.View.{View}
 use Rattle.sq_rect.specs.Extents.{product, row_major}
 use Rattle.sq_rect.specs.Placing.{IsIn, offset}
-use Rattle.sq_leaf.specs.Source.{Arrays, Shape}
+use Rattle.sq_leaf.specs.declared.shape.Shape.{Shape}
+use Rattle.sq_leaf.specs.Source.{Arrays}
 use Rattle.sq_leaf.specs.Views.{Shows}
 use Rattle.sq_spec.specs.declared.args.Argument.{Argument}
 use Rattle.sq_spec.specs.Calls.{lengths}

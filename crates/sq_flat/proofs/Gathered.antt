@@ -12,7 +12,8 @@ use Rattle.sq_kern.proofs.Blocks.{length-reduced}
 use Rattle.sq_rect.specs.declared.view.View.{View}
 use Rattle.sq_rect.specs.Extents.{product}
 use Rattle.sq_rect.specs.Placing.{IsIn}
-use Rattle.sq_leaf.specs.Source.{Arrays, Shape}
+use Rattle.sq_leaf.specs.declared.shape.Shape.{Shape}
+use Rattle.sq_leaf.specs.Source.{Arrays}
 use Rattle.sq_leaf.specs.Spots.{load}
 use Rattle.sq_leaf.specs.Views.{Shows, spot_of, shape_of}
 use Rattle.sq_spec.specs.declared.begun.Reduction.{Reduction}

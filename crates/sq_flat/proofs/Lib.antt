@@ -11,3 +11,5 @@ pub mod Calling
 pub mod Cells
 pub mod Gathered
 pub mod Checks
+pub mod Holding
+pub mod Coded

@@ -10,8 +10,8 @@ use Rattle.sq_leaf.specs.Views.{shape_of}
 use Rattle.sq_spec.specs.declared.args.Argument.{Argument}
 use Rattle.sq_spec.specs.declared.begun.Reached.{Reached}
 use Rattle.sq_spec.specs.Calls.{lengths}
-use Rattle.sq_flat.specs.declared.form.Body.{Body}
-use Rattle.sq_flat.specs.declared.form.Body.TheVariants as body
+use Rattle.sq_spec.specs.declared.body.Body.{Body}
+use Rattle.sq_spec.specs.declared.body.Body.TheVariants as body
 use Rattle.sq_flat.specs.declared.form.FormCode.{FormCode}
 use Rattle.sq_flat.specs.Memory.{size, total}
 use Rattle.sq_flat.specs.Ready.{rows_in}

@@ -6,7 +6,7 @@ use Rattle.sq_num.specs.Reductions.{identity}
 use Rattle.sq_kern.specs.Rows.{cells, reduced}
 use Rattle.sq_rect.specs.declared.view.View.{View}
 use Rattle.sq_rect.specs.Extents.{product, row_major}
-use Rattle.sq_leaf.specs.Source.{Shape}
+use Rattle.sq_leaf.specs.declared.shape.Shape.{Shape}
 use Rattle.sq_spec.specs.declared.args.Argument.{Argument}
 use Rattle.sq_spec.specs.Calls.{lengths, is_written}
 use Rattle.sq_spec.specs.Meaning.{is_read}

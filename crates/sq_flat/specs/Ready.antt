@@ -7,8 +7,8 @@ use Rattle.sq_spec.specs.declared.begun.Reached.{Reached}
 use Rattle.sq_spec.specs.declared.begun.Begun.{Begun}
 use Rattle.sq_spec.specs.declared.begun.Begun.TheOpen.{Begun-F}
 use Rattle.sq_spec.specs.declared.begun.Begun.TheFolds.{fold-Begun}
-use Rattle.sq_flat.specs.declared.form.Body.{Body}
-use Rattle.sq_flat.specs.declared.form.Body.TheVariants as body
+use Rattle.sq_spec.specs.declared.body.Body.{Body}
+use Rattle.sq_spec.specs.declared.body.Body.TheVariants as body
 use Rattle.sq_flat.specs.declared.form.FormCode.{FormCode}
 use Rattle.sq_flat.specs.Memory.{lined, total, AreSmall, ArgsFit}
 

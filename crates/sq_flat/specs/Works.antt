@@ -1,38 +1,53 @@
--- The work of forms by their tables, and what it is to follow its meaning.
-use Rattle.std.specs.Prelude.{◌≡◌, ℕ, zero, suc, List, map, slice_get, Option, Some, None, Result, Ok, Err, reverse}
+-- The work of forms by their codes, and what it is to follow its meaning.
+use Rattle.std.specs.Prelude.{◌≡◌, ℕ, List, map, length, slice_get, Option, Some, None, Result, Ok, Err, reverse}
+use Rattle.sq_ast.specs.declared.program.Variant.{Variant}
+use Rattle.sq_mapfile.specs.declared.mapping.Instance.{Instance}
 use Rattle.sq_rect.specs.declared.view.View.{View}
-use Rattle.sq_leaf.specs.Leaf.{leaf_value}
+use Rattle.sq_leaf.specs.Source.{Arrays}
 use Rattle.sq_leaf.specs.Views.{Shows, shape_of}
 use Rattle.sq_spec.specs.declared.begun.Begun.{Begun}
+use Rattle.sq_spec.specs.declared.begun.Manner.{Manner}
+use Rattle.sq_spec.specs.declared.begun.Manner.TheVariants as manner
+use Rattle.sq_spec.specs.declared.body.FormBody.{FormBody}
+use Rattle.sq_spec.specs.Steps.{Forms}
 use Rattle.sq_spec.specs.BegunWork.{all_work, begun_work}
-use Rattle.sq_spec.specs.Work.{Work, Nothing, Leaf}
+use Rattle.sq_spec.specs.Bodies.{no_body, body_of, numbered_work}
+use Rattle.sq_spec.specs.InTurn.{gathering}
+use Rattle.sq_spec.specs.Work.{Work}
 use Rattle.sq_spec.specs.Meaning.{Outcome}
-use Rattle.sq_flat.specs.declared.form.Body.{Body}
-use Rattle.sq_flat.specs.declared.form.Body.TheVariants as body
 use Rattle.sq_flat.specs.declared.form.FormCode.{FormCode}
 use Rattle.sq_flat.specs.declared.form.End.{End}
 use Rattle.sq_flat.specs.declared.form.End.TheVariants.{Trapped, NoMemory}
 
--- callee: the work of a form by its number
-module _ (callee : ℕ → Work) where
-  -- statements that are begun for the k-th time
-  abbrev pub list_work : List Begun → ℕ → Work
-  list_work list = all_work (map (begun_work callee) list)
+-- callee: the work of a form by its number; statements that are begun for the k-th time
+abbrev pub list_work : (ℕ → Work) → List Begun → ℕ → Work
+list_work callee list = all_work (map (begun_work callee) list)
 
-  abbrev pub body_work : List View → Body → Work
-  body_work vs (body.Leaf code) = Leaf (leaf_value code (map shape_of vs))
-  body_work vs (body.Inner list) = list_work list 0
-
-  abbrev pub code_work : Option FormCode → Work
-  code_work None = Nothing
-  code_work (Some f) = body_work f.views f.body
+-- an iteration of a map, whose body does this
+abbrev pub turn_of : Manner → (Arrays → Outcome) → Arrays → Outcome
+turn_of manner.InTurn f = f
+turn_of manner.AtOnce f = f
+turn_of (manner.Gathering r) f = gathering r f
 
 -- ---- forms
 
--- the work of a form round which no more than n forms are called within one another
+-- what a form does, over arrays of the shapes of its views
+abbrev pub body_in : Option FormCode → FormBody
+body_in None = no_body
+body_in (Some f) = record { arrays = map shape_of f.views; body = f.body }
+
+-- by its number; nothing behind the last one
+abbrev pub bodies_of : List FormCode → ℕ → FormBody
+bodies_of forms k = body_in (slice_get forms k)
+
+-- the work of a form, round which no more than n forms are called within one another
 abbrev pub form_work : List FormCode → ℕ → ℕ → Work
-form_work forms zero k = Nothing
-form_work forms (suc n) k = code_work (form_work forms n) (slice_get forms k)
+form_work forms = numbered_work (bodies_of forms)
+
+-- codes for each form that was found
+pub record AreCodes (variants : List Variant) (instances : List Instance) (found : Forms) (codes : List FormCode) : Type 0 where
+  pub many : length codes ≡ length found
+  pub bodies : bodies_of codes ≡ body_of variants instances found
 
 -- ---- following a meaning
 

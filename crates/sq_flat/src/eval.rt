@@ -1,6 +1,6 @@
 //! Evaluating forms.
 
-ghost use Rattle.std.specs.Prelude.{◌≡◌, ◌+◌, ◌<◌, ◌≤◌, ◌∷◌, [], ℕ, List, Bool, true, get_or, map, length, slice_get, Some, Err, IfSome, IfNone};
+ghost use Rattle.std.specs.Prelude.{◌≡◌, ◌+◌, ◌∷◌, [], ℕ, List, Bool, true, false, get_or, map, length, Err};
 ghost use Rattle.sq_rect.specs.declared.view.View.{View};
 ghost use Rattle.sq_leaf.specs.Source.{Arrays};
 ghost use Rattle.sq_leaf.specs.Leaf.{leaf_value};
@@ -9,19 +9,19 @@ ghost use Rattle.sq_spec.specs.Meaning.{Outcome, in_turn, leaf_outcome, numbered
 ghost use Rattle.sq_spec.specs.Work.{Call};
 ghost use Rattle.sq_leaf.specs.Views.{Shows, shape_of};
 ghost use Rattle.sq_spec.specs.InTurn.{gathering, serial};
-ghost use Rattle.sq_flat.specs.declared.form.FormCode.{FormCode as Form};
 ghost use Rattle.sq_flat.specs.Memory as memory;
 ghost use Rattle.sq_flat.specs.Ready as ready;
 ghost use Rattle.sq_spec.specs.BegunWork.{begun_work};
+ghost use Rattle.sq_spec.specs.Bodies.{running};
 ghost use Rattle.sq_flat.specs.Works as spec;
 
-use crate::form::{Body, End, FormCode, Trapped};
+use crate::form::{End, FormCode, Unwound};
 use crate::memory::{clear, combine, enter, leave, saved};
-use crate::ready::{are_lined, are_ready, total};
+use crate::ready::{are_ready, reaches};
 use sq_leaf::laws::arrays_in_line_can_be_run_over;
 use sq_leaf::{LeafCode, run_leaf};
 use sq_rect::Views;
-use sq_spec::{Begun, Manner, Reached, Reduction};
+use sq_spec::{Begun, Body, Manner, Reached, Reduction};
 use sqlite_items::at;
 use std::alloc::{AllocError, Global};
 
@@ -39,7 +39,7 @@ fn leaf(code: &LeafCode, views: &Views, bytes: &mut [u8], alloc: Global) -> Resu
     arrays_in_line_can_be_run_over();
     match run_leaf(code, bytes, views) {
         Ok(()) => Ok(()),
-        Err(trap) => Err(End::Trapped(Trapped {
+        Err(trap) => Err(End::Trapped(Unwound {
             trap,
             turns: Vec::new(alloc),
         })),
@@ -52,8 +52,8 @@ fn in_iteration(end: End, t: u32) -> End
 {
     match end {
         End::NoMemory => End::NoMemory,
-        End::Trapped(Trapped { trap, mut turns }) => match turns.push(t) {
-            Ok(()) => End::Trapped(Trapped { trap, turns }),
+        End::Trapped(Unwound { trap, mut turns }) => match turns.push(t) {
+            Ok(()) => End::Trapped(Unwound { trap, turns }),
             Err(_) => End::NoMemory,
         },
     }
@@ -129,29 +129,10 @@ fn statement(
         } => {
             let count = count_at(counts.as_slice(), k);
             let from = start_at(starts.as_slice(), k);
-            match manner {
-                Manner::InTurn | Manner::AtOnce => turns(
-                    body.as_slice(),
-                    count,
-                    from,
-                    setting,
-                    calls,
-                    left,
-                    views,
-                    bytes,
-                ),
-                Manner::Gathering(r) => gatherings(
-                    r,
-                    body.as_slice(),
-                    count,
-                    from,
-                    setting,
-                    calls,
-                    left,
-                    views,
-                    bytes,
-                ),
-            }
+            let body = body.as_slice();
+            turns(
+                manner, body, count, from, setting, calls, left, views, bytes,
+            )
         }
     }
 }
@@ -159,6 +140,7 @@ fn statement(
 // Iterations one after another; the body is begun for the first time that has the number `from`.
 #[cycle(run)]
 fn turns(
+    manner: &Manner,
     body: &[Begun],
     count: u32,
     from: usize,
@@ -172,7 +154,7 @@ fn turns(
     requires placed { memory.ArePlaced views.now bytes.old }
     requires forms { ready.AreForms setting.now.forms.now }
     requires rows { ready.AreReady setting.now.forms.now views.now body.now }
-    ensures { (s : Arrays) → Shows views.now bytes.old s → spec.Follows views.now bytes.new result (in_turn count (λ t. serial (spec.list_work (spec.form_work setting.now.forms.now calls) body.now (from + t))) s) }
+    ensures { (s : Arrays) → Shows views.now bytes.old s → spec.Follows views.now bytes.new result (in_turn count (λ t. spec.turn_of manner.now (serial (spec.list_work (spec.form_work setting.now.forms.now calls) body.now (from + t)))) s) }
 {
     if left == 0 {
         return Err(End::NoMemory);
@@ -181,7 +163,7 @@ fn turns(
         let Some(k) = from.checked_add(t as usize) else {
             return Err(End::NoMemory);
         };
-        match statements(body, k, setting, calls, left - 1, views, bytes) {
+        match turn(manner, body, k, setting, calls, left - 1, views, bytes) {
             Ok(()) => {}
             Err(end) => return Err(in_iteration(end, t)),
         }
@@ -189,13 +171,12 @@ fn turns(
     Ok(())
 }
 
-// The iterations of a reduction.
+// One of them, in which the body is begun for the k-th time.
 #[cycle(run)]
-fn gatherings(
-    r: &Reduction,
+fn turn(
+    manner: &Manner,
     body: &[Begun],
-    count: u32,
-    from: usize,
+    k: usize,
     setting: &Setting<'_>,
     calls: usize,
     left: u32,
@@ -206,24 +187,17 @@ fn gatherings(
     requires placed { memory.ArePlaced views.now bytes.old }
     requires forms { ready.AreForms setting.now.forms.now }
     requires rows { ready.AreReady setting.now.forms.now views.now body.now }
-    ensures { (s : Arrays) → Shows views.now bytes.old s → spec.Follows views.now bytes.new result (in_turn count (λ t. gathering r.now (serial (spec.list_work (spec.form_work setting.now.forms.now calls) body.now (from + t)))) s) }
+    ensures { (s : Arrays) → Shows views.now bytes.old s → spec.Follows views.now bytes.new result (spec.turn_of manner.now (serial (spec.list_work (spec.form_work setting.now.forms.now calls) body.now k)) s) }
 {
-    if left == 0 {
-        return Err(End::NoMemory);
-    }
-    for t in 0..count {
-        let Some(k) = from.checked_add(t as usize) else {
-            return Err(End::NoMemory);
-        };
-        match gather(r, body, k, setting, calls, left - 1, views, bytes) {
-            Ok(()) => {}
-            Err(end) => return Err(in_iteration(end, t)),
+    match manner {
+        Manner::InTurn | Manner::AtOnce => {
+            statements(body, k, setting, calls, left, views, bytes)
         }
+        Manner::Gathering(r) => gather(r, body, k, setting, calls, left, views, bytes),
     }
-    Ok(())
 }
 
-// One of them: the array that is reduced into holds the identity at its start.
+// One of a reduction: the array that is reduced into holds the identity at its start.
 #[cycle(run)]
 fn gather(
     r: &Reduction,
@@ -308,7 +282,7 @@ fn run(
     requires form { ready.IsForm setting.now.forms.now f.now }
     requires forms { ready.AreForms setting.now.forms.now }
     requires size { length bytes.old ≡ memory.total (map shape_of f.now.views) }
-    ensures { (s : Arrays) → Shows f.now.views bytes.old s → spec.Follows f.now.views bytes.new result (serial (spec.body_work (spec.form_work setting.now.forms.now calls) f.now.views f.now.body) s) }
+    ensures { (s : Arrays) → Shows f.now.views bytes.old s → spec.Follows f.now.views bytes.new result (serial (running (spec.form_work setting.now.forms.now calls) (map shape_of f.now.views) f.now.body) s) }
 {
     match &f.body {
         Body::Leaf(code) => leaf(code, &f.views, bytes, setting.alloc),
@@ -319,23 +293,23 @@ fn run(
 // How many maps and calls may stand within one another while forms run; a program that is resolved has fewer.
 const MOST_NESTED: u32 = 1024;
 
-/// Runs the first of these forms over the memory of its arrays, which stand in it as its views say: the arrays that they
-/// show change as the source means, or its trap is answered. None where the forms aren't ready (`are_ready`) or the
-/// memory has another size; then nothing is changed.
-pub fn run_entry(alloc: Global, forms: &[FormCode], bytes: &mut [u8]) -> Option<Result<(), End>>
-    ensures meant { (f : Form) (s : Arrays) → slice_get forms.now 0 ≡ Some f → Shows f.views bytes.old s → IfSome result (λ r. spec.Follows f.views bytes.new r (serial (spec.form_work forms.now (length forms.now) 0) s)) }
-    ensures none { IfNone result (bytes.new ≡ bytes.old) }
+/// Calls one of these forms over a memory, which changes as the source means, or the trap is answered. NoMemory also
+/// where the forms aren't ready (`are_ready`) or the form doesn't fit the call.
+#[tactic(auto, using(crate::proofs::Checks::row_ready))]
+pub fn run_call(
+    alloc: Global,
+    forms: &[FormCode],
+    r: &Reached,
+    views: &Views,
+    bytes: &mut [u8],
+) -> Result<(), End>
+    requires line { ready.IsLine views.now }
+    requires placed { memory.ArePlaced views.now bytes.old }
+    ensures { (s : Arrays) → Shows views.now bytes.old s → spec.Follows views.now bytes.new result (serial (Call r.now.form false r.now.args (spec.form_work forms.now (length forms.now) r.now.form)) s) }
 {
-    if !are_ready(forms) {
-        return None;
-    }
-    let Some(f) = at(forms, 0) else {
-        return None;
-    };
-    let views = f.views.as_slice();
-    if !are_lined(views) || bytes.len() != total(views) {
-        return None;
+    if !are_ready(forms) || !reaches(views.as_slice(), r, at(forms, r.form)) {
+        return Err(End::NoMemory);
     }
     let setting = Setting { alloc, forms };
-    Some(run(f, &setting, forms.len() - 1, MOST_NESTED, bytes))
+    call(r, &setting, forms.len(), MOST_NESTED, views, bytes)
 }

@@ -1,16 +1,8 @@
 //! Forms as they are evaluated.
 
-use sq_leaf::{LeafCode, Trap};
+use sq_leaf::Trap;
 use sq_rect::Views;
-use sq_spec::Begun;
-use sqlite_items::Items;
-
-/// What a form does.
-#[derive(Drop)]
-pub enum Body {
-    Leaf(LeafCode),
-    Inner(Items<Begun>),
-}
+use sq_spec::Body;
 
 /// A form: where its arrays stand in its memory, and what it does.
 #[derive(Drop)]
@@ -19,9 +11,9 @@ pub struct FormCode {
     pub body: Body,
 }
 
-/// A trap of leaf code, and the numbers of the iterations round it, the innermost first.
+/// A trap of leaf code, and the numbers of the iterations round it so far, the innermost first.
 #[derive(Drop)]
-pub struct Trapped {
+pub struct Unwound {
     pub trap: Trap,
     pub turns: Vec<u32>,
 }
@@ -29,6 +21,6 @@ pub struct Trapped {
 /// Why a run ended before its end.
 #[derive(Drop)]
 pub enum End {
-    Trapped(Trapped),
+    Trapped(Unwound),
     NoMemory,
 }

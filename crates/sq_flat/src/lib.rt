@@ -1,12 +1,16 @@
 //! The source on one flat memory: forms run over the memories of their arrays.
 #![tactic(auto)]
 
+mod arrays;
 mod block;
+mod codes;
+mod entry;
 mod eval;
+mod flat;
 mod form;
+pub mod laws;
 mod memory;
 mod ready;
 
-pub use eval::run_entry;
-pub use form::{Body, End, FormCode, Trapped};
-pub use ready::are_ready;
+pub use arrays::Arrays;
+pub use flat::{FlatEnd, Trapped, eval_flat};

@@ -22,7 +22,8 @@ use sq_spec::Argument;
 use sqlite_items::at;
 use std::alloc::{AllocError, Global};
 
-fn push_zeros(count: usize, into: &mut Vec<u8>) -> Result<(), AllocError>
+/// Puts so many zeros behind the bytes that are there.
+pub fn push_zeros(count: usize, into: &mut Vec<u8>) -> Result<(), AllocError>
     ensures { OnOk result (into.new.items ≡ into.old.items ++ spec.zeros count) }
 {
     let length = into.len();
@@ -40,8 +41,8 @@ fn size(view: &View, bytes: &[u8]) -> usize
     width(view.elem) * view.extents.elements() as usize
 }
 
-// The bytes of the array that the view shows.
-fn bytes_of<'a>(view: &View, bytes: &'a [u8]) -> &'a [u8]
+/// The bytes of the array that the view shows.
+pub fn bytes_of<'a>(view: &View, bytes: &'a [u8]) -> &'a [u8]
     requires { spec.IsPlaced view.now bytes.now }
     ensures { result.now ≡ spec.bytes_of view.now bytes.now }
 {

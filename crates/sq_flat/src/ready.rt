@@ -8,11 +8,11 @@ ghost use Rattle.sq_flat.specs.Memory.{total};
 ghost use Rattle.sq_flat.specs.Ready.{AreForms, rows_in, rows_of};
 ghost use Rattle.sq_flat.specs.Checked as spec;
 
-use crate::form::{Body, FormCode};
+use crate::form::FormCode;
 use sq_leaf::are_in_line;
 use sq_num::width;
 use sq_rect::View;
-use sq_spec::{Argument, Begun, Reached};
+use sq_spec::{Argument, Begun, Body, Reached};
 use sq_text::Span;
 use sqlite_items::at;
 
@@ -100,7 +100,8 @@ fn are_blocks(args: &[Argument], outer: &[View], inner: &[View]) -> bool
     true
 }
 
-fn reaches(views: &[View], r: &Reached, f: Option<&FormCode>) -> bool
+/// Whether there is such a form, with parameters that fit the arguments.
+pub fn reaches(views: &[View], r: &Reached, f: Option<&FormCode>) -> bool
     ensures { result ≡ spec.reaches views.now r.now (option_copied f.entry) }
 {
     let Some(f) = f else {

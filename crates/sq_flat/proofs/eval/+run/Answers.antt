@@ -1,13 +1,14 @@
-use Rattle.std.proofs.Common.{rules, ◌≡◌, ◌∙◌, sym, ap, subst, ℕ, ◌+◌, ◌-◌, List, ◌∷◌, drop, length, slice_get, Some, Ok, Err}
+use Rattle.std.proofs.Common.{rules, ◌≡◌, ◌∙◌, sym, ap, subst, ℕ, ◌+◌, ◌-◌, List, ◌∷◌, drop, map, length, slice_get, Some, Ok, Err}
 use Rattle.sq_rect.specs.declared.view.View.{View}
-use Rattle.sq_leaf.specs.Views.{Shows}
+use Rattle.sq_leaf.specs.Views.{Shows, shape_of}
 use Rattle.sq_spec.specs.Work.{Work, Call}
 use Rattle.sq_spec.specs.Meaning.{Outcome, and_then, cleared, entered, returned}
-use Rattle.sq_spec.specs.InTurn.{combined, gathering, serial}
+use Rattle.sq_spec.specs.InTurn.{combined, serial}
 use Rattle.sq_spec.specs.declared.begun.Begun.{Begun}
 use Rattle.sq_flat.specs.Memory.{AreSmall, ArePlaced, ArgsFit, start_bytes, end_bytes, bytes_of, combined_bytes}
 use Rattle.sq_flat.specs.Ready.{IsForm}
-use Rattle.sq_flat.specs.Works.{list_work, body_work, form_work, Follows}
+use Rattle.sq_spec.specs.Bodies.{running}
+use Rattle.sq_flat.specs.Works.{list_work, turn_of, form_work, Follows}
 use Rattle.sq_spec.specs.BegunWork.{row_work, begun_work}
 use Rattle.sq_flat.proofs.Fitting.{placed_still}
 use Rattle.sq_flat.proofs.Opened.{begun_call, next_item, ready_item, ready_rest, ready_call}
@@ -51,7 +52,7 @@ call-returns-in-Ok-run t c = λ lower s shows.
     let kept : length c.run.new.bytes ≡ length c.as_mut_slice-inside.result.now = search rules in
     let placed : ArePlaced c.in-Some.f.now.views c.run.new.bytes = calling.placed_in_line c.in-Some.f.now.views c.run.new.bytes form.line
     (kept ∙ (ap length made ∙ calling.memory_long c.args.views.now c.in-Some.f.now.views c.args.bytes.now c.args.r.now.args form.line c.requires.placed fit)) in
-    let work = body_work (form_work c.args.setting.now.forms.now (c.args.calls - 1)) c.in-Some.f.now.views c.in-Some.f.now.body in
+    let work = running (form_work c.args.setting.now.forms.now (c.args.calls - 1)) (map shape_of c.in-Some.f.now.views) c.in-Some.f.now.body in
     let is : form_work c.args.setting.now.forms.now c.args.calls c.args.r.now.form ≡ work = calling.form_of c.args.setting.now.forms.now c.args.calls c.args.r.now.form c.in-Some.f.now (search rules) there in
     let starts : Shows c.in-Some.f.now.views c.as_mut_slice-inside.result.now (entered c.args.r.now.args s) =
     subst (λ (b : List ℕ). Shows c.in-Some.f.now.views b (entered c.args.r.now.args s)) (sym made) (calling.memory_shows c.args.views.now c.in-Some.f.now.views c.args.bytes.now c.args.r.now.args s form.line c.requires.placed fit shows) in
@@ -67,7 +68,7 @@ call-returns t c = λ lower s shows.
     let form : IsForm c.args.setting.now.forms.now c.in-Some.f.now = c.requires.forms.each c.args.r.now.form c.in-Some.f.now there in
     let fit : ArgsFit c.args.views.now c.in-Some.f.now.views c.args.r.now.args = calling.row_form c.args.setting.now.forms.now c.args.views.now c.args.r.now c.in-Some.f.now c.requires.row there in
     let made : c.as_mut_slice-inside.result.now ≡ start_bytes c.args.views.now c.args.bytes.now c.args.r.now.args 0 c.in-Some.f.now.views = search rules in
-    let work = body_work (form_work c.args.setting.now.forms.now (c.args.calls - 1)) c.in-Some.f.now.views c.in-Some.f.now.body in
+    let work = running (form_work c.args.setting.now.forms.now (c.args.calls - 1)) (map shape_of c.in-Some.f.now.views) c.in-Some.f.now.body in
     let is : form_work c.args.setting.now.forms.now c.args.calls c.args.r.now.form ≡ work = calling.form_of c.args.setting.now.forms.now c.args.calls c.args.r.now.form c.in-Some.f.now (search rules) there in
     let starts : Shows c.in-Some.f.now.views c.as_mut_slice-inside.result.now (entered c.args.r.now.args s) =
     subst (λ (b : List ℕ). Shows c.in-Some.f.now.views b (entered c.args.r.now.args s)) (sym made) (calling.memory_shows c.args.views.now c.in-Some.f.now.views c.args.bytes.now c.args.r.now.args s form.line c.requires.placed fit shows) in
@@ -138,39 +139,22 @@ statements-loop-s-preserved t c =
           );
     }
 
-pub turns-statements-requires : goal.turns-statements-requires
-turns-statements-requires t c =
+pub turns-turn-requires : goal.turns-turn-requires
+turns-turn-requires t c =
     (search rules, (c.requires.line, (placed_still c.args.views.now c.args.bytes.now c.loop-t.bytes c.loop-t.invariant.size c.requires.placed, (c.requires.forms, c.requires.rows))))
 
 pub turns-returns-in-Err : goal.turns-returns-in-Err
 turns-returns-in-Err t c = λ s shows.
     let callee = form_work c.args.setting.now.forms.now c.args.calls in
-    let turn = λ (i : ℕ). serial (list_work callee c.args.body.now (c.args.from + i)) in
+    let turn = λ (i : ℕ). turn_of c.args.manner.now (serial (list_work callee c.args.body.now (c.args.from + i))) in
     let its = c.loop-t.invariant.goes s shows in
     let number : c.in-Some.k ≡ c.args.from + c.loop-t.t = search rules in
-    let ends : Follows c.args.views.now c.statements.new.bytes (Err c.in-Err.end) (serial (list_work callee c.args.body.now c.in-Some.k) its.0) =
-    subst (λ r. Follows c.args.views.now c.statements.new.bytes r (serial (list_work callee c.args.body.now c.in-Some.k) its.0)) c.in-Err.is (c.statements.ensures its.0 its.1) in
-    let here : Follows c.args.views.now c.statements.new.bytes (Err c.in-Err.end) (turn c.loop-t.t its.0) =
-    subst (λ (k : ℕ). Follows c.args.views.now c.statements.new.bytes (Err c.in-Err.end) (serial (list_work callee c.args.body.now k) its.0)) number ends in
-    trap_stays c.args.views.now c.statements.new.bytes c.in_iteration.result turn s its.0 c.loop-t.t c.args.count c.loop-t-test.true its.2
-    (c.in_iteration.ensures c.args.views.now c.statements.new.bytes (turn c.loop-t.t its.0) here)
-
-pub gatherings-gather-requires : goal.gatherings-gather-requires
-gatherings-gather-requires t c =
-    (search rules, (c.requires.line, (placed_still c.args.views.now c.args.bytes.now c.loop-t.bytes c.loop-t.invariant.size c.requires.placed, (c.requires.forms, c.requires.rows))))
-
-pub gatherings-returns-in-Err : goal.gatherings-returns-in-Err
-gatherings-returns-in-Err t c = λ s shows.
-    let callee = form_work c.args.setting.now.forms.now c.args.calls in
-    let turn = λ (i : ℕ). gathering c.args.r.now (serial (list_work callee c.args.body.now (c.args.from + i))) in
-    let its = c.loop-t.invariant.goes s shows in
-    let number : c.in-Some.k ≡ c.args.from + c.loop-t.t = search rules in
-    let ends : Follows c.args.views.now c.gather.new.bytes (Err c.in-Err.end) (gathering c.args.r.now (serial (list_work callee c.args.body.now c.in-Some.k)) its.0) =
-    subst (λ r. Follows c.args.views.now c.gather.new.bytes r (gathering c.args.r.now (serial (list_work callee c.args.body.now c.in-Some.k)) its.0)) c.in-Err.is (c.gather.ensures its.0 its.1) in
-    let here : Follows c.args.views.now c.gather.new.bytes (Err c.in-Err.end) (turn c.loop-t.t its.0) =
-    subst (λ (k : ℕ). Follows c.args.views.now c.gather.new.bytes (Err c.in-Err.end) (gathering c.args.r.now (serial (list_work callee c.args.body.now k)) its.0)) number ends in
-    trap_stays c.args.views.now c.gather.new.bytes c.in_iteration.result turn s its.0 c.loop-t.t c.args.count c.loop-t-test.true its.2
-    (c.in_iteration.ensures c.args.views.now c.gather.new.bytes (turn c.loop-t.t its.0) here)
+    let ends : Follows c.args.views.now c.turn.new.bytes (Err c.in-Err.end) (turn_of c.args.manner.now (serial (list_work callee c.args.body.now c.in-Some.k)) its.0) =
+    subst (λ r. Follows c.args.views.now c.turn.new.bytes r (turn_of c.args.manner.now (serial (list_work callee c.args.body.now c.in-Some.k)) its.0)) c.in-Err.is (c.turn.ensures its.0 its.1) in
+    let here : Follows c.args.views.now c.turn.new.bytes (Err c.in-Err.end) (turn c.loop-t.t its.0) =
+    subst (λ (k : ℕ). Follows c.args.views.now c.turn.new.bytes (Err c.in-Err.end) (turn_of c.args.manner.now (serial (list_work callee c.args.body.now k)) its.0)) number ends in
+    trap_stays c.args.views.now c.turn.new.bytes c.in_iteration.result turn s its.0 c.loop-t.t c.args.count c.loop-t-test.true its.2
+    (c.in_iteration.ensures c.args.views.now c.turn.new.bytes (turn c.loop-t.t its.0) here)
 
 pub gather-saved-requires : goal.gather-saved-requires
 gather-saved-requires t c =

@@ -1,7 +1,7 @@
 use Rattle.std.proofs.Common.{◌≡◌, ◌+◌, ◌*◌, length, drop, Ok}
 use Rattle.sq_leaf.specs.Source.{Arrays}
 use Rattle.sq_leaf.specs.Views.{Shows}
-use Rattle.sq_spec.specs.InTurn.{gathering, serial}
+use Rattle.sq_spec.specs.InTurn.{serial}
 use Rattle.sq_spec.specs.Meaning.{in_turn}
 use Rattle.sq_flat.specs.Ready as ready
 use Rattle.sq_flat.specs.Works as spec
@@ -34,18 +34,11 @@ abbrev pub invariant-turns-loop-t : goal.invariant-turns-loop-t
 invariant-turns-loop-t l = record {
   size : length l.bytes ≡ length l.fn.bytes;
   goes : (a : Arrays) → Shows l.views l.fn.bytes a → (b : Arrays) × Shows l.views l.bytes b
-      × (in_turn l.t (λ t. serial (spec.list_work (spec.form_work l.setting.forms.now l.calls) l.body (l.from + t))) a ≡ Ok b);
+      × (in_turn l.t (λ t. spec.turn_of l.manner (serial (spec.list_work (spec.form_work l.setting.forms.now l.calls) l.body (l.from + t)))) a ≡ Ok b);
 }
 
-abbrev pub decreases-gatherings : goal.decreases-gatherings
-decreases-gatherings l = 8 * l.left + 2
+abbrev pub decreases-turn : goal.decreases-turn
+decreases-turn l = 8 * l.left + 7
 
 abbrev pub decreases-gather : goal.decreases-gather
 decreases-gather l = 8 * l.left + 6
-
-abbrev pub invariant-gatherings-loop-t : goal.invariant-gatherings-loop-t
-invariant-gatherings-loop-t l = record {
-  size : length l.bytes ≡ length l.fn.bytes;
-  goes : (a : Arrays) → Shows l.views l.fn.bytes a → (b : Arrays) × Shows l.views l.bytes b
-      × (in_turn l.t (λ t. gathering l.r (serial (spec.list_work (spec.form_work l.setting.forms.now l.calls) l.body (l.from + t)))) a ≡ Ok b);
-}
