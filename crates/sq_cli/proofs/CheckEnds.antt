@@ -23,4 +23,4 @@ module _ (name : List ℕ) (told : Option Content) (tree : Tree) (reads : ReadsT
   types_stop bank stop its is has = types_stops (check_of name) name (begins_check name) told tree reads [] refl bank (Refused its) (λ c at. subst (λ (s : Stop). Answers {A = Tree} (TypeFault tree) (Err s)) is has)
 
   pub check_means : ((f : Fault) → TypeFault tree f → ⊥) → Means (check_of name) told (done (codes "ok\n") [])
-  check_means none = record { names = tt; cause = λ c is. (types_passed (check_of name) name (begins_check name) told tree reads [] refl none c (one (check_of name) name (begins_check name) told c is), refl) }
+  check_means none = record { names = tt; cause = λ c is. (types_passed (check_of name) name (begins_check name) told tree reads [] refl none c (one (check_of name) name (begins_check name) told c is), refl, λ trap no. no) }

@@ -16,5 +16,5 @@ fmt_means name told tree reads text same = record {
   names = tt;
   cause = λ c is.
       let held = reads c (one (fmt_of name) name (begins_fmt name) told c is) in
-      ((program_passed (fmt_of name) name (begins_fmt name) told tree c held, tt), record { tree = tree; program_is = program_is (fmt_of name) name (begins_fmt name) told tree c held; text = same });
+      ((program_passed (fmt_of name) name (begins_fmt name) told tree c held, tt), record { tree = tree; program_is = program_is (fmt_of name) name (begins_fmt name) told tree c held; text = same }, λ trap no. no);
 }

@@ -4,7 +4,7 @@ use Rattle.sq_port.specs.Ports.{Content}
 use Rattle.sq_text.specs.declared.code.Phase.{Phase}
 use Rattle.sq_text.specs.declared.code.Phase.TheVariants.{Program, Types, Machine, Mapping, Resolve, Race, Capacity, Order, Input}
 use Rattle.sq_cli.specs.declared.words.Kind.{Kind}
-use Rattle.sq_cli.specs.declared.words.Kind.TheVariants.{Check, Fmt, Run}
+use Rattle.sq_cli.specs.declared.words.Kind.TheVariants.{Check, Fmt, Eval, Run}
 use Rattle.sq_cli.specs.Words.{Role, program, mapping, machine, input, Command}
 use Rattle.sq_cli.specs.Phases.{phases, role_of, file_for, file_of, Inputs, text_of, inputs_of}
 use Rattle.sq_cli.specs.Small.{Refusal, not_yet, fault, IsSmallFault}
@@ -69,13 +69,13 @@ refusal_there : (phase : Phase) (inputs : Inputs) (refusal : Refusal) (role : Ro
 refusal_there phase inputs not_yet role is reads none = is
 refusal_there Program inputs (fault its) role is reads none = not_there inputs program role is.0 reads is.1 none
 refusal_there Types inputs (fault its) role is reads none = no_name role reads
-refusal_there Machine inputs (fault its) role is reads none = is
-refusal_there Mapping inputs (fault its) role is reads none = is
-refusal_there Resolve inputs (fault its) role is reads none = is
-refusal_there Race inputs (fault its) role is reads none = is
+refusal_there Machine inputs (fault its) role is reads none = not_there inputs machine role is.0 reads is.1 none
+refusal_there Mapping inputs (fault its) role is reads none = not_there inputs mapping role is.first.0 reads is.first.1 none
+refusal_there Resolve inputs (fault its) role is reads none = no_name role reads
+refusal_there Race inputs (fault its) role is reads none = no_name role reads
 refusal_there Capacity inputs (fault its) role is reads none = is
 refusal_there Order inputs (fault its) role is reads none = is
-refusal_there Input inputs (fault its) role is reads none = is
+refusal_there Input inputs (fault its) role is reads none = not_there inputs input role is.bytes reads is.there none
 
 small_there : (phase : Phase) (inputs : Inputs) (refusal : Refusal) (role : Role) → IsSmallFault phase inputs refusal → role_of phase ≡ Some role → inputs role ≡ None → ⊥
 small_there Program inputs not_yet role is reads none = not_there inputs program role is.0 reads is.1 none
@@ -97,6 +97,7 @@ small_there Order inputs refusal role is reads none = is
 fault_there : (kind : Kind) (phase : Phase) (inputs : Inputs) (refusal : Refusal) (role : Role) → IsFault kind phase inputs refusal → role_of phase ≡ Some role → inputs role ≡ None → ⊥
 fault_there Check phase inputs refusal role is reads none = refusal_there phase inputs refusal role is reads none
 fault_there Fmt phase inputs refusal role is reads none = refusal_there phase inputs refusal role is reads none
+fault_there Eval phase inputs refusal role is reads none = refusal_there phase inputs refusal role is reads none
 fault_there Run phase inputs refusal role is reads none = small_there phase inputs refusal role is reads none
 
 refused_or_absent : (command : Command) (c : Content) (p q : Phase) (refusal : Refusal) (name : List ℕ) → Reached command c p → IsFault command.kind p (inputs_of c command) refusal → file_of command q ≡ Some name → Reached command c q → c name ≡ None → ⊥
@@ -117,25 +118,31 @@ module _ (command : Command) (c : Content) where
 pub one_status : (command : Command) (c : Content) (answer answer' : Answer) → IsSaid answer → IsSaid answer' → IsCause command c answer → IsCause command c answer' → status_for answer ≡ status_for answer'
 one_status command c (done out trace) (done out' trace') a_said b_said a b = refl
 one_status command c (done out trace) (refused phase' refusal') a_said b_said a b = absurd (refused_or_all command c phase' refusal' b.0 b.1 a.0)
-one_status command c (done out trace) (trapped trap' trace') a_said b_said a b = absurd b.1
+one_status command c (done out trace) (trapped trap' trace') a_said b_said a b = absurd (a.2 trap' b.1)
 one_status command c (done out trace) usage a_said b_said a b = absurd b_said
 one_status command c (done out trace) (file_fault phase' name') a_said b_said a b = absurd b_said
 one_status command c (done out trace) no_memory a_said b_said a b = absurd b_said
 one_status command c (done out trace) (absent phase' name') a_said b_said a b = absurd (absent_or_all command c phase' name' b.0 b.1 b.2 a.0)
 one_status command c (refused phase refusal) (done out' trace') a_said b_said a b = absurd (refused_or_all command c phase refusal a.0 a.1 b.0)
 one_status command c (refused phase refusal) (refused phase' refusal') a_said b_said a b = refl
-one_status command c (refused phase refusal) (trapped trap' trace') a_said b_said a b = absurd b.1
+one_status command c (refused phase refusal) (trapped trap' trace') a_said b_said a b = absurd (refused_or_all command c phase refusal a.0 a.1 b.0)
 one_status command c (refused phase refusal) usage a_said b_said a b = absurd b_said
 one_status command c (refused phase refusal) (file_fault phase' name') a_said b_said a b = absurd b_said
 one_status command c (refused phase refusal) no_memory a_said b_said a b = absurd b_said
 one_status command c (refused phase refusal) (absent phase' name') a_said b_said a b = absurd (refused_or_absent command c phase phase' refusal name' a.0 a.1 b.0 b.1 b.2)
-one_status command c (trapped trap trace) answer a_said b_said a b = absurd a.1
+one_status command c (trapped trap trace) (done out' trace') a_said b_said a b = absurd (b.2 trap a.1)
+one_status command c (trapped trap trace) (refused phase' refusal') a_said b_said a b = absurd (refused_or_all command c phase' refusal' b.0 b.1 a.0)
+one_status command c (trapped trap trace) (trapped trap' trace') a_said b_said a b = refl
+one_status command c (trapped trap trace) usage a_said b_said a b = absurd b_said
+one_status command c (trapped trap trace) (file_fault phase' name') a_said b_said a b = absurd b_said
+one_status command c (trapped trap trace) no_memory a_said b_said a b = absurd b_said
+one_status command c (trapped trap trace) (absent phase' name') a_said b_said a b = absurd (absent_or_all command c phase' name' b.0 b.1 b.2 a.0)
 one_status command c usage answer a_said b_said a b = absurd a_said
 one_status command c (file_fault phase name) answer a_said b_said a b = absurd a_said
 one_status command c no_memory answer a_said b_said a b = absurd a_said
 one_status command c (absent phase name) (done out' trace') a_said b_said a b = absurd (absent_or_all command c phase name a.0 a.1 a.2 b.0)
 one_status command c (absent phase name) (refused phase' refusal') a_said b_said a b = absurd (refused_or_absent command c phase' phase refusal' name b.0 b.1 a.0 a.1 a.2)
-one_status command c (absent phase name) (trapped trap' trace') a_said b_said a b = absurd b.1
+one_status command c (absent phase name) (trapped trap' trace') a_said b_said a b = absurd (absent_or_all command c phase name a.0 a.1 a.2 b.0)
 one_status command c (absent phase name) usage a_said b_said a b = absurd b_said
 one_status command c (absent phase name) (file_fault phase' name') a_said b_said a b = absurd b_said
 one_status command c (absent phase name) no_memory a_said b_said a b = absurd b_said

@@ -157,7 +157,7 @@ module _ (program mapping machine input : List ℕ) (told : Option Content) (pla
       }
 
       pub run_means : Means (run_of program mapping machine input) told (done (root_text planned.plan.value last) [])
-      run_means = record { names = tt; cause = λ c is. let at = one program mapping machine input told c is in (all_passed c at, gives c at) }
+      run_means = record { names = tt; cause = λ c is. let at = one program mapping machine input told c is in (all_passed c at, gives c at, λ trap no. no) }
 
       pub run_printed : IsPrinted (run_of program mapping machine input) told (root_text planned.plan.value last) [] old last
       run_printed = record { run = is_run; prints = refl }

@@ -75,5 +75,5 @@ module _ (told : Option Content) (name text : List ℕ) (there : (c : Content) �
   tree_refused stop f is has = λ c at. (text, there c at, subst (λ (t : List ℕ). ProgramFault t f) same (subst (λ (s : Stop). IfRefused {A = Tree} (Err s) (λ g. ProgramFault slice g)) is has))
 
 -- a file that is too long
-pub tree_too_long : (told : Option Content) (name : List ℕ) (f : Fault) → f ≡ too_long_fault → ((c : Content) → told ≡ Some c → (text : List ℕ) × (c name ≡ Some text) × (1048576 < length text)) → ReadsTree told name (Err (end.Refused f))
+pub tree_too_long : (told : Option Content) (name : List ℕ) (f : Fault) → f ≡ too_long_fault Program → ((c : Content) → told ≡ Some c → (text : List ℕ) × (c name ≡ Some text) × (1048576 < length text)) → ReadsTree told name (Err (end.Refused f))
 tree_too_long told name f is longer = λ c at. let found = longer c at in (found.0, found.1, subst (λ (g : Fault). ProgramFault found.0 g) (sym is) (inl (lexing.too_long (too_long Program found.0 refl found.2))))

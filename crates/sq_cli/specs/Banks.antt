@@ -6,7 +6,7 @@ use Rattle.sq_tree.specs.declared.plan.SmallEvent.{SmallEvent}
 use Rattle.sq_tree.specs.Bank.{BankSeen, one_more}
 use Rattle.sq_tree.specs.Run.{events_of, HasPerformed}
 use Rattle.sq_cli.specs.declared.words.Kind.{Kind}
-use Rattle.sq_cli.specs.declared.words.Kind.TheVariants.{Check, Fmt, Run}
+use Rattle.sq_cli.specs.declared.words.Kind.TheVariants.{Check, Fmt, Eval, Run}
 use Rattle.sq_cli.specs.Words.{input, Command}
 use Rattle.sq_cli.specs.Phases.{opens, is_open_at, inputs_of, IsTold}
 use Rattle.sq_cli.specs.Placing.{IsLaidOut}
@@ -52,6 +52,7 @@ pub record IsRun (command : Command) (told : Option Content) (trace : List ℕ) 
 abbrev pub Prints : Kind → Plan → BankSeen → List ℕ → Type 0
 Prints Check plan now out = ⊥
 Prints Fmt plan now out = ⊥
+Prints Eval plan now out = ⊥
 Prints Run plan now out = out ≡ root_text plan now
 
 -- the whole run, of which the text for `out` is printed

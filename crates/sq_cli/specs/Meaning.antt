@@ -6,12 +6,13 @@ use Rattle.sq_tree.specs.declared.plan.Plan.{Plan}
 use Rattle.sq_ast.specs.declared.program.Program.{Program as Tree}
 use Rattle.sq_ast.specs.Canonical.{canonical}
 use Rattle.sq_cli.specs.declared.words.Kind.{Kind}
-use Rattle.sq_cli.specs.declared.words.Kind.TheVariants.{Check, Fmt, Run}
+use Rattle.sq_cli.specs.declared.words.Kind.TheVariants.{Check, Fmt, Eval, Run}
 use Rattle.sq_cli.specs.Words.{program, Command}
 use Rattle.sq_cli.specs.Phases.{phases, file_of, Inputs, inputs_of, IsTold}
 use Rattle.sq_cli.specs.Holding.{Holds}
 use Rattle.sq_cli.specs.Programs.{IsProgramText}
 use Rattle.sq_cli.specs.Small.{Refusal, GivesOutputs, IsSmallPlan}
+use Rattle.sq_cli.specs.Entry.{GivesFlat, TrapsFlat}
 use Rattle.sq_cli.specs.Faults.{IsFault}
 use Rattle.sq_cli.specs.declared.trap.Trap.{Trap}
 
@@ -41,16 +42,25 @@ pub record GivesCanonical (inputs : Inputs) (out : List ℕ) : Type 0 where
 abbrev pub Gives : Kind → Inputs → List ℕ → Type 0
 Gives Check inputs out = out ≡ codes "ok\n"
 Gives Fmt inputs out = GivesCanonical inputs out
+Gives Eval inputs out = GivesFlat inputs out
 Gives Run inputs out = GivesOutputs inputs out
 
--- the first trap of a command that is accepted: nothing traps so far
+-- the first trap of a command that is accepted; the small forms of `run` never trap
 abbrev pub Traps : Kind → Inputs → Trap → Type 0
-Traps kind inputs trap = ⊥
+Traps Check inputs trap = ⊥
+Traps Fmt inputs trap = ⊥
+Traps Eval inputs trap = TrapsFlat inputs trap
+Traps Run inputs trap = ⊥
+
+-- nothing traps
+abbrev pub IsTrapless : Kind → Inputs → Type 0
+IsTrapless kind inputs = (trap : Trap) → Traps kind inputs trap → ⊥
 
 -- the plan of a command that opens the bank
 abbrev pub IsPlanOf : Kind → Inputs → Plan → Type 0
 IsPlanOf Check inputs plan = ⊥
 IsPlanOf Fmt inputs plan = ⊥
+IsPlanOf Eval inputs plan = ⊥
 IsPlanOf Run inputs plan = IsSmallPlan inputs plan
 
 -- an answer, with what it writes beside the line that names it
@@ -65,7 +75,7 @@ pub data Answer : Type 0 where
 
 -- the cause of an answer, where the files hold this
 abbrev pub IsCause : Command → Content → Answer → Type 0
-IsCause command c (done out trace) = AllPassed command c (phases command.kind) × Gives command.kind (inputs_of c command) out
+IsCause command c (done out trace) = AllPassed command c (phases command.kind) × Gives command.kind (inputs_of c command) out × IsTrapless command.kind (inputs_of c command)
 IsCause command c (refused phase refusal) = Reached command c phase × IsFault command.kind phase (inputs_of c command) refusal
 IsCause command c (trapped trap trace) = AllPassed command c (phases command.kind) × Traps command.kind (inputs_of c command) trap
 IsCause command c usage = ⊥

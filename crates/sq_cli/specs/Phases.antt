@@ -4,13 +4,14 @@ use Rattle.sq_port.specs.Ports.{Content}
 use Rattle.sq_text.specs.declared.code.Phase.{Phase}
 use Rattle.sq_text.specs.declared.code.Phase.TheVariants.{Program, Types, Machine, Mapping, Resolve, Race, Capacity, Order, Input}
 use Rattle.sq_cli.specs.declared.words.Kind.{Kind}
-use Rattle.sq_cli.specs.declared.words.Kind.TheVariants.{Check, Fmt, Run}
+use Rattle.sq_cli.specs.declared.words.Kind.TheVariants.{Check, Fmt, Eval, Run}
 use Rattle.sq_cli.specs.Words.{Role, program, mapping, machine, input, Files, no_files, named, Command}
 
 -- the phases of a command, in order
 abbrev pub phases : Kind → List Phase
 phases Check = Program ∷ Types ∷ []
 phases Fmt = Program ∷ []
+phases Eval = Program ∷ Types ∷ Machine ∷ Mapping ∷ Resolve ∷ Race ∷ Input ∷ []
 phases Run = Program ∷ Machine ∷ Mapping ∷ Capacity ∷ Input ∷ []
 
 -- what the file is for that is read when a phase begins
@@ -29,6 +30,7 @@ role_of Order = None
 abbrev pub opens : Kind → Bool
 opens Check = false
 opens Fmt = false
+opens Eval = false
 opens Run = true
 
 -- whether a phase comes behind the opening, where there is one

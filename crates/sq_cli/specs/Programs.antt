@@ -1,5 +1,6 @@
 -- The program that a text is, and the first fault of a text that is none.
 use Rattle.std.specs.Prelude.{◌⊎◌, ℕ, List, [], Some, None}
+use Rattle.sq_text.specs.declared.code.Phase.{Phase}
 use Rattle.sq_text.specs.declared.code.Phase.TheVariants as phase
 use Rattle.sq_text.specs.declared.code.Code.TheVariants as code
 use Rattle.sq_text.specs.declared.fault.Fault.{Fault}
@@ -34,5 +35,5 @@ abbrev pub IsFirstTypeFault : Program → Fault → Type 0
 IsFirstTypeFault program its = IsFirst (TypeFault program) (Some its)
 
 -- the fault of a text that is too long
-abbrev pub too_long_fault : Fault
-too_long_fault = record { phase = phase.Program; code = code.LimitFile; place = None; args = [] }
+abbrev pub too_long_fault : Phase → Fault
+too_long_fault p = lexing.fault p code.LimitFile None

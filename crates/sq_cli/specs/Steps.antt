@@ -20,7 +20,7 @@ use Rattle.sq_cli.specs.declared.plan.Planned.{Planned}
 use Rattle.sq_cli.specs.Words.{Command}
 use Rattle.sq_cli.specs.Phases.{inputs_of}
 use Rattle.sq_cli.specs.Holding.{Holds, HoldsOnly, HoldsNone}
-use Rattle.sq_cli.specs.Programs.{IsProgramText, ProgramFault, IsFirstTypeFault}
+use Rattle.sq_cli.specs.Programs.{IsProgramText, ProgramFault, IsFirstTypeFault, too_long_fault}
 use Rattle.sq_cli.specs.Placing.{IsLaidOut, need, capacity_fault}
 use Rattle.sq_cli.specs.Data.{int_array, data_fault}
 use Rattle.sq_cli.specs.Small.{Refusal, not_yet, fault, Holding, IsData}
@@ -61,19 +61,35 @@ abbrev pub ReadsAs : {A : Type 0} → (List ℕ → A → Type 0) → Phase → 
 ReadsAs Is phase told name (Ok value) = (c : Content) → told ≡ Some c → HoldsOnly Is (c name) value
 ReadsAs Is phase told name (Err end) = Stops false phase told (Some name) (λ c refusal. IsNotYet (HoldsNone Is (c name)) refusal) end
 
--- the text is this program's, no other's, and has no fault
-pub record HoldsTree (given : Option (List ℕ)) (tree : Tree) : Type 0 where
-  pub one : HoldsOnly IsProgramText given tree
-  pub no_fault : (its : Fault) → Holds ProgramFault given its → ⊥
+abbrev pub IsRefusedWith : (Fault → Type 0) → Refusal → Type 0
+IsRefusedWith Fails not_yet = ⊥
+IsRefusedWith Fails (fault its) = Fails its
+
+-- a text no longer than the phase allows, and else how the phase ends
+abbrev pub ReadsFitting : Phase → Option Content → List ℕ → Result (List ℕ) End → Type 0
+ReadsFitting phase told name (Ok text) = FitsFile phase text × ((c : Content) → told ≡ Some c → c name ≡ Some text)
+ReadsFitting phase told name (Err end) = Stops false phase told (Some name) (λ c refusal. IsRefusedWith (λ its. (text : List ℕ) × (c name ≡ Some text) × IsTooLong phase text × (its ≡ too_long_fault phase)) refusal) end
+
+-- the text is this value's, no other's, and has no fault
+pub record HoldsRight {A : Type 0} (Is : List ℕ → A → Type 0) (Fails : List ℕ → Fault → Type 0) (given : Option (List ℕ)) (value : A) : Type 0 where
+  pub one : HoldsOnly Is given value
+  pub no_fault : (its : Fault) → Holds Fails given its → ⊥
+
+-- the value that a phase's file holds, and else how the phase ends
+abbrev pub ReadsRight : {A : Type 0} → (List ℕ → A → Type 0) → (List ℕ → Fault → Type 0) → Phase → Option Content → List ℕ → Result A End → Type 0
+ReadsRight Is Fails phase told name (Ok value) = (c : Content) → told ≡ Some c → HoldsRight Is Fails (c name) value
+ReadsRight Is Fails phase told name (Err end) = Stops false phase told (Some name) (λ c refusal. IsRefusedWith (Holds Fails (c name)) refusal) end
+
+-- ---- program
+
+abbrev pub HoldsTree : Option (List ℕ) → Tree → Type 0
+HoldsTree = HoldsRight IsProgramText ProgramFault
 
 abbrev pub IsProgramRefusal : Option (List ℕ) → Refusal → Type 0
-IsProgramRefusal given not_yet = ⊥
-IsProgramRefusal given (fault its) = Holds ProgramFault given its
+IsProgramRefusal given = IsRefusedWith (Holds ProgramFault given)
 
--- the program that a file holds, and else how the phase ends
 abbrev pub ReadsTree : Option Content → List ℕ → Result Tree End → Type 0
-ReadsTree told name (Ok tree) = (c : Content) → told ≡ Some c → HoldsTree (c name) tree
-ReadsTree told name (Err end) = Stops false Program told (Some name) (λ c refusal. IsProgramRefusal (c name) refusal) end
+ReadsTree = ReadsRight IsProgramText ProgramFault Program
 
 -- a program whose names, kinds or parameters have this fault before all others
 abbrev pub IsTypesRefusal : Tree → Refusal → Type 0

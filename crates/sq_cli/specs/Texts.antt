@@ -9,8 +9,8 @@ use Rattle.sq_text.specs.declared.fault.Arg.{Arg}
 use Rattle.sq_text.specs.declared.fault.Arg.TheVariants.{Word, Number, Block}
 use Rattle.sq_text.specs.declared.fault.Fault.{Fault}
 use Rattle.sq_cli.specs.declared.trap.Trap.{Trap}
-use Rattle.sq_cli.specs.declared.trap.TrapKind.{TrapKind}
-use Rattle.sq_cli.specs.declared.trap.TrapKind.TheVariants.{DivZero, Index}
+use Rattle.sq_leaf.specs.declared.trap.TrapKind.{TrapKind}
+use Rattle.sq_leaf.specs.declared.trap.TrapKind.TheVariants.{DivZero, Index}
 
 -- the commands and options
 unfoldable pub usage_line : List ℕ

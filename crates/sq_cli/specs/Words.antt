@@ -4,9 +4,9 @@ use Rattle.std.specs.Str.{bytes_eq}
 use Rattle.std.specs.Option.{option_map}
 use Rattle.std.specs.declared.alloc.Global.{Global}
 use Rattle.sq_cli.specs.declared.words.Kind.{Kind}
-use Rattle.sq_cli.specs.declared.words.Kind.TheVariants.{Check, Fmt, Run}
+use Rattle.sq_cli.specs.declared.words.Kind.TheVariants.{Check, Fmt, Eval, Run}
 use Rattle.sq_cli.specs.declared.words.Command.{Command as Read}
-use Rattle.sq_cli.specs.declared.words.Command.TheVariants.{Check as ReadCheck, Fmt as ReadFmt, Run as ReadRun}
+use Rattle.sq_cli.specs.declared.words.Command.TheVariants.{Check as ReadCheck, Fmt as ReadFmt, Eval as ReadEval, Run as ReadRun}
 
 -- what a file of the words is for
 pub data Role : Type 0 where
@@ -44,12 +44,13 @@ pub record Command : Type 0 where
 
 -- the first word of a command
 abbrev pub kind_of : List ℕ → Option Kind
-kind_of word = if bytes_eq word (codes "check") then Some Check else (if bytes_eq word (codes "fmt") then Some Fmt else (if bytes_eq word (codes "run") then Some Run else None))
+kind_of word = if bytes_eq word (codes "check") then Some Check else (if bytes_eq word (codes "fmt") then Some Fmt else (if bytes_eq word (codes "eval") then Some Eval else (if bytes_eq word (codes "run") then Some Run else None)))
 
 -- its further words: what the files that they name are for
 abbrev pub roles : Kind → List Role
 roles Check = program ∷ []
 roles Fmt = program ∷ []
+roles Eval = program ∷ mapping ∷ machine ∷ input ∷ []
 roles Run = program ∷ mapping ∷ machine ∷ input ∷ []
 
 -- a name for each of the roles, and none too many
@@ -76,11 +77,19 @@ check_of name = record { kind = Check; files = with_file program name no_files }
 abbrev pub fmt_of : List ℕ → Command
 fmt_of name = record { kind = Fmt; files = with_file program name no_files }
 
+-- the names of four files
+abbrev pub all_files : List ℕ → List ℕ → List ℕ → List ℕ → Files
+all_files name its_mapping its_machine its_input = with_file input its_input (with_file machine its_machine (with_file mapping its_mapping (with_file program name no_files)))
+
+abbrev pub eval_of : List ℕ → List ℕ → List ℕ → List ℕ → Command
+eval_of name its_mapping its_machine its_input = record { kind = Eval; files = all_files name its_mapping its_machine its_input }
+
 abbrev pub run_of : List ℕ → List ℕ → List ℕ → List ℕ → Command
-run_of name its_mapping its_machine its_input = record { kind = Run; files = with_file input its_input (with_file machine its_machine (with_file mapping its_mapping (with_file program name no_files))) }
+run_of name its_mapping its_machine its_input = record { kind = Run; files = all_files name its_mapping its_machine its_input }
 
 -- the command that was read
 abbrev pub meant : Read → Command
 meant (ReadCheck words) = check_of words.program.now
 meant (ReadFmt words) = fmt_of words.program.now
+meant (ReadEval words) = eval_of words.program.now words.mapping.now words.machine.now words.input.now
 meant (ReadRun words) = run_of words.program.now words.mapping.now words.machine.now words.input.now

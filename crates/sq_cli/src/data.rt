@@ -53,7 +53,8 @@ pub fn fill_input<'a, F: Files, B: Bank>(
     }
 }
 
-fn code_of(code: InputCode) -> Code
+/// The code of a fault of the data.
+pub fn code_of(code: InputCode) -> Code
     ensures { result ≡ code_for code }
 {
     match code {

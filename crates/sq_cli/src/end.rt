@@ -20,7 +20,7 @@ pub enum End<'a> {
     /// The phase's text isn't of the small form.
     NotYet(Phase),
     Refused(Fault),
-    /// The source traps. Nothing does so far.
+    /// The source traps.
     Trapped(Trap),
     NoMemory,
     SinkFault,

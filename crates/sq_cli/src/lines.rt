@@ -5,7 +5,7 @@ ghost use Rattle.sq_port.specs.Ports.{Wrote};
 ghost use Rattle.sq_port.specs.Lines.{Gathers};
 ghost use Rattle.sq_cli.specs.Texts.{place_text, span_text, arg_text, args_text, path_text, numbers_text, next_text, fault_line, not_yet_line, trap_line, line};
 
-use crate::trap::Trap;
+use crate::trap::{Trap, kind_word};
 use sq_port::{Failed, Line, Sink};
 use sq_text::{Arg, Fault, Phase, Place, Span};
 
@@ -44,7 +44,7 @@ pub fn put_trap<S: Sink>(sink: &mut S, trap: &Trap) -> Result<(), Failed>
 {
     let mut line = Line::new();
     line.add(sink, b"trapped ");
-    line.add(sink, trap.kind.name());
+    line.add(sink, kind_word(trap.kind));
     add_place(sink, &mut line, &Some(trap.place));
     line.add(sink, b" path ");
     add_path(sink, &mut line, trap.path.as_slice());

@@ -5,11 +5,15 @@ mod adapters;
 mod check;
 mod data;
 mod end;
+mod entry;
+mod eval;
 mod fmt;
 mod lines;
 mod phases;
 mod plan;
+mod race;
 mod run;
+mod sources;
 mod status;
 #[cfg(test)]
 mod tests;

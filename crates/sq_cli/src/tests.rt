@@ -54,6 +54,40 @@ fn files(rt: &HostRuntime) -> Result<MemFiles, Fail> {
         "minus.map",
         b"mapping 1; entry top(N = 3); instance top = t::leaf @ host { }",
     )?;
+    files.add(
+        "tens.sq",
+        b"void task tens::inner(in int A[N], out int B[N]) {\n  blkset Ab = rchop(A, 1);\n  blkset Bb = rchop(B, 1);\n  mappar (int i = 0 to N) {\n    tens(Ab[i], Bb[i]);\n  }\n}\nvoid task tens::leaf(in int A[N], out int B[N]) {\n  for (int i = 0; i < N; i++) B[i] = 10 / A[i];\n}\n",
+    )?;
+    files.add(
+        "race.sq",
+        b"void task twice::inner(in int A[N], out int B[N]) {\n  tunable int U;\n  blkset Ab = rchop(A, U);\n  blkset Bb = rchop(B, U);\n  mappar (int i = 0 to 2) {\n    twice(Ab[i], Bb[0]);\n  }\n}\nvoid task twice::leaf(in int A[N], out int B[N]) {\n  for (int i = 0; i < N; i++) B[i] = A[i] + A[i];\n}\n",
+    )?;
+    files.add(
+        "8.map",
+        b"mapping 1; entry top(N = 8); instance top = twice::inner @ host { tunable U = 4; call twice -> low; } instance low = twice::leaf @ core { }",
+    )?;
+    files.add(
+        "chop.map",
+        b"mapping 1; entry top(N = 8); instance top = twice::inner @ host { tunable U = 0; call twice -> low; } instance low = twice::leaf @ core { }",
+    )?;
+    files.add(
+        "cycle.map",
+        b"mapping 1;\nentry a(N = 8);\ninstance a = twice::inner @ host { tunable U = 4; call twice -> b; }\ninstance b = twice::inner @ host { tunable U = 2; call twice -> a; }\n",
+    )?;
+    files.add(
+        "tens.map",
+        b"mapping 1; entry top(N = 4); instance top = tens::inner @ host { call tens -> low; } instance low = tens::leaf @ core { }",
+    )?;
+    files.add(
+        "two.mach",
+        b"machine 1; level host { capacity 64; } children 2; level core { capacity 32; }",
+    )?;
+    files.add(
+        "fan.mach",
+        b"machine 1; level host { capacity 64; } children 0; level core { capacity 32; }",
+    )?;
+    files.add("8.txt", b"array A int [8]\n1 2 3 4 5 6 7 8\n")?;
+    files.add("tens.txt", b"array A int [4]\n1 0 2 0\n")?;
     files.add("32.mach", b"machine 1; level host { capacity 32; }")?;
     files.add("31.mach", b"machine 1; level host { capacity 31; }")?;
     files.add("16.mach", b"machine 1; level host { capacity 16; }")?;
@@ -149,6 +183,73 @@ const CASES: &[Case<'static>] = &[
         err: b"absent none.txt\n",
     },
     Case {
+        words: &["eval", "two.sq", "8.map", "two.mach", "8.txt"],
+        status: Status::Done,
+        out: b"array B int [8]\n2 4 6 8 10 12 14 16\n",
+        err: b"",
+    },
+    Case {
+        words: &["eval", "tens.sq", "tens.map", "two.mach", "tens.txt"],
+        status: Status::Trapped,
+        out: b"",
+        err: b"trapped DivZero 9:41 path 1\n",
+    },
+    Case {
+        words: &["eval", "ends.sq", "8.map", "two.mach", "8.txt"],
+        status: Status::Refused,
+        out: b"",
+        err: b"refused program Syntax 2:18\n",
+    },
+    Case {
+        words: &["eval", "writes.sq", "8.map", "two.mach", "8.txt"],
+        status: Status::Refused,
+        out: b"",
+        err: b"refused types WriteIn 2:3 A\n",
+    },
+    // The machine comes before the mapping.
+    Case {
+        words: &["eval", "two.sq", "cycle.map", "fan.mach", "8.txt"],
+        status: Status::Refused,
+        out: b"",
+        err: b"refused machine LimitFan 1:49 0\n",
+    },
+    Case {
+        words: &["eval", "two.sq", "cycle.map", "two.mach", "8.txt"],
+        status: Status::Refused,
+        out: b"",
+        err: b"refused mapping Cycle 3:65 b\n",
+    },
+    Case {
+        words: &["eval", "two.sq", "chop.map", "two.mach", "8.txt"],
+        status: Status::Refused,
+        out: b"",
+        err: b"refused resolve BadChop 3:10 Ab\n",
+    },
+    Case {
+        words: &["eval", "race.sq", "8.map", "two.mach", "8.txt"],
+        status: Status::Refused,
+        out: b"",
+        err: b"refused race Race 5:3 B 0 [0..4] 1 [0..4]\n",
+    },
+    Case {
+        words: &["eval", "P1.sq", "3.map", "32.mach", "short.txt"],
+        status: Status::Refused,
+        out: b"",
+        err: b"refused data Short 3:1 A\n",
+    },
+    Case {
+        words: &["eval", "two.sq", "8.map", "none.mach", "8.txt"],
+        status: Status::Absent,
+        out: b"",
+        err: b"absent none.mach\n",
+    },
+    Case {
+        words: &["eval", "two.sq", "8.map", "two.mach"],
+        status: Status::Usage,
+        out: b"",
+        err: USAGE,
+    },
+    Case {
         words: &["fmt", "P1.sq"],
         status: Status::Done,
         out: CANONICAL,
@@ -232,6 +333,12 @@ fn cases(rt: HostRuntime) -> Result<(), Fail> {
 const FAILING: &[Case<'static>] = &[
     Case {
         words: &["run", "P1.sq", "3.map", "32.mach", "3.txt"],
+        status: Status::SinkFault,
+        out: b"array",
+        err: b"",
+    },
+    Case {
+        words: &["eval", "P1.sq", "3.map", "32.mach", "3.txt"],
         status: Status::SinkFault,
         out: b"array",
         err: b"",

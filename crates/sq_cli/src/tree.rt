@@ -31,7 +31,7 @@ pub fn read_tree<'a, F: Files>(
         Ok(text) => text,
         Err(ReadEnd::Failed) => return Err(End::FileFault(name)),
         Err(ReadEnd::Absent) => return Err(End::Absent(name)),
-        Err(ReadEnd::TooLong) => return Err(End::Refused(too_long(alloc))),
+        Err(ReadEnd::TooLong) => return Err(End::Refused(too_long(alloc, Phase::Program))),
         Err(ReadEnd::NoMemory) => return Err(End::NoMemory),
     };
     match tree_of(alloc, text.as_slice()) {
@@ -41,12 +41,12 @@ pub fn read_tree<'a, F: Files>(
     }
 }
 
-// The fault of a text that is too long.
-fn too_long(alloc: Global) -> Fault
-    ensures { result ≡ too_long_fault }
+/// The fault of a text that is too long for the phase.
+pub fn too_long(alloc: Global, phase: Phase) -> Fault
+    ensures { result ≡ too_long_fault phase }
 {
     Fault {
-        phase: Phase::Program,
+        phase,
         code: Code::LimitFile,
         place: None,
         args: Args::new(alloc),

@@ -7,6 +7,7 @@ ghost use Rattle.sq_cli.specs.Words.{command_of, kind_of, meant, named_command, 
 pub enum Kind {
     Check,
     Fmt,
+    Eval,
     Run,
 }
 
@@ -22,6 +23,15 @@ pub struct Fmt<'a> {
     pub program: &'a str,
 }
 
+/// `eval PROG MAP MACH DATA`
+#[derive(Clone, Copy)]
+pub struct Eval<'a> {
+    pub program: &'a str,
+    pub mapping: &'a str,
+    pub machine: &'a str,
+    pub input: &'a str,
+}
+
 /// `run PROG MAP MACH DATA`
 #[derive(Clone, Copy)]
 pub struct Run<'a> {
@@ -35,6 +45,7 @@ pub struct Run<'a> {
 pub enum Command<'a> {
     Check(Check<'a>),
     Fmt(Fmt<'a>),
+    Eval(Eval<'a>),
     Run(Run<'a>),
 }
 
@@ -59,6 +70,8 @@ fn kind_for(word: &str) -> Option<Kind>
         Some(Kind::Check)
     } else if word == "fmt" {
         Some(Kind::Fmt)
+    } else if word == "eval" {
+        Some(Kind::Eval)
     } else if word == "run" {
         Some(Kind::Run)
     } else {
@@ -76,6 +89,12 @@ fn with_names(kind: Kind, names: &[String]) -> Option<Command<'_>>
         })),
         (Kind::Fmt, [program]) => Some(Command::Fmt(Fmt {
             program: program.as_str(),
+        })),
+        (Kind::Eval, [program, mapping, machine, input]) => Some(Command::Eval(Eval {
+            program: program.as_str(),
+            mapping: mapping.as_str(),
+            machine: machine.as_str(),
+            input: input.as_str(),
         })),
         (Kind::Run, [program, mapping, machine, input]) => Some(Command::Run(Run {
             program: program.as_str(),

@@ -1,0 +1,193 @@
+-- The phases from program to race, of a command whose files are a program, a mapping, a machine and perhaps data.
+use Rattle.std.proofs.Common.{◌≡◌, ℕ, List, [], ◌∷◌, false, Option, Some, None, Result, Ok, Err, refl, sym, ◌∙◌, ap, subst, slice_get}
+use Rattle.sq_port.specs.Ports.{Content}
+use Rattle.sq_text.specs.declared.code.Phase.{Phase}
+use Rattle.sq_text.specs.declared.code.Phase.TheVariants.{Program, Types, Machine, Mapping, Resolve, Race}
+use Rattle.sq_text.specs.declared.fault.Fault.{Fault}
+use Rattle.sq_ast.specs.declared.program.Program.{Program as Tree}
+use Rattle.sq_machfile.specs.Machines.{Hierarchy}
+use Rattle.sq_mapfile.specs.declared.mapping.Mapping.{Mapping as Mapped}
+use Rattle.sq_spec.specs.Forms.{IsFirstMet}
+use Rattle.sq_spec.specs.Resolving.{Resolving, resolved}
+use Rattle.sq_spec.specs.declared.form.Form.{Form}
+use Rattle.sq_spec.specs.declared.form.Use.{Use}
+use Rattle.sq_spec.specs.declared.resolved.Resolved.{Resolved}
+use Rattle.sq_race.specs.declared.forms.Found.{Found}
+use Rattle.sq_race.specs.Race.{variant_by, maps_by, HoldsIn, HoldsAt, IsFirstRace}
+use Rattle.sq_tree.specs.Bank.{BankSeen}
+use Rattle.sq_cli.specs.declared.words.Kind.{Kind}
+use Rattle.sq_cli.specs.declared.end.End.{End}
+use Rattle.sq_cli.specs.declared.end.End.TheVariants.{Refused}
+use Rattle.sq_cli.specs.Words.{Command}
+use Rattle.sq_cli.specs.Phases.{phases, Inputs, inputs_of, IsTold}
+use Rattle.sq_cli.specs.Holding.{Holds, HoldsOnly}
+use Rattle.sq_cli.specs.Programs.{IsProgramText}
+use Rattle.sq_cli.specs.Sources.{IsMachineText, IsFirstMachineFault, IsMappingText, IsFirstMappingFault, Sources}
+use Rattle.sq_cli.specs.Races.{IsResolved, IsFirstRaceFault}
+use Rattle.sq_cli.specs.Small.{Refusal, not_yet, fault}
+use Rattle.sq_cli.specs.Faults.{IsRefusal, IsFault}
+use Rattle.sq_cli.specs.Meaning.{Passed, AllPassed, Reached}
+use Rattle.sq_cli.specs.Steps.{IsRefusedWith, HoldsRight, Stopped}
+use Rattle.sq_cli.specs.Evaluating.{ReadsMachine, ReadsMapping, HoldsProgram, HoldsMachine, HoldsSources}
+use Rattle.sq_cli.proofs.Stopping.{told_of, phase_stops, is_there, no_file_there}
+use Rattle.sq_cli.proofs.ProgramPhases.{BeginsWith, types_passed}
+
+-- a command with these phases, whose faults are those of its phases
+pub record ReadsSources (kind : Kind) : Type 0 where
+  pub rest : List Phase
+  pub split : phases kind ≡ Program ∷ Types ∷ Machine ∷ Mapping ∷ Resolve ∷ Race ∷ rest
+  pub to : (phase : Phase) (inputs : Inputs) (refusal : Refusal) → IsRefusal phase inputs refusal → IsFault kind phase inputs refusal
+  pub from : (phase : Phase) (inputs : Inputs) (refusal : Refusal) → IsFault kind phase inputs refusal → IsRefusal phase inputs refusal
+
+abbrev pub command_with : Kind → List ℕ → List ℕ → List ℕ → Option (List ℕ) → Command
+command_with kind p m k i = record { kind = kind; files = record { program = Some p; mapping = Some m; machine = Some k; input = i } }
+
+ok_same : {A B : Type 0} (x y : A) → ◌≡◌ {A = Result A B} (Ok x) (Ok y) → x ≡ y
+ok_same x y is = cc
+
+ok_or_err : {A B : Type 0} (x : A) (f : B) → Ok x ≡ Err f → ⊥
+ok_or_err x f is = cc
+
+-- no other program, machine and mapping are held
+pub record AreOnly {inputs : Inputs} (tree : Tree) (hierarchy : Hierarchy) (mapped : Mapped) (that : Sources inputs) : Type 0 where
+  pub tree_is : that.tree ≡ tree
+  pub machine_is : that.hierarchy ≡ hierarchy
+  pub mapping_is : that.mapped ≡ mapped
+
+-- a race of equal forms
+same_race : (r s : Resolved) (n : ℕ) (round : List ℕ) (x : Found) → r.forms ≡ s.forms → r.uses ≡ s.uses → r.typed.now ≡ s.typed.now → r.mapping.now ≡ s.mapping.now → HoldsAt r n round x → HoldsAt s n round x
+same_race r s n round x forms uses trees mappings race = record {
+  of = race.of;
+  uses = race.uses;
+  form_is = subst (λ (l : List Form). slice_get l n ≡ Some race.of) forms race.form_is;
+  uses_are = subst (λ (l : List (List Use)). slice_get l n ≡ Some race.uses) uses race.uses_are;
+  holds = subst (λ (t : Tree). HoldsIn (maps_by (variant_by t.tasks (slice_get s.mapping.now.instances race.of.instance))) race.uses round x) trees (
+      subst (λ (m : Mapped). HoldsIn (maps_by (variant_by r.typed.now.tasks (slice_get m.instances race.of.instance))) race.uses round x) mappings race.holds);
+}
+
+module _ (kind : Kind) (its : ReadsSources kind) (p m k : List ℕ) (i : Option (List ℕ)) (told : Option Content) where
+  abbrev pub begins : BeginsWith (command_with kind p m k i) p
+  begins = record { rest = Types ∷ Machine ∷ Mapping ∷ Resolve ∷ Race ∷ its.rest; split = its.split; file = refl; to = its.to; from = its.from }
+
+  pub one : (c : Content) → IsTold (command_with kind p m k i) told c → told ≡ Some c
+  one c is = told_of (command_with kind p m k i) p told c refl is
+
+  -- a phase that refuses with this fault, if at all
+  fails : (phase : Phase) (inputs : Inputs) (Fact : Fault → Type 0) → ((f : Fault) → Fact f → IsRefusal phase inputs (fault f)) → (refusal : Refusal) → IsRefusedWith Fact refusal → IsFault kind phase inputs refusal
+  fails phase inputs Fact to not_yet is = absurd is
+  fails phase inputs Fact to (fault f) is = its.to phase inputs (fault f) (to f is)
+
+  never : (phase : Phase) (inputs : Inputs) → ((f : Fault) → IsRefusal phase inputs (fault f) → ⊥) → (refusal : Refusal) → IsRefusal phase inputs refusal → ⊥
+  never phase inputs none not_yet is = is
+  never phase inputs none (fault f) is = none f is
+
+  passes : (phase : Phase) (inputs : Inputs) → ((f : Fault) → IsRefusal phase inputs (fault f) → ⊥) → (refusal : Refusal) → IsFault kind phase inputs refusal → ⊥
+  passes phase inputs none refusal is = never phase inputs none refusal (its.from phase inputs refusal is)
+
+  module _ (tree : Tree) (program : HoldsProgram told p tree) where
+    two : (c : Content) → told ≡ Some c → AllPassed (command_with kind p m k i) c (Program ∷ Types ∷ [])
+    two c is = types_passed (command_with kind p m k i) p begins told tree program.held (Machine ∷ Mapping ∷ Resolve ∷ Race ∷ its.rest) refl program.faultless c is
+
+    pub machine_stops : (bank : BankSeen) (end : End) → ReadsMachine told k (Err end) → Stopped (command_with kind p m k i) told bank bank end
+    machine_stops bank end stops = phase_stops (command_with kind p m k i) told Machine (λ c refusal. IsRefusedWith (Holds IsFirstMachineFault (c k)) refusal) bank bank one
+        (λ c is. record { before = Program ∷ Types ∷ []; after = Mapping ∷ Resolve ∷ Race ∷ its.rest; split = its.split; passed = two c (one c is) })
+        (λ c is. fails Machine (inputs_of c (command_with kind p m k i)) (Holds IsFirstMachineFault (c k)) (λ f holds. holds)) refl (λ closed. refl) end stops
+
+  module _ (tree : Tree) (hierarchy : Hierarchy) (machine : HoldsMachine told p k tree hierarchy) where
+    machine_passed : (c : Content) → told ≡ Some c → Passed (command_with kind p m k i) c Machine
+    machine_passed c is = record {
+      there = is_there c k (machine.held c is).one.holds.0 (machine.held c is).one.holds.1;
+      no_fault = passes Machine (inputs_of c (command_with kind p m k i)) (machine.held c is).no_fault;
+    }
+
+    three : (c : Content) → told ≡ Some c → AllPassed (command_with kind p m k i) c (Program ∷ Types ∷ Machine ∷ [])
+    three c is = let before = two tree machine.program c is in (before.0, (before.1.0, (machine_passed c is, tt)))
+
+    pub mapping_stops : (bank : BankSeen) (end : End) → ReadsMapping tree hierarchy.levels told m (Err end) → Stopped (command_with kind p m k i) told bank bank end
+    mapping_stops bank end stops = phase_stops (command_with kind p m k i) told Mapping (λ c refusal. IsRefusedWith (Holds (IsFirstMappingFault tree hierarchy.levels) (c m)) refusal) bank bank one
+        (λ c is. record { before = Program ∷ Types ∷ Machine ∷ []; after = Resolve ∷ Race ∷ its.rest; split = its.split; passed = three c (one c is) })
+        (λ c is. fails Mapping (inputs_of c (command_with kind p m k i)) (Holds (IsFirstMappingFault tree hierarchy.levels) (c m)) (λ f holds.
+        record { tree = tree; hierarchy = hierarchy; program_is = (machine.program.held c is).one.holds; machine_is = (machine.held c is).one.holds; first = holds })) refl (λ closed. refl) end stops
+
+  module _ (tree : Tree) (hierarchy : Hierarchy) (mapped : Mapped) (held : HoldsSources told p m k tree hierarchy mapped) where
+    abbrev pub sources : (c : Content) → told ≡ Some c → Sources (inputs_of c (command_with kind p m k i))
+    sources c is = record {
+      tree = tree;
+      hierarchy = hierarchy;
+      mapped = mapped;
+      program_is = (held.machine.program.held c is).one.holds;
+      machine_is = (held.machine.held c is).one.holds;
+      mapping_is = (held.held c is).one.holds;
+    }
+
+    -- what is said of a mapping for an equal program and machine
+    at_same : {A : Type 0} (P : Tree → Hierarchy → List ℕ → A → Type 0) (c : Content) (is : told ≡ Some c) (t : Tree) (h : Hierarchy) (value : A) → Holds IsProgramText (c p) t → Holds IsMachineText (c k) h
+        → Holds (P t h) (c m) value → Holds (P tree hierarchy) (c m) value
+    at_same P c is t h value program_is machine_is holds = (
+      holds.0,
+      holds.1,
+      subst (λ (x : Tree). P x hierarchy holds.0 value) ((held.machine.program.held c is).one.only t program_is) (subst (λ (y : Hierarchy). P t y holds.0 value) ((held.machine.held c is).one.only h machine_is) holds.2),
+    )
+
+    pub only : (c : Content) → told ≡ Some c → (that : Sources (inputs_of c (command_with kind p m k i))) → AreOnly tree hierarchy mapped that
+    only c is that = record {
+      tree_is = (held.machine.program.held c is).one.only that.tree that.program_is;
+      machine_is = (held.machine.held c is).one.only that.hierarchy that.machine_is;
+      mapping_is = (held.held c is).one.only that.mapped (at_same (λ t h. IsMappingText t h.levels) c is that.tree that.hierarchy that.mapped that.program_is that.machine_is that.mapping_is);
+    }
+
+    mapping_passed : (c : Content) → told ≡ Some c → Passed (command_with kind p m k i) c Mapping
+    mapping_passed c is = record {
+      there = is_there c m (held.held c is).one.holds.0 (held.held c is).one.holds.1;
+      no_fault = passes Mapping (inputs_of c (command_with kind p m k i)) (λ f first.
+          (held.held c is).no_fault f (at_same (λ t h. IsFirstMappingFault t h.levels) c is first.tree first.hierarchy f first.program_is first.machine_is first.first));
+    }
+
+    four : (c : Content) → told ≡ Some c → AllPassed (command_with kind p m k i) c (Program ∷ Types ∷ Machine ∷ Mapping ∷ [])
+    four c is = let before = three tree hierarchy held.machine c is in (before.0, (before.1.0, (before.1.1.0, (mapping_passed c is, tt))))
+
+    pub resolve_stops : (bank : BankSeen) (f : Fault) → IsFirstMet tree mapped f → Stopped (command_with kind p m k i) told bank bank (Refused f)
+    resolve_stops bank f first = phase_stops (command_with kind p m k i) told Resolve (λ c refusal. IsRefusedWith (IsFirstMet tree mapped) refusal) bank bank one
+        (λ c is. record { before = Program ∷ Types ∷ Machine ∷ Mapping ∷ []; after = Race ∷ its.rest; split = its.split; passed = four c (one c is) })
+        (λ c is. fails Resolve (inputs_of c (command_with kind p m k i)) (IsFirstMet tree mapped) (λ g met. record { sources = sources c is; first = met })) refl (λ closed. refl) (Refused f) (λ c is. first)
+
+    -- the walk's answer for an equal program and mapping
+    walk_same : (c : Content) (is : told ≡ Some c) (that : Sources (inputs_of c (command_with kind p m k i))) → resolved that.tree.tasks that.mapped ≡ resolved tree.tasks mapped
+    walk_same c is that =
+        ap (λ (t : Tree). resolved t.tasks that.mapped) (only c is that).tree_is ∙ ap (λ (x : Mapped). resolved tree.tasks x) (only c is that).mapping_is
+
+    module _ (r : Resolved) (are : IsResolved tree hierarchy mapped r) where
+      resolve_passed : (c : Content) → told ≡ Some c → Passed (command_with kind p m k i) c Resolve
+      resolve_passed c is = record {
+        there = no_file_there c;
+        no_fault = passes Resolve (inputs_of c (command_with kind p m k i)) (λ f met. ok_or_err are.forms.left f (sym are.forms.through ∙ (sym (walk_same c is met.sources) ∙ met.first)));
+      }
+
+      five : (c : Content) → told ≡ Some c → AllPassed (command_with kind p m k i) c (Program ∷ Types ∷ Machine ∷ Mapping ∷ Resolve ∷ [])
+      five c is = let before = four c is in (before.0, (before.1.0, (before.1.1.0, (before.1.1.1.0, (resolve_passed c is, tt)))))
+
+      pub race_stops : (bank : BankSeen) (f : Fault) → IsFirstRaceFault r f → Stopped (command_with kind p m k i) told bank bank (Refused f)
+      race_stops bank f first = phase_stops (command_with kind p m k i) told Race (λ c refusal. IsRefusedWith (IsFirstRaceFault r) refusal) bank bank one
+          (λ c is. record { before = Program ∷ Types ∷ Machine ∷ Mapping ∷ Resolve ∷ []; after = its.rest; split = its.split; passed = five c (one c is) })
+          (λ c is. fails Race (inputs_of c (command_with kind p m k i)) (IsFirstRaceFault r) (λ g its_first. record { sources = sources c is; forms = r; are = are; first = its_first })) refl (λ closed. refl) (Refused f) (λ c is. first)
+
+      module _ (none : IsFirstRace r None) where
+        -- forms that are found again are these, so they have no race either
+        no_race : (c : Content) → told ≡ Some c → (that : Sources (inputs_of c (command_with kind p m k i))) (s : Resolved) → IsResolved that.tree that.hierarchy that.mapped s → (n : ℕ) (round : List ℕ) (x : Found) → HoldsAt s n round x → ⊥
+        no_race c is that s found n round x race =
+            let left : found.forms.left ≡ are.forms.left = ok_same found.forms.left are.forms.left (sym found.forms.through ∙ (walk_same c is that ∙ are.forms.through)) in
+            let equal = only c is that in
+            none n round x (same_race s r n round x
+            (sym found.forms.are ∙ (ap (λ (l : Resolving). l.forms) left ∙ are.forms.are))
+            (sym found.forms.used ∙ (ap (λ (l : Resolving). l.uses) left ∙ are.forms.used))
+            (found.tree_is ∙ (equal.tree_is ∙ sym are.tree_is))
+            (found.mapping_is ∙ (equal.mapping_is ∙ sym are.mapping_is)) race)
+
+        race_passed : (c : Content) → told ≡ Some c → Passed (command_with kind p m k i) c Race
+        race_passed c is = record {
+          there = no_file_there c;
+          no_fault = passes Race (inputs_of c (command_with kind p m k i)) (λ f first. no_race c is first.sources first.forms first.are first.first.first.form first.first.first.round first.first.first.found first.first.first.holds);
+        }
+
+        pub six : (c : Content) → told ≡ Some c → AllPassed (command_with kind p m k i) c (Program ∷ Types ∷ Machine ∷ Mapping ∷ Resolve ∷ Race ∷ [])
+        six c is = let before = five c is in (before.0, (before.1.0, (before.1.1.0, (before.1.1.1.0, (before.1.1.1.1.0, (race_passed c is, tt))))))
