@@ -1,13 +1,11 @@
 //! Forms and their accesses, and the faults of the walk, over texts.
 
 use sq_ast::Mode;
-use sq_leaf::Shape;
 use sq_machfile::{Machine, read_machine};
 use sq_mapfile::read_mapping;
-use sq_num::Elem;
 use sq_source::read_program;
-use sq_spec::{Begun, Body, Caller, Form, Use, resolve};
-use sq_text::{Arg, Code, Fault, Name, Phase, Place, Span, Stop};
+use sq_spec::{Caller, Form, Use, resolve};
+use sq_text::{Arg, Code, Fault, Phase, Place, Span, Stop};
 use std::alloc::{AllocError, Global};
 use std::process::Abort;
 use std::test::Fail;
@@ -297,65 +295,6 @@ fn forms_and_accesses_of_a_map(rt: HostRuntime) {
     assert!(rt; is_use(e, 0, 2, Span { lo: 8, hi: 10 }, 2));
     assert!(rt; is_use(f, 1, 2, Span { lo: 8, hi: 10 }, 2));
     assert_eq!(rt; resolved.uses(2).len(), 0);
-}
-
-const LOCALS: &[u8] = b"task t::inner(in int A[N], out int B[N]) {
-  local byte T[2][N];
-  blkset Ab = rchop(A, 4);
-  blkset Bb = rchop(B, 4);
-  mappar (int i = 0 to N / 4) { t(Ab[i], Bb[i]); }
-}
-task t::leaf(in int A[N], out int B[N]) {
-  tunable int K;
-  local long S[N];
-  B[0] = A[0] * K;
-}
-";
-
-const LOCALS_MAP: &[u8] =
-    b"mapping 1; entry top(N = 8); instance top = t::inner @ host { call t -> low; } instance low = t::leaf @ core { tunable K = 7; }";
-
-fn has_shapes(shapes: &[Shape], local: Elem, extents: &[u32], own: &[u32]) -> bool {
-    let [a, b, c] = shapes else {
-        return false;
-    };
-    a.elem == Elem::Int
-        && a.extents.as_slice() == extents
-        && b.elem == Elem::Int
-        && b.extents.as_slice() == extents
-        && c.elem == local
-        && c.extents.as_slice() == own
-}
-
-// Of a form its parameters and then its locals; a leaf has its sizes and tunables, and its form the extents of its call.
-#[test]
-fn bodies_have_their_arrays_and_numbers(rt: HostRuntime) -> Result<(), Fail> {
-    let machine = machine(&rt, rt.alloc());
-    let typed = read_program(rt.alloc(), LOCALS).expect(&rt, "a program");
-    let mapping = read_mapping(rt.alloc(), LOCALS_MAP, &typed, &machine).expect(&rt, "a mapping");
-    let resolved = resolve(rt.alloc(), &typed, &mapping, &machine).expect(&rt, "forms");
-    assert_eq!(rt; resolved.entry_params().len(), 2);
-    let entry = resolved.body(rt.alloc(), 0)?;
-    assert!(rt; has_shapes(entry.arrays.as_slice(), Elem::Byte, &[8], &[2, 8]));
-    let Body::Inner(list) = &entry.body else {
-        panic!(rt; "statements");
-    };
-    let [Begun::Map { counts, .. }] = list.as_slice() else {
-        panic!(rt; "a map");
-    };
-    assert!(rt; counts.as_slice() == [2].as_slice());
-    let low = resolved.body(rt.alloc(), 1)?;
-    assert!(rt; has_shapes(low.arrays.as_slice(), Elem::Long, &[4], &[4]));
-    let Body::Leaf(code) = &low.body else {
-        panic!(rt; "leaf code");
-    };
-    let size = Name::new(rt.alloc(), b"N")?;
-    let tunable = Name::new(rt.alloc(), b"K")?;
-    assert_eq!(rt; code.numbers().get(&size), Some(4));
-    assert_eq!(rt; code.numbers().get(&tunable), Some(7));
-    let none = resolved.body(rt.alloc(), 2)?;
-    assert_eq!(rt; none.arrays.len(), 0);
-    Ok(())
 }
 
 const MOST_MAP: &[u8] =
