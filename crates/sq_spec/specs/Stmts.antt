@@ -3,6 +3,9 @@ use Rattle.std.specs.Prelude.{◌≡◌, ℕ, zero, suc, ◌+◌, ◌*◌, ◌/�
 use Rattle.sq_text.specs.declared.fault.Stop.{Stop}
 use Rattle.sq_text.specs.declared.fault.Stop.TheVariants.{Refused, NoMemory}
 use Rattle.sq_text.specs.declared.place.Place.{Place}
+use Rattle.sq_ast.specs.declared.program.Body.{Body}
+use Rattle.sq_ast.specs.declared.program.Body.TheVariants.{Inner, Leaf}
+use Rattle.sq_ast.specs.declared.program.Variant.{Variant}
 use Rattle.sq_ast.specs.declared.stmt.Range.{Range}
 use Rattle.sq_ast.specs.declared.stmt.MapKind.{MapKind}
 use Rattle.sq_ast.specs.declared.stmt.MapKind.TheVariants.{Par, Seq, Reduce}
@@ -161,6 +164,19 @@ sum_of p = record { calls = p.calls; maps = p.inside }
 
 abbrev pub sum_of_all : List Portion → Tally
 sum_of_all ps = record { calls = calls_of ps; maps = inside_of ps }
+
+-- of the maps of a variant, in text order; a leaf has none
+abbrev pub tallies_of : Body → List Tally
+tallies_of (Inner list) = maps_of (map portion list)
+tallies_of (Leaf list) = []
+
+abbrev pub all_tallies : List Variant → List (List Tally)
+all_tallies variants = map (λ v. tallies_of v.body) variants
+
+-- where there is no variant, none
+abbrev pub tallies_in : Option Variant → List Tally
+tallies_in None = []
+tallies_in (Some v) = tallies_of v.body
 
 -- the list begins with these
 pub record Begins {A : Type 0} (front whole : List A) : Type 0 where

@@ -4,6 +4,8 @@ ghost use Rattle.std.specs.Prelude.{◌≡◌, ◌∷◌, [], Some, map, option_
 ghost use Rattle.std.specs.Option.{option_copied};
 ghost use Rattle.sq_spec.specs.Faults.{Gives, Makes, Leaves};
 ghost use Rattle.sq_spec.specs.Steps.{state_of, run};
+ghost use Rattle.sq_spec.specs.Tables.{variant_of};
+ghost use Rattle.sq_spec.specs.Stmts.{tallies_of, all_tallies, tallies_in};
 ghost use Rattle.sq_spec.specs.Worlds as worlds;
 ghost use Rattle.sq_spec.specs.Decls as decls;
 ghost use Rattle.sq_spec.specs.Resolving as spec;
@@ -13,7 +15,7 @@ use crate::faults::refused_named;
 use crate::form::{Form, Found, Key, LocalArray, Use};
 use crate::stmt::{At, stmts};
 use crate::tables::{RoutesByTask, SettingsByName, Variants};
-use crate::tally::push_tallies;
+use crate::tally::{Tally, all_tallies};
 use crate::walk::Walk;
 use crate::world::Frame;
 use indexmap::IndexMap;
@@ -84,20 +86,20 @@ fn walk_body(
     frame: &Frame<'_>,
     scope: &mut Scope,
     body: &Body,
+    maps: &[Tally],
 ) -> Result<(), Stop>
+    requires { maps.now ≡ tallies_of body.now }
     ensures ran { Leaves result (run (state_of walk.old) (spec.body_steps body.now (worlds.frame_of frame.now) (decls.scope_of scope.old))) (state_of walk.new) }
     ensures locals { OnOk result (scope.new.locals ≡ scope.old.locals) }
 {
     match body {
         Body::Inner(list) => {
             let mut path = Items::new(alloc);
-            let mut maps = Items::new(alloc);
-            push_tallies(&mut maps, list.as_slice())?;
             let at = At {
                 call: 0,
                 outer: None,
                 reduced: None,
-                maps: maps.as_slice(),
+                maps,
             };
             stmts(
                 alloc,
@@ -122,23 +124,40 @@ fn walk_scope(
     walk: &mut Walk,
     x: &Instance,
     v: &Variant,
+    maps: &[Tally],
     mut scope: Scope,
 ) -> Result<Items<LocalArray>, Stop>
     requires left { walk.old.left ≡ 0 }
     requires uses { walk.old.uses ≡ [] }
+    requires maps { maps.now ≡ tallies_of v.now.body }
     ensures { spec.Ends result (spec.walked_at (worlds.frame_of frame.now) x.now v.now walk.old.forms.entries (decls.scope_of scope)) walk.new }
 {
     let settings = SettingsByName::new(alloc, x.tunings.as_slice())?;
     declare_all(alloc, &mut scope, &settings, v.decls.as_slice())?;
-    walk_body(alloc, walk, frame, &mut scope, &v.body)?;
+    walk_body(alloc, walk, frame, &mut scope, &v.body, maps)?;
     let Scope { locals, .. } = scope;
     Ok(locals)
+}
+
+// The tallies of the maps of the variant that an instance is of.
+fn tallies_at<'a>(variants: &Variants<'_>, tallies: &'a [Items<Tally>], x: &Instance) -> &'a [Tally]
+    requires { tallies.now ≡ all_tallies variants.now.list.now }
+    ensures { result.now ≡ tallies_in (variant_of variants.now.list.now x.now.task x.now.kind) }
+{
+    match variants.number(&x.task, x.kind) {
+        Some(i) => match at(tallies, i) {
+            Some(maps) => maps.as_slice(),
+            None => &[],
+        },
+        None => &[],
+    }
 }
 
 // The form with this number, once it is found.
 fn walk_form(
     alloc: Global,
     variants: &Variants<'_>,
+    tallies: &[Items<Tally>],
     instances: &[Instance],
     walk: &mut Walk,
     k: u32,
@@ -146,6 +165,7 @@ fn walk_form(
 ) -> Result<Items<LocalArray>, Stop>
     requires left { walk.old.left ≡ 0 }
     requires uses { walk.old.uses ≡ [] }
+    requires tallies { tallies.now ≡ all_tallies variants.now.list.now }
     ensures { spec.Ends result (spec.walked variants.now.list.now instances.now k form.now walk.old.forms.entries) walk.new }
 {
     let Some(x) = at(instances, form.instance as usize) else {
@@ -169,7 +189,8 @@ fn walk_form(
         maps: form.maps,
         depth: form.depth,
     };
-    walk_scope(alloc, &frame, walk, x, v, scope)
+    let maps = tallies_at(variants, tallies, x);
+    walk_scope(alloc, &frame, walk, x, v, maps, scope)
 }
 
 fn with_locals(found: Found, locals: Items<LocalArray>) -> Form
@@ -213,11 +234,13 @@ fn keep(
 fn walk_next(
     alloc: Global,
     variants: &Variants<'_>,
+    tallies: &[Items<Tally>],
     instances: &[Instance],
     r: &mut Resolving,
     k: u32,
 ) -> Result<(), Stop>
-    requires { r.old.walk.uses ≡ [] }
+    requires uses { r.old.walk.uses ≡ [] }
+    requires tallies { tallies.now ≡ all_tallies variants.now.list.now }
     ensures next { Leaves result (spec.walk_next variants.now.list.now instances.now k (spec.resolving_of r.old)) (spec.resolving_of r.new) }
     ensures uses { OnOk result (r.new.walk.uses ≡ []) }
 {
@@ -225,7 +248,7 @@ fn walk_next(
         return Ok(());
     };
     r.walk.left = 0;
-    let locals = walk_form(alloc, variants, instances, &mut r.walk, k, &form)?;
+    let locals = walk_form(alloc, variants, tallies, instances, &mut r.walk, k, &form)?;
     keep(alloc, r, form, locals)?;
     Ok(())
 }
@@ -346,9 +369,11 @@ pub fn resolve_forms(
     let list = entry_params(variants, mapping);
     let extents = entry_extents(alloc, mapping.sizes.as_slice(), list)?;
     let mut r = begin(alloc, mapping.entry, extents)?;
+    let tallies = all_tallies(alloc, variants.list)?;
+    let maps = tallies.as_slice();
     let instances = mapping.instances.as_slice();
     for k in 0..MOST_FORMS {
-        walk_next(alloc, variants, instances, &mut r, k)?;
+        walk_next(alloc, variants, maps, instances, &mut r, k)?;
     }
     Ok(r)
 }

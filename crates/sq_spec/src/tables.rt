@@ -75,14 +75,21 @@ impl<'a> Variants<'a> {
         Ok(Variants { list, inner, leaf })
     }
 
+    /// The number of the variant of a task and kind.
+    pub fn number(&self, task: &Name, kind: VariantKind) -> Option<usize>
+        ensures { result ≡ spec.first_of_kind kind 0 self.now.list.now task.now }
+    {
+        match kind {
+            VariantKind::Inner => self.inner.get(task),
+            VariantKind::Leaf => self.leaf.get(task),
+        }
+    }
+
     /// The variant of a task and kind.
     pub fn get(&self, task: &Name, kind: VariantKind) -> Option<&'a Variant>
         ensures { option_copied result ≡ spec.variant_of self.now.list.now task.now kind }
     {
-        let i = match kind {
-            VariantKind::Inner => self.inner.get(task)?,
-            VariantKind::Leaf => self.leaf.get(task)?,
-        };
+        let i = self.number(task, kind)?;
         self.list.get(i)
     }
 }

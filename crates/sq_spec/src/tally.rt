@@ -4,9 +4,10 @@ ghost use Rattle.std.specs.Prelude.{◌≡◌, ◌+◌, ◌++◌, drop, length, 
 ghost use Rattle.sq_spec.specs.Faults.{NoRefusal};
 ghost use Rattle.sq_spec.specs.Stmts as spec;
 
-use sq_ast::Stmt;
+use sq_ast::{Body, Stmt, Variant};
 use sq_text::Stop;
 use sqlite_items::{Items, at};
+use std::alloc::Global;
 
 /// Of a map: how many calls stand in it, and how many maps, itself among them.
 #[derive(Clone, Copy, Debug, PartialEq, Eq)]
@@ -56,9 +57,9 @@ fn push_tally(maps: &mut Items<Tally>, s: &Stmt) -> Result<Tally, Stop>
     }
 }
 
-/// Keeps the tallies of the maps of statements, in text order; how many calls and maps stand in them.
+// Keeps the tallies of the maps of statements, in text order; how many calls and maps stand in them.
 #[cycle(tallies)]
-pub fn push_tallies(maps: &mut Items<Tally>, list: &[Stmt]) -> Result<Tally, Stop>
+fn push_tallies(maps: &mut Items<Tally>, list: &[Stmt]) -> Result<Tally, Stop>
     ensures none { NoRefusal result }
     ensures maps { OnOk result (maps.new ≡ maps.old ++ spec.maps_of (map spec.portion list.now)) }
     ensures sum { IfOk result (λ t. t ≡ spec.sum_of_all (map spec.portion list.now)) }
@@ -74,6 +75,32 @@ pub fn push_tallies(maps: &mut Items<Tally>, list: &[Stmt]) -> Result<Tally, Sto
         calls,
         maps: inside,
     })
+}
+
+fn tallies_of(alloc: Global, body: &Body) -> Result<Items<Tally>, Stop>
+    ensures none { NoRefusal result }
+    ensures maps { IfOk result (λ maps. maps ≡ spec.tallies_of body.now) }
+{
+    let mut maps = Items::new(alloc);
+    match body {
+        Body::Inner(list) => {
+            push_tallies(&mut maps, list.as_slice())?;
+            Ok(maps)
+        }
+        Body::Leaf(_) => Ok(maps),
+    }
+}
+
+/// The tallies of the maps of each variant, in text order.
+pub fn all_tallies(alloc: Global, variants: &[Variant]) -> Result<Items<Items<Tally>>, Stop>
+    ensures none { NoRefusal result }
+    ensures maps { IfOk result (λ tallies. tallies ≡ spec.all_tallies variants.now) }
+{
+    let mut tallies = Items::new(alloc);
+    for v in variants {
+        tallies.push(tallies_of(alloc, &v.body)?)?;
+    }
+    Ok(tallies)
 }
 
 /// Tallies without so many of the first.
