@@ -18,6 +18,8 @@ pub type Numbers = Items<i64>;
 pub struct Bindings {
     alloc: Global,
     numbers: IndexMap<Name, i64>,
+    // Names that were bound, the one that was bound first last: bound again they need no copy.
+    spare: Vec<Name>,
 }
 
 impl Model for Bindings {
@@ -36,6 +38,7 @@ impl Bindings {
         Bindings {
             alloc,
             numbers: IndexMap::new(alloc),
+            spare: Vec::new(alloc),
         }
     }
 
@@ -50,7 +53,7 @@ impl Bindings {
     pub fn bind(&mut self, name: &Name, n: i64) -> Result<(), AllocError>
         ensures { OnOk result (self.new ≡ spec.with_number self.old name.now n) }
     {
-        bind_number(self.alloc, &mut self.numbers, name, n)?;
+        bind_number(self.alloc, &mut self.numbers, &mut self.spare, name, n)?;
         Ok(())
     }
 
@@ -65,7 +68,12 @@ impl Bindings {
     pub fn truncate(&mut self, count: usize)
         ensures { self.new ≡ take count self.old }
     {
-        self.numbers.truncate(count);
+        while self.numbers.len() > count {
+            match self.numbers.pop() {
+                Some((name, _)) => set_aside(&mut self.spare, name),
+                None => return,
+            }
+        }
     }
 
     /// The same names with the same numbers.
@@ -80,10 +88,28 @@ impl Bindings {
     }
 }
 
+// Keeps a name, as long as there is memory for it.
+fn set_aside(spare: &mut Vec<Name>, name: Name) {
+    let _ = spare.push(name);
+}
+
+// The name that was set aside last where it is this one, else a copy.
+fn owned(alloc: Global, spare: &mut Vec<Name>, name: &Name) -> Result<Name, AllocError>
+    ensures { IfOk result (λ made. made ≡ name.now) }
+{
+    if let Some(kept) = spare.pop() {
+        if kept == *name {
+            return Ok(kept);
+        }
+    }
+    name.copy(alloc)
+}
+
 // The first number of a name counts.
 fn bind_number(
     alloc: Global,
     numbers: &mut IndexMap<Name, i64>,
+    spare: &mut Vec<Name>,
     name: &Name,
     n: i64,
 ) -> Result<(), AllocError>
@@ -92,7 +118,7 @@ fn bind_number(
     match numbers.get(name) {
         Some(_) => Ok(()),
         None => {
-            numbers.insert(name.copy(alloc)?, n)?;
+            numbers.insert(owned(alloc, spare, name)?, n)?;
             Ok(())
         }
     }
