@@ -18,3 +18,8 @@ pub mod EachWork
 pub mod Modes
 pub mod FormFree
 pub mod FreeHold
+pub mod Ends
+pub mod Rising
+pub mod MapsPlaced
+pub mod TextOrder
+pub mod FirstInText

@@ -10,3 +10,4 @@ pub mod Table
 pub mod Race
 pub mod Selection
 pub mod Free
+pub mod TextOrder

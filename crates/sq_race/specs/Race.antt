@@ -45,7 +45,8 @@ pub record HoldsIn (maps : List Map) (uses : List Use) (round : List ℕ) (x : F
   pub before : x.earlier < x.later
   pub race : IsRace map round a b
 
--- by the place of the map, then by the numbers of the maps round it, then by the later access, then by the earlier one
+-- by the number of the map, then by the numbers of the maps round it, then by the later access, then by the earlier one
+-- (that maps are numbered as they stand in the text is said in TextOrder)
 abbrev pub AtOrBefore : List ℕ → Found → List ℕ → Found → Type 0
 AtOrBefore r x s y =
     (x.map < y.map) ⊎ ((x.map ≡ y.map) × (
