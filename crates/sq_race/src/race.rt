@@ -216,6 +216,7 @@ fn count_of(count: usize) -> Result<u32, AllocError>
 /// The first race of the forms, or none: the one of the least form, then of the map that stands first in the text, then
 /// with the least numbers of the maps round it, then with the least later access, then with the least earlier one.
 /// Accesses of an array that a `mapreduce` reduces into don't race in that map.
+/// Maps are compared by their numbers; that these follow the text is the law `the_first_race_is_first_in_the_text`.
 pub fn first_race(alloc: Global, r: &Resolved<'_>) -> Result<Option<Race>, AllocError>
     ensures { IfOk result (λ race. spec.IsFirstRace r.now race) }
 {
