@@ -68,12 +68,7 @@ impl Bindings {
     pub fn truncate(&mut self, count: usize)
         ensures { self.new ≡ take count self.old }
     {
-        while self.numbers.len() > count {
-            match self.numbers.pop() {
-                Some((name, _)) => set_aside(&mut self.spare, name),
-                None => return,
-            }
-        }
+        drop_behind(&mut self.numbers, &mut self.spare, count);
     }
 
     /// The same names with the same numbers.
@@ -91,6 +86,17 @@ impl Bindings {
 // Keeps a name, as long as there is memory for it.
 fn set_aside(spare: &mut Vec<Name>, name: Name) {
     let _ = spare.push(name);
+}
+
+// Takes away the bindings behind the first so many; their names are set aside.
+fn drop_behind(numbers: &mut IndexMap<Name, i64>, spare: &mut Vec<Name>, count: usize)
+    ensures { numbers.new.entries ≡ take count numbers.old.entries }
+{
+    for _left in count..numbers.len() {
+        if let Some((name, _)) = numbers.pop() {
+            set_aside(spare, name);
+        }
+    }
 }
 
 // The name that was set aside last where it is this one, else a copy.
