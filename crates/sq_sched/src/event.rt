@@ -2,7 +2,8 @@
 
 ghost use Rattle.std.specs.Prelude.{◌≡◌};
 ghost use Rattle.sq_sched.specs.Words as spec;
-ghost use Rattle.sq_sched.specs.Words.{env_of, half};
+ghost use Rattle.sq_ir.specs.Events as events;
+ghost use Rattle.sq_sched.specs.Words.{env_of, half, node_here};
 ghost use Rattle.sq_sched.specs.Seen.{seen};
 
 use crate::env::{Env, Spot, count_of, half32, node_of, spot_of};
@@ -79,45 +80,62 @@ fn views_of(list: &[LeafView], plan: &Plan, env: &Env<'_>) -> Views
     views
 }
 
-/// The event of an action.
-pub(crate) fn event_for(action: &Action, plan: &Plan, env: &Env<'_>) -> Event
-    ensures { seen result ≡ spec.event plan.now action.now (env_of env.now) }
+// The event of a leaf call. Out of line: a call clears room for 32 views at its entry.
+#[inline(never)]
+fn call_for(code: u32, views: &[LeafView], path: &[Num], plan: &Plan, env: &Env<'_>) -> Event
+    ensures { seen result ≡ events.Leaf (half (node_here (env_of env.now))) code (spec.views_of plan.now views.now (env_of env.now)) (spec.path_of plan.now path.now (env_of env.now)) }
+{
+    Event::Leaf {
+        node: half32(u128::from(node_of(env))),
+        code,
+        views: views_of(views, plan, env),
+        path: path_of(path, plan, env),
+    }
+}
+
+/// Tells the event of an action. Out of line, so that the calls down to the action clear no room for an event.
+#[inline(never)]
+pub(crate) fn tell(action: &Action, plan: &Plan, env: &Env<'_>, told: &mut Event)
+    ensures { seen told.new ≡ spec.event plan.now action.now (env_of env.now) }
 {
     match action {
-        Action::CopyRow { from, to, bytes } => Event::Copy {
-            from: spot_of(from, plan, env),
-            to: spot_of(to, plan, env),
-            bytes: *bytes,
-        },
+        Action::CopyRow { from, to, bytes } => {
+            *told = Event::Copy {
+                from: spot_of(from, plan, env),
+                to: spot_of(to, plan, env),
+                bytes: *bytes,
+            };
+        }
         Action::FillRow {
             to,
             elem,
             count,
             value,
-        } => Event::Fill {
-            to: spot_of(to, plan, env),
-            elem: *elem,
-            count: *count,
-            value: *value,
-        },
+        } => {
+            *told = Event::Fill {
+                to: spot_of(to, plan, env),
+                elem: *elem,
+                count: *count,
+                value: *value,
+            };
+        }
         Action::AccRow {
             op,
             elem,
             from,
             to,
             count,
-        } => Event::Acc {
-            op: *op,
-            elem: *elem,
-            from: spot_of(from, plan, env),
-            to: spot_of(to, plan, env),
-            count: *count,
-        },
-        Action::Leaf { code, views, path } => Event::Leaf {
-            node: half32(u128::from(node_of(env))),
-            code: *code,
-            views: views_of(views.as_slice(), plan, env),
-            path: path_of(path.as_slice(), plan, env),
-        },
+        } => {
+            *told = Event::Acc {
+                op: *op,
+                elem: *elem,
+                from: spot_of(from, plan, env),
+                to: spot_of(to, plan, env),
+                count: *count,
+            };
+        }
+        Action::Leaf { code, views, path } => {
+            *told = call_for(*code, views.as_slice(), path.as_slice(), plan, env);
+        }
     }
 }

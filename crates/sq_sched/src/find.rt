@@ -8,7 +8,7 @@ ghost use Rattle.sq_sched.specs.Shapes.{frame_in, sum_of, rest_of, IsRight};
 ghost use Rattle.sq_sched.specs.Forms.{made, frames, greatest, total, stop, fan, inside, frames_at, sizes_of, items_of, before, seq_form, par_form, loop_form, spread_form, case_form, within_form, InPart, InItems};
 
 use crate::env::{Chain, Env, child_node, children_of, count_of};
-use crate::event::{Event, event_for};
+use crate::event::{Event, tell};
 use crate::frame::Frame;
 use crate::frames::{Within, arm_for, frame_at, frames_of};
 use crate::sizes::Sizes;
@@ -79,9 +79,7 @@ pub(crate) fn event_of(
 {
     match t {
         Term::Skip => unreachable!(),
-        Term::Act(action) => {
-            *told = event_for(action, plan, env);
-        }
+        Term::Act(action) => tell(action, plan, env, told),
         Term::Seq(parts) => event_seq(
             parts.as_slice(),
             s.parts.as_slice(),

@@ -17,7 +17,7 @@ event_of-returns-in-Act t c =
     let env = env_of c.args.env.now in
     let fs = frame_in c.args.fs.now in
     let there = subst (λ x. c.args.k < ready (rest_of ((made l x).form env) fs c.args.o)) c.in-Act.is c.requires.there in
-    subst (λ x. event_at (rest_of ((made l x).form env) fs c.args.o) c.args.k ≡ Some (seen c.event_for.result)) (sym c.in-Act.is) (act_event l env c.in-Act.action fs c.args.o c.args.k (seen c.event_for.result) there c.event_for.ensures)
+    subst (λ x. event_at (rest_of ((made l x).form env) fs c.args.o) c.args.k ≡ Some (seen c.tell.new.told)) (sym c.in-Act.is) (act_event l env c.in-Act.action fs c.args.o c.args.k (seen c.tell.new.told) there c.tell.ensures)
 
 pub event_one-event_of-requires : goal.event_one-event_of-requires
 event_one-event_of-requires t c =
