@@ -80,17 +80,24 @@ fn views_of(list: &[LeafView], plan: &Plan, env: &Env<'_>) -> Views
     views
 }
 
-// The event of a leaf call. Out of line: a call clears room for 32 views at its entry.
+// Tells the event of a leaf call. Out of line: it clears room for 32 views at its entry.
 #[inline(never)]
-fn call_for(code: u32, views: &[LeafView], path: &[Num], plan: &Plan, env: &Env<'_>) -> Event
-    ensures { seen result ≡ events.Leaf (half (node_here (env_of env.now))) code (spec.views_of plan.now views.now (env_of env.now)) (spec.path_of plan.now path.now (env_of env.now)) }
+fn tell_call(
+    code: u32,
+    views: &[LeafView],
+    path: &[Num],
+    plan: &Plan,
+    env: &Env<'_>,
+    told: &mut Event,
+)
+    ensures { seen told.new ≡ events.Leaf (half (node_here (env_of env.now))) code (spec.views_of plan.now views.now (env_of env.now)) (spec.path_of plan.now path.now (env_of env.now)) }
 {
-    Event::Leaf {
+    *told = Event::Leaf {
         node: half32(u128::from(node_of(env))),
         code,
         views: views_of(views, plan, env),
         path: path_of(path, plan, env),
-    }
+    };
 }
 
 /// Tells the event of an action. Out of line, so that the calls down to the action clear no room for an event.
@@ -135,7 +142,7 @@ pub(crate) fn tell(action: &Action, plan: &Plan, env: &Env<'_>, told: &mut Event
             };
         }
         Action::Leaf { code, views, path } => {
-            *told = call_for(*code, views.as_slice(), path.as_slice(), plan, env);
+            tell_call(*code, views.as_slice(), path.as_slice(), plan, env, told);
         }
     }
 }
