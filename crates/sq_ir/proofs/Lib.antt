@@ -29,3 +29,6 @@ pub mod Parts
 pub mod ExampleLeaf
 pub mod Numbering
 pub mod Reaching
+mod LeafPieces
+mod LeafEvents
+mod LeafCalls

@@ -15,3 +15,5 @@ pub mod PlanLaws
 pub mod Examples
 pub mod Ready
 pub mod Closed
+pub mod DraftLeaves
+pub mod LeafRuns

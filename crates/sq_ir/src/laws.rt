@@ -8,6 +8,7 @@ ghost use Rattle.sq_ir.specs.Closed.{AreReached};
 ghost use Rattle.sq_ir.specs.Ready.{AreNumbered};
 ghost use Rattle.sq_ir.specs.Events.{Leaves};
 ghost use Rattle.sq_ir.specs.Lifting.{lift};
+ghost use Rattle.sq_ir.specs.LeafRuns.{RunsAreEvents, CallsCanBeRun};
 ghost use Rattle.sq_ir.specs.Written.{Setting, Env, at_turn, value_of};
 ghost use Rattle.sq_ir.specs.Plans.{IsGood};
 ghost use Rattle.sq_ir.specs.Examples.{doubling, CallsALeaf, OnlyClashes, OnlyTooLong, OnlyOverlaps, OnlyDivides};
@@ -76,4 +77,11 @@ pub fn each_part_of_good_is_asked<Cause>()
 /// A number that is lifted by one loop has under that loop the value that it had outside.
 pub fn lifted_numbers_keep_their_values()
     ensures { (s : Setting) (number : Num) (t : ℕ) (env : Env) → value_of s (lift 1 number) (at_turn env t) ≡ value_of s number env }
+{}
+
+/// A leaf call of a well formed plan names a leaf of its draft, whose code can run over the node's bytes; and what that
+/// run does to them is what the event does.
+pub fn runs_of_leaves_are_their_events()
+    ensures can { CallsCanBeRun }
+    ensures alike { RunsAreEvents }
 {}

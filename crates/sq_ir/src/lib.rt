@@ -11,5 +11,7 @@ mod tests;
 
 pub use num::Num;
 pub use numbers::Numbers;
-pub use plan::{Buffer, Buffers, Draft, Note, Notes, Offsets, Plan, PlanNode, PlanNodes};
+pub use plan::{
+    Buffer, Buffers, Draft, Leaf, Leaves, Note, Notes, Offsets, Plan, PlanNode, PlanNodes,
+};
 pub use term::{Action, BufferIds, LeafView, LeafViews, Nums, Slot, Term, Terms};

@@ -1,6 +1,7 @@
 //! Drafts and plans.
 
 use crate::term::{BufferIds, Term};
+use sq_leaf::LeafCode;
 use sq_text::{Name, Place};
 use sqlite_items::Items;
 
@@ -28,11 +29,19 @@ pub enum Note {
     },
 }
 
-/// A plan whose buffers have no offsets yet. The buffers of `entry` are in scope round the whole term, at the root.
+/// The compiled code of a leaf instance.
+#[derive(Drop)]
+pub struct Leaf {
+    pub instance: Name,
+    pub code: LeafCode,
+}
+
+/// A plan whose buffers have no offsets yet. Leaf calls name their code by its place in the list of leaves. The buffers of `entry` are in scope round the whole term, at the root.
 #[derive(Drop)]
 pub struct Draft {
     pub term: Term,
     pub buffers: Buffers,
+    pub leaves: Leaves,
     pub entry: BufferIds,
     pub notes: Notes,
 }
@@ -56,6 +65,8 @@ pub struct Plan {
 }
 
 pub type Buffers = Items<Buffer>;
+
+pub type Leaves = Items<Leaf>;
 
 pub type Notes = Items<Note>;
 

@@ -22,6 +22,7 @@ planned nodes term =
       draft = record {
         term = term;
         buffers = record { level = 0; size = 16; instance = []; array = [] } ∷ [];
+        leaves = [];
         entry = 0 ∷ [];
         notes = [];
       };

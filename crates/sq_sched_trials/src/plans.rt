@@ -60,6 +60,7 @@ fn planned(alloc: Global, nodes: PlanNodes, term: Term) -> Result<Plan, AllocErr
         draft: Draft {
             term,
             buffers,
+            leaves: Items::new(alloc),
             entry,
             notes: Items::new(alloc),
         },
