@@ -1,6 +1,7 @@
 pub mod Blocks
 pub mod Sets
 pub mod Finding
+mod Marking
 pub mod Shares
 pub mod Steps
 pub mod Orders

@@ -8,6 +8,7 @@ use Rattle.sq_race.specs.Blocks.{whole, covers, overlaps}
 use Rattle.sq_race.specs.Layers.{meets_any}
 use Rattle.sq_race.specs.Accesses.{counts, writes, block_of, races, same_run, same_iteration, alike, clash, shares}
 use Rattle.sq_race.specs.Pairs.{IsKept, IsMarked, AreMarked, marks_of, NoneWith, NoneYet, NoneAt, IsReady, RaceAt, IsEarliest, AreTogether, AreWithin, AreWithinTo, CountsAt, may_race}
+use Rattle.sq_race.specs.Marks.{touched}
 use Rattle.sq_race.specs.declared.marks.Marks.{Marks}
 use Rattle.sq_spec.specs.declared.form.Use.{Use}
 use Rattle.sq_race.specs.declared.map.Map.{Map}
@@ -164,11 +165,11 @@ parts m a b e =
     record { one = s.0; other = s.1; run = r.1; iteration = not_true (same_iteration m a b) q.1; array = eqb-true a.array b.array u.0; write = u.1; share = t.1; place = blocks_overlap a.rect b.rect t.1 }
 
 -- an access that is marked is found by one that clashes with it
-found_by : (w v : Bool) (marks : List Marks) (a b : Use) → writes a.mode ≡ v → writes b.mode ≡ w → (v || w) ≡ true → IsKept a marks → a.array ≡ b.array → overlaps (block_of a.rect) (block_of b.rect) ≡ true → covers whole (block_of b.rect) ≡ true → meets_any (if w then (marks_of marks a.array).touched else (marks_of marks a.array).written) (block_of b.rect) ≡ true
+found_by : (w v : Bool) (marks : List Marks) (a b : Use) → writes a.mode ≡ v → writes b.mode ≡ w → (v || w) ≡ true → IsKept a marks → a.array ≡ b.array → overlaps (block_of a.rect) (block_of b.rect) ≡ true → covers whole (block_of b.rect) ≡ true → meets_any (if w then touched (marks_of marks a.array) else (marks_of marks a.array).written) (block_of b.rect) ≡ true
 found_by true v marks a b ea eb e kept array place bounded =
     let c = shared (block_of a.rect) (block_of b.rect) in
     let inside = shared_right (block_of a.rect) (block_of b.rect) place in
-    any_found (marks_of marks a.array).touched (block_of b.rect) c inside (kept.touched c (shared_left (block_of a.rect) (block_of b.rect) place) (lies_covered c whole (block_of b.rect) bounded inside))
+    any_found (touched (marks_of marks a.array)) (block_of b.rect) c inside (kept.touched c (shared_left (block_of a.rect) (block_of b.rect) place) (lies_covered c whole (block_of b.rect) bounded inside))
 found_by false true marks a b ea eb e kept array place bounded =
     let c = shared (block_of a.rect) (block_of b.rect) in
     let inside = shared_right (block_of a.rect) (block_of b.rect) place in

@@ -6,7 +6,7 @@ use Rattle.sq_ast.specs.declared.program.Variant.{Variant}
 use Rattle.sq_spec.specs.declared.form.Form.{Form}
 use Rattle.sq_spec.specs.declared.form.Use.{Use}
 use Rattle.sq_spec.specs.declared.resolved.Resolved.{Resolved}
-use Rattle.sq_race.specs.Race.{HoldsIn, HoldsAt, IsFirstIn, IsFirstOf, IsFirstRace, IsFirstOfForm, NoneOfForms, IsTold, maps_of_form, maps_by, variant_in}
+use Rattle.sq_race.specs.Race.{HoldsIn, HoldsAt, IsFirstIn, IsFirstOf, IsFirstRace, IsFirstOfForm, NoneOfForms, IsTold, maps_of_form, variant_in}
 use Rattle.sq_race.specs.declared.map.Map.{Map}
 use Rattle.sq_race.specs.declared.race.Race.{Race}
 use Rattle.sq_race.specs.declared.forms.Found.{Found}
@@ -18,12 +18,11 @@ in_form r n f uses s y at_f at_u h =
     subst (λ (us : List Use). HoldsIn (maps_of_form r f) us s y) (one_there r.uses n n h.uses uses refl h.uses_are at_u)
     (subst (λ (g : Form). HoldsIn (maps_of_form r g) h.uses s y) (one_there r.forms n n h.of f refl h.form_is at_f) h.holds)
 
-pub none_here : (r : Resolved) (n : ℕ) (f : Form) (uses : List Use) (maps : List Map) (v : Option Variant) → slice_get r.forms n ≡ Some f → slice_get r.uses n ≡ Some uses → maps ≡ maps_by v → v ≡ variant_in r f → IsFirstOf maps uses None → IsFirstOfForm r n None
-none_here r n f uses maps v at_f at_u p q none = λ s y h. none s y (subst (λ (ms : List Map). HoldsIn ms uses s y) (sym (p ∙ ap maps_by q)) (in_form r n f uses s y at_f at_u h))
+pub none_here : (r : Resolved) (n : ℕ) (f : Form) (uses : List Use) (maps : List Map) → slice_get r.forms n ≡ Some f → slice_get r.uses n ≡ Some uses → maps ≡ maps_of_form r f → IsFirstOf maps uses None → IsFirstOfForm r n None
+none_here r n f uses maps at_f at_u same none = λ s y h. none s y (subst (λ (ms : List Map). HoldsIn ms uses s y) (sym same) (in_form r n f uses s y at_f at_u h))
 
-pub first_here : (r : Resolved) (n : ℕ) (f : Form) (uses : List Use) (maps : List Map) (v : Option Variant) (x : Found) (race : Race) → slice_get r.forms n ≡ Some f → slice_get r.uses n ≡ Some uses → maps ≡ maps_by v → v ≡ variant_in r f → IsFirstOf maps uses (Some x) → IsTold n v maps uses x race → IsFirstOfForm r n (Some race)
-first_here r n f uses maps v x race at_f at_u p q first it =
-    let same : maps ≡ maps_of_form r f = p ∙ ap maps_by q in
+pub first_here : (r : Resolved) (n : ℕ) (f : Form) (uses : List Use) (maps : List Map) (v : Option Variant) (x : Found) (race : Race) → slice_get r.forms n ≡ Some f → slice_get r.uses n ≡ Some uses → maps ≡ maps_of_form r f → v ≡ variant_in r f → IsFirstOf maps uses (Some x) → IsTold n v maps uses x race → IsFirstOfForm r n (Some race)
+first_here r n f uses maps v x race at_f at_u same q first it =
     let here : IsFirstIn (maps_of_form r f) uses x = subst (λ (ms : List Map). IsFirstIn ms uses x) same first in
     let is : IsTold n (variant_in r f) (maps_of_form r f) uses x race = subst (λ (ms : List Map). IsTold n (variant_in r f) ms uses x race) same (subst (λ (w : Option Variant). IsTold n w maps uses x race) q it) in
     record {

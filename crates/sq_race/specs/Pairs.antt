@@ -3,7 +3,7 @@ use Rattle.std.specs.Prelude.{◌≡◌, ℕ, ◌-◌, ◌<◌, ◌≤◌, ◌�
 use Rattle.sq_race.specs.Blocks.{Cell, lies, whole}
 use Rattle.sq_race.specs.Layers.{has_any, meets_any}
 use Rattle.sq_race.specs.Accesses.{counts, races, same_run, same_iteration, writes, block_of}
-use Rattle.sq_race.specs.Marks.{blank}
+use Rattle.sq_race.specs.Marks.{blank, touched}
 use Rattle.sq_race.specs.declared.marks.Marks.{Marks}
 use Rattle.sq_spec.specs.declared.form.Use.{Use}
 use Rattle.sq_race.specs.declared.map.Map.{Map}
@@ -45,11 +45,11 @@ abbrev pub marks_of : List Marks → ℕ → Marks
 marks_of marks n = slice_index_or marks n blank
 
 abbrev pub may_race : List Marks → Use → Bool
-may_race marks b = meets_any (if writes b.mode then (marks_of marks b.array).touched else (marks_of marks b.array).written) (block_of b.rect)
+may_race marks b = meets_any (if writes b.mode then touched (marks_of marks b.array) else (marks_of marks b.array).written) (block_of b.rect)
 
 -- the access is marked
 pub record IsKept (a : Use) (marks : List Marks) : Type 0 where
-  pub touched : (c : Cell) → lies c (block_of a.rect) ≡ true → lies c whole ≡ true → has_any (marks_of marks a.array).touched c ≡ true
+  pub touched : (c : Cell) → lies c (block_of a.rect) ≡ true → lies c whole ≡ true → has_any (touched (marks_of marks a.array)) c ≡ true
   pub written : writes a.mode ≡ true → (c : Cell) → lies c (block_of a.rect) ≡ true → lies c whole ≡ true → has_any (marks_of marks a.array).written c ≡ true
 
 -- what was marked stays marked

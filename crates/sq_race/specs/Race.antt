@@ -72,6 +72,10 @@ abbrev pub maps_by : Option Variant → List Map
 maps_by None = []
 maps_by (Some v) = maps_of_body v.body
 
+-- those of each variant
+abbrev pub all_maps : List Variant → List (List Map)
+all_maps variants = map (λ v. maps_of_body v.body) variants
+
 -- the maps of a form that run their iterations beside one another, in text order
 abbrev pub maps_of_form : Resolved → Form → List Map
 maps_of_form r f = maps_by (variant_in r f)

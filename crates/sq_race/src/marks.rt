@@ -7,10 +7,10 @@ use crate::block::Block;
 use crate::layers::Layers;
 use std::alloc::{AllocError, Global};
 
-/// The coordinates that were read or written, and those that were written.
+/// The coordinates that were read by accesses that don't write, and those that were written.
 #[derive(Drop)]
 pub struct Marks {
-    pub touched: Layers,
+    pub read: Layers,
     pub written: Layers,
 }
 
@@ -19,17 +19,17 @@ impl Marks {
         ensures { result ≡ spec.blank }
     {
         Marks {
-            touched: Layers::new(alloc),
+            read: Layers::new(alloc),
             written: Layers::new(alloc),
         }
     }
 
     /// Whether a further access of the block may race.
     pub fn meets(&self, block: &Block, writes: bool) -> bool
-        ensures { result ≡ meets_any (if writes then self.now.touched else self.now.written) block.now }
+        ensures { result ≡ meets_any (if writes then spec.touched self.now else self.now.written) block.now }
     {
         if writes {
-            self.touched.meets(block)
+            self.read.meets(block) || self.written.meets(block)
         } else {
             self.written.meets(block)
         }
@@ -38,9 +38,10 @@ impl Marks {
     pub fn add(&mut self, alloc: Global, block: &Block, writes: bool) -> Result<(), AllocError>
         ensures { OnOk result (spec.Marked block.now writes self.old self.new) }
     {
-        self.touched.add(alloc, block)?;
         if writes {
             self.written.add(alloc, block)?;
+        } else {
+            self.read.add(alloc, block)?;
         }
         Ok(())
     }

@@ -9,6 +9,7 @@ use crate::forms::{Found, first_of};
 use crate::map::Map;
 use crate::table::maps_in;
 use sq_ast::{Body, Decl, Param, Variant, VariantKind};
+use sq_mapfile::Instance;
 use sq_rect::Rect;
 use sq_spec::{Form, Resolved, Use};
 use sq_text::{Name, Place};
@@ -69,18 +70,52 @@ fn variant_in<'a>(r: &Resolved<'a>, form: &Form) -> Option<&'a Variant>
     )
 }
 
-fn maps_of(alloc: Global, variant: Option<&Variant>) -> Result<Items<Map>, AllocError>
-    ensures { IfOk result (λ maps. maps ≡ spec.maps_by (option_copied variant.entry)) }
+// The maps of a variant; a leaf has none.
+fn maps_of(alloc: Global, variant: &Variant) -> Result<Items<Map>, AllocError>
+    ensures { IfOk result (λ maps. maps ≡ spec.maps_of_body variant.now.body) }
 {
-    let Some(variant) = variant else {
-        return Ok(Items::new(alloc));
-    };
     match &variant.body {
         Body::Inner(list) => {
             let maps = maps_in(alloc, list.as_slice())?;
             Ok(maps)
         }
         Body::Leaf(_) => Ok(Items::new(alloc)),
+    }
+}
+
+// The maps of each variant.
+fn all_maps(alloc: Global, variants: &[Variant]) -> Result<Items<Items<Map>>, AllocError>
+    ensures { IfOk result (λ all. all ≡ spec.all_maps variants.now) }
+{
+    let mut all = Items::new(alloc);
+    for v in variants {
+        all.push(maps_of(alloc, v)?)?;
+    }
+    Ok(all)
+}
+
+// The maps of the variant that an instance is of.
+fn maps_at<'a>(all: &'a [Items<Map>], variants: &[Variant], x: &Instance) -> &'a [Map]
+    requires { all.now ≡ spec.all_maps variants.now }
+    ensures { result.now ≡ spec.maps_by (tables.variant_of variants.now x.now.task x.now.kind) }
+{
+    match first_of_kind(variants, &x.task, x.kind) {
+        Some(i) => match at(all, i) {
+            Some(maps) => maps.as_slice(),
+            None => &[],
+        },
+        None => &[],
+    }
+}
+
+// The maps of the form's variant.
+fn maps_for<'a>(all: &'a [Items<Map>], r: &Resolved<'_>, form: &Form) -> &'a [Map]
+    requires { all.now ≡ spec.all_maps r.now.typed.now.tasks }
+    ensures { result.now ≡ spec.maps_of_form r.now form.now }
+{
+    match at(r.mapping().instances.as_slice(), form.instance as usize) {
+        Some(x) => maps_at(all, r.typed().program().tasks.as_slice(), x),
+        None => &[],
     }
 }
 
@@ -186,13 +221,19 @@ fn told_of(
 }
 
 // The first race of the form with this number.
-fn race_in(alloc: Global, r: &Resolved<'_>, number: u32) -> Result<Option<Race>, AllocError>
-    requires { number < length r.now.forms }
+fn race_in(
+    alloc: Global,
+    r: &Resolved<'_>,
+    all: &[Items<Map>],
+    number: u32,
+) -> Result<Option<Race>, AllocError>
+    requires number { number < length r.now.forms }
+    requires maps { all.now ≡ spec.all_maps r.now.typed.now.tasks }
     ensures { IfOk result (λ race. spec.IsFirstOfForm r.now number race) }
 {
-    let variant = variant_in(r, &r.forms()[number as usize]);
-    let maps = maps_of(alloc, variant)?;
-    let maps = maps.as_slice();
+    let form = &r.forms()[number as usize];
+    let variant = variant_in(r, form);
+    let maps = maps_for(all, r, form);
     let uses = r.uses(number);
     match first_of(alloc, maps, uses)? {
         None => Ok(None),
@@ -220,9 +261,11 @@ fn count_of(count: usize) -> Result<u32, AllocError>
 pub fn first_race(alloc: Global, r: &Resolved<'_>) -> Result<Option<Race>, AllocError>
     ensures { IfOk result (λ race. spec.IsFirstRace r.now race) }
 {
+    let all = all_maps(alloc, r.typed().program().tasks.as_slice())?;
+    let all = all.as_slice();
     let count = count_of(r.forms().len())?;
     for number in 0..count {
-        match race_in(alloc, r, number)? {
+        match race_in(alloc, r, all, number)? {
             Some(race) => return Ok(Some(race)),
             None => {}
         }
