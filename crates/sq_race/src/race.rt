@@ -220,6 +220,13 @@ fn told_of(
     Ok(race)
 }
 
+fn form_at<'a>(r: &'a Resolved<'_>, number: u32) -> &'a Form
+    requires { number < length r.now.forms }
+    ensures { slice_get r.now.forms number ≡ Some result.now }
+{
+    &r.forms()[number as usize]
+}
+
 // The first race of the form with this number.
 fn race_in(
     alloc: Global,
@@ -231,7 +238,7 @@ fn race_in(
     requires maps { all.now ≡ spec.all_maps r.now.typed.now.tasks }
     ensures { IfOk result (λ race. spec.IsFirstOfForm r.now number race) }
 {
-    let form = &r.forms()[number as usize];
+    let form = form_at(r, number);
     let variant = variant_in(r, form);
     let maps = maps_for(all, r, form);
     let uses = r.uses(number);
