@@ -27,7 +27,8 @@ head_of first w r = next_head first w.name (elem_word w.elem) (shape_text w.exte
 abbrev pub array_of_text : Bool → Wanted → Rest → Result (List ℤ × Rest) Fault
 array_of_text first w r = head_of first w r >>= λ h. next_values (product w.extents) w.elem h.1
 
--- a fault, and the name of the array that is wanted at its place: behind the last array the last one's, and none where none is wanted
+-- a fault, and the name of the array that is wanted at its place: behind the last array the last one's, and none where
+-- none is wanted
 pub record DataFault : Type 0 where
   pub code : InputCode
   pub place : Place

@@ -11,8 +11,8 @@ pub fn values_are_those_of_their_array()
     ensures { (ws : List Wanted) (bytes : List ℕ) (vss : List (List ℤ)) → arrays_of ws bytes ≡ Ok vss → AllZip AreValuesOf ws vss }
 {}
 
-/// What is written of arrays, one after the other, is a file of which just these values are read, where it isn't longer than a file
-/// may be.
+/// What is written of arrays, one after the other, is a file of which just these values are read, where it isn't longer
+/// than a file may be.
 pub fn written_arrays_read_back()
     ensures { (ws : List Wanted) (vss : List (List ℤ)) → All HasHead ws → AllZip AreValuesOf ws vss → is_over (arrays_text ws vss) ≡ false
         → arrays_of ws (arrays_text ws vss) ≡ Ok vss }

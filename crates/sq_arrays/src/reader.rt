@@ -21,7 +21,8 @@ use sq_port::Files;
 #[cfg(test)]
 use sq_text::Place;
 
-/// Reads the arrays of one file, one after the other, through a window of fixed size. Each call is given the same files and the same name.
+/// Reads the arrays of one file, one after the other, through a window of fixed size. Each call is given the same files
+/// and the same name.
 /// After it has refused the file, or a read failed, it answers the same from then on and reads nothing.
 #[derive(Drop)]
 pub struct ArrayReader {
@@ -125,7 +126,8 @@ impl ArrayReader {
         }
     }
 
-    /// Reads the next values of the array into `into`, little-endian and one after the other. After a refusal `into` holds anything.
+    /// Reads the next values of the array into `into`, little-endian and one after the other. After a refusal `into`
+    /// holds anything.
     pub fn next_values<F: Files>(
         &mut self,
         files: &mut F,

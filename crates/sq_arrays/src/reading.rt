@@ -152,8 +152,8 @@ fn last_of(count: usize) -> Option<usize>
     if count == 0 { None } else { Some(count - 1) }
 }
 
-/// Reads all arrays of a file into the target, each into the array of its number. After a refusal the target's arrays hold anything;
-/// nothing else of the target changes.
+/// Reads all arrays of a file into the target, each into the array of its number. After a refusal the target's arrays
+/// hold anything; nothing else of the target changes.
 pub fn read_arrays<F: Files, T: ArrayTarget>(
     files: &mut F,
     name: &str,

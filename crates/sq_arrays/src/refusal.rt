@@ -20,7 +20,8 @@ pub enum InputEnd {
     Absent,
 }
 
-/// How the reading of all arrays of a file may end, and of a refusal the number of the array that is wanted at its place:
+/// How the reading of all arrays of a file may end, and of a refusal the number of the array that is wanted at its
+/// place:
 /// behind the last array the last one, and none where none is wanted.
 #[derive(Clone, Copy, Debug, PartialEq, Eq)]
 pub struct ArraysEnd {

@@ -6,7 +6,8 @@ use sq_text::Place;
 /// How many bytes of a file count.
 pub(crate) const LIMIT: u64 = 268_435_456;
 
-/// How many bytes of a file are held at a time. The reader lies on the stack, which may be 64 KiB small, and is moved there.
+/// How many bytes of a file are held at a time. The reader lies on the stack, which may be 64 KiB small, and is moved
+/// there.
 pub(crate) const ROOM: usize = 8192;
 
 /// What stands next in a file.

@@ -36,7 +36,8 @@ pub record IsUnrun (command : Command) (told : Option Content) (old now : BankSe
 abbrev pub trace_of : Command → List SmallEvent → List ℕ
 trace_of command events = []
 
--- opened, the data as read put into the plan's zeros, and from that start on the events of the plan's run performed, but for the rest
+-- opened, the data as read put into the plan's zeros, and from that start on the events of the plan's run performed,
+-- but for the rest
 pub record IsRun (command : Command) (told : Option Content) (trace : List ℕ) (rest : List SmallEvent) (old now : BankSeen) : Type 0 where
   pub plan : Plan
   pub opened : IsOpenFor command told plan old now
@@ -60,7 +61,8 @@ pub record IsPrinted (command : Command) (told : Option Content) (out trace : Li
   pub run : IsRun command told trace [] old now
   pub prints : Prints command.kind run.plan now out
 
--- a beginning of the run, whose trace was cut: the events but the last have their lines whole, and where events are left nothing was put of their lines
+-- a beginning of the run, whose trace was cut: the events but the last have their lines whole, and where events are
+-- left nothing was put of their lines
 pub record IsCutRun (command : Command) (told : Option Content) (got trace : List ℕ) (old now : BankSeen) : Type 0 where
   pub rest : List SmallEvent
   pub run : IsRun command told trace rest old now

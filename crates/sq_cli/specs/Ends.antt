@@ -39,7 +39,8 @@ IsQuiet AbsentStatus = ⊥
 IsQuiet FileFaultStatus = ⊥
 IsQuiet status = Unit {0}
 
--- the counts of the files don't fall; Absent and FileFault have their own that rose and leave the other, and every other end comes only where none rose
+-- the counts of the files don't fall; Absent and FileFault have their own that rose and leave the other, and every
+-- other end comes only where none rose
 pub record FileCauses (faults now_faults misses now_misses : ℕ) (status : Status) : Type 0 where
   pub faults_later : faults ≤ now_faults
   pub misses_later : misses ≤ now_misses

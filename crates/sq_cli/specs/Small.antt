@@ -99,7 +99,8 @@ pub record IsData (data_text : Option (List ℕ)) (plan : Plan) (stored : List �
   pub given : Given data_text plan.task.input plan.n
   pub is : stored ≡ flat_map (cell Int) given.values
 
--- the nodes that a run starts from: these bytes in the place of the `in` array, and zeros in all others of the plan's capacity
+-- the nodes that a run starts from: these bytes in the place of the `in` array, and zeros in all others of the plan's
+-- capacity
 abbrev pub start_of : Plan → List ℕ → List (List ℕ)
 start_of plan stored = put_node 0 plan.input_at stored (replicate plan.capacity 0 ∷ [])
 

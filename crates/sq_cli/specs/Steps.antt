@@ -157,7 +157,8 @@ abbrev pub IsDataRefusal : Option (List ℕ) → Plan → Refusal → Type 0
 IsDataRefusal given plan not_yet = ⊥
 IsDataRefusal given plan (fault its) = IsUnfit given plan its
 
--- the bytes that store the numbers of the data stand in the place of the `in` array, and all other bytes are as they were
+-- the bytes that store the numbers of the data stand in the place of the `in` array, and all other bytes are as they
+-- were
 pub record IsFilled (told : Option Content) (name : List ℕ) (plan : Plan) (old now : BankSeen) : Type 0 where
   pub stored : List ℕ
   pub size : length stored ≡ 4 * plan.n

@@ -34,7 +34,8 @@ StatusFor answer whole status = status ≡ status_for answer
 StatusFor answer cut_out status = status ≡ SinkFault
 StatusFor answer (cut_err got) status = status ≡ SinkFault
 
--- the counts of the files: an answer about a file has its own that rose and leaves the other, and every other answer leaves both
+-- the counts of the files: an answer about a file has its own that rose and leaves the other, and every other answer
+-- leaves both
 abbrev pub FilesFor : Answer → ℕ → ℕ → ℕ → ℕ → Type 0
 FilesFor (absent phase name) faults now_faults misses now_misses = Rose misses now_misses × (now_faults ≡ faults)
 FilesFor (file_fault phase name) faults now_faults misses now_misses = Rose faults now_faults × (now_misses ≡ misses)

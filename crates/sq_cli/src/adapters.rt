@@ -53,8 +53,8 @@ impl<R: rt::Files> Files for DiskFiles<'_, R> {
     }
 }
 
-/// The file that was read last stays open: from its first byte to its last it is read as it was when it was opened, and in
-/// order where reads go on from one another, so that pipes serve too.
+/// The file that was read last stays open: from its first byte to its last it is read as it was when it was opened, and
+/// in order where reads go on from one another, so that pipes serve too.
 #[derive(Drop)]
 struct DiskReader<'a, R: rt::Files> {
     disk: &'a R,

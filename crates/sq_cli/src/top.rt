@@ -29,8 +29,8 @@ pub fn sq_top<F: Files, S: Sink, E: Sink, B: Bank>(
     ensures usage { result ≡ Status.Usage → command_of (texts words.now) ≡ None }
     ensures no_command { command_of (texts words.now) ≡ None → (result ≡ Status.Usage) ⊎ (result ≡ Status.SinkFault) }
 
-    // Absent, FileFault and SinkFault come only where one count rose in this call and no other, and a sink's count rises at
-    // SinkFault alone.
+    // Absent, FileFault and SinkFault come only where one count rose in this call and no other, and a sink's count
+    // rises at SinkFault alone.
     ensures absent { result ≡ Status.Absent → Rose (F.misses files.old) (F.misses files.new) × (F.faults files.new ≡ F.faults files.old) }
     ensures file_fault { result ≡ Status.FileFault → Rose (F.faults files.old) (F.faults files.new) × (F.misses files.new ≡ F.misses files.old) }
     ensures sink_fault { result ≡ Status.SinkFault → (Rose (S.faults out.old) (S.faults out.new) × (E.faults err.new ≡ E.faults err.old)) ⊎ (Rose (E.faults err.old) (E.faults err.new) × (S.faults out.new ≡ S.faults out.old)) }
@@ -56,12 +56,12 @@ pub fn sq_top<F: Files, S: Sink, E: Sink, B: Bank>(
     ensures no_memory { result ≡ Status.NoMemory → B.seen bank.new ≡ B.seen bank.old }
 
     // What the files say is answered, or FileFault, SinkFault or want of memory in its place: so Refused comes exactly
-    // where a fault is reached, Absent where a file that isn't there is, Trapped where all is accepted and the source traps,
-    // and Done where it is accepted and doesn't.
+    // where a fault is reached, Absent where a file that isn't there is, Trapped where all is accepted and the source
+    // traps, and Done where it is accepted and doesn't.
     ensures only { IsOnly (command_of (texts words.now)) (F.content files.old) result }
 
-    // Where the files tell their content or the command has none, and no read and no put failed, the answer is the one that
-    // they say, or want of memory.
+    // Where the files tell their content or the command has none, and no read and no put failed, the answer is the one
+    // that they say, or want of memory.
     ensures complete { ¬ Rose (F.faults files.old) (F.faults files.new) → ¬ Rose (S.faults out.old) (S.faults out.new) → ¬ Rose (E.faults err.old) (E.faults err.new) → IsExplained (command_of (texts words.now)) (F.content files.old) result }
 {
     let ended = execute(alloc, words, files, out, err, bank);

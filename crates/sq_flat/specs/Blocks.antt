@@ -1,5 +1,5 @@
--- Arrays as bytes: their elements in order of coordinates, the last dimension fastest, each of w bytes. So an array is as many pieces of
--- one size as its first extent says, and each piece is an array of the other dimensions.
+-- Arrays as bytes: their elements in order of coordinates, the last dimension fastest, each of w bytes. So an array is
+-- as many pieces of one size as its first extent says, and each piece is an array of the other dimensions.
 use Rattle.std.specs.Prelude.{ℕ, zero, suc, ◌+◌, ◌-◌, ◌*◌, ◌<◌, ◌≤◌, List, [], ◌∷◌, ◌++◌, take, drop}
 use Rattle.std.specs.List.{flat_map}
 use Rattle.sq_text.specs.declared.place.Span.{Span}
@@ -41,7 +41,8 @@ with_bytes w (s ∷ spans) (n ∷ ns) block list =
     with_pieces (λ x. with_bytes w spans ns (piece (x - s.lo) (w * product (lengths spans)) block)) (w * product ns) (extent s) s.lo list
 with_bytes w _ _ block list = block
 
--- with the pieces of the numbers of a span replaced, each of which is an array of these extents, by those of a block of this size
+-- with the pieces of the numbers of a span replaced, each of which is an array of these extents, by those of a block of
+-- this size
 abbrev pub pieces_put : ℕ → List Span → List ℕ → (size from : ℕ) → List ℕ → Span → List ℕ → List ℕ
 pieces_put w spans ns size from block s list = with_pieces (λ x. with_bytes w spans ns (piece (x - s.lo) from block)) size (extent s) s.lo list
 

@@ -23,8 +23,8 @@ use sq_spec::{Reached, Resolved};
 use std::alloc::{AllocError, Global};
 use std::marker::Model;
 
-/// The arrays of the entry's parameters, one behind the other in one memory. Contracts see their shapes, and the bytes of
-/// each: its elements in order of coordinates, little-endian.
+/// The arrays of the entry's parameters, one behind the other in one memory. Contracts see their shapes, and the bytes
+/// of each: its elements in order of coordinates, little-endian.
 #[derive(Drop)]
 pub struct Arrays {
     views: Views,
@@ -81,8 +81,8 @@ fn put_in(views: &[View], array: usize, at: usize, part: &[u8], bytes: &mut [u8]
 }
 
 impl Arrays {
-    /// Zeros, in the shapes of the parameters of a program's entry. Also without memory where the arrays are more than 32
-    /// or have 2^32 bytes.
+    /// Zeros, in the shapes of the parameters of a program's entry. Also without memory where the arrays are more than
+    /// 32 or have 2^32 bytes.
     pub fn new(alloc: Global, r: &Resolved<'_>) -> Result<Arrays, AllocError>
         ensures shapes { IfOk result (λ a. a.shapes ≡ spec.entry_shapes r.now.typed.now.tasks r.now.mapping.now r.now.found.entries) }
         ensures zeros { IfOk result (λ a. a.bytes ≡ spec.zero_bytes a.shapes) }

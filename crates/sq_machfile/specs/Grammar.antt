@@ -36,7 +36,8 @@ node_text depth name capacity = record { depth = depth; name = name; capacity = 
 abbrev pub nodes_text : List tree.Word → List NodeText → NodesText
 nodes_text names nodes = record { names = names; nodes = nodes }
 
--- Of nodes the first list has those of this phrase and then those after it, which are the second. A node's depth is the number of nodes that it stands in.
+-- Of nodes the first list has those of this phrase and then those after it, which are the second. A node's depth is the
+-- number of nodes that it stands in.
 pub data Phrase : Type 0 where
   ALevel : LevelText → Phrase
   LevelsBelow : List Below → Phrase
@@ -45,7 +46,8 @@ pub data Phrase : Type 0 where
   SomeNodes : (depth : ℕ) → (nodes later : List NodeText) → Phrase
   AMachine : MachineText → Phrase
 
--- The first tokens begin with the phrase, and the second are left after it. A number `1` is any number token of that value.
+-- The first tokens begin with the phrase, and the second are left after it. A number `1` is any number token of that
+-- value.
 pub data Derives : Phrase → List Token → List Token → Type 0 where
   -- `level NAME { capacity NUMBER; }`
   a_level : {p q r s t u v : Place} {name : List ℕ} {capacity : ℕ} {i : List Token}

@@ -143,7 +143,8 @@ abbrev pub HasLevels : MachineText → Type 0
 HasLevels (Levels text) = Unit {0}
 HasLevels (Nodes text) = (i : ℕ) (n : Nested) → slice_get (nested text.nodes) i ≡ Some n → n.depth < length text.names
 
--- what is answered where a file is written as this machine: it, where no limit is broken; else the first fault; or memory ran out
+-- what is answered where a file is written as this machine: it, where no limit is broken; else the first fault; or
+-- memory ran out
 abbrev pub AnswersLimits : MachineText → Result Hierarchy Stop → Type 0
 AnswersLimits written (Ok machine) = IsFirst (LimitFault written) None × (machine ≡ machine_of written) × HasLevels written
 AnswersLimits written (Err (Refused f)) = IsFirst (LimitFault written) (Some f)
@@ -173,7 +174,8 @@ pub record BrokenLimit (text : List ℕ) (f : Fault) : Type 0 where
   pub writes : Writes text machine
   pub broken : LimitFault machine f
 
--- Every fault of a machine file: of the file and its tokens; where there is none, of the grammar; and where there is none, of the limits.
+-- Every fault of a machine file: of the file and its tokens; where there is none, of the grammar; and where there is
+-- none, of the limits.
 abbrev pub MachineFault : List ℕ → Fault → Type 0
 MachineFault text = InTurn (HasFault phase.Machine text) (InTurn (SyntaxFault text) (BrokenLimit text))
 

@@ -26,7 +26,8 @@ abbrev pub first_child : ℕ → ℕ → ℕ
 first_child children next = if children == 0 then 0 else next
 
 pub record AreArranged (nodes : List Node) : Type 0 where
-  -- The nodes are the root, and then the children of the first node, those of the second, and so on, each one level below its parent.
+  -- The nodes are the root, and then the children of the first node, those of the second, and so on, each one level
+  -- below its parent.
   pub children : map (λ n. n.level) nodes ≡ 0 ∷ flat_map below nodes
   -- the children of a node stand behind those of the nodes before it
   pub first : (i : ℕ) (n : Node) → slice_get nodes i ≡ Some n → n.first_child ≡ first_child n.children (1 + total children_of (take i nodes))

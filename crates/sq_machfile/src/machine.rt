@@ -17,7 +17,8 @@ use sqlite_items::Items;
 use std::alloc::{AllocError, Global};
 use std::marker::Model;
 
-/// A hierarchy of memories, within every limit. Contracts see it as its levels, root first, and its nodes, level by level from the left.
+/// A hierarchy of memories, within every limit. Contracts see it as its levels, root first, and its nodes, level by
+/// level from the left.
 #[derive(Debug, Drop)]
 pub struct Machine {
     levels: Items<Level>,

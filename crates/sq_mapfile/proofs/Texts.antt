@@ -1,4 +1,5 @@
--- What the grammar of mapping files gives: what is read is a text, a text is read, and every beginning of a text is one.
+-- What the grammar of mapping files gives: what is read is a text, a text is read, and every beginning of a text is
+-- one.
 use Rattle.sq_shapes.proofs.Places.{Format}
 use Rattle.sq_mapfile.specs.Grammar.{IsText}
 use Rattle.sq_mapfile.specs.Reading as reading

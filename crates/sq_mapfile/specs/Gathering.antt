@@ -1,4 +1,5 @@
--- What a variant requires, as the reader gathers it in sets: these names, with those of a part. No public clause speaks of it.
+-- What a variant requires, as the reader gathers it in sets: these names, with those of a part. No public clause speaks
+-- of it.
 use Rattle.std.specs.Prelude.{true, false, List, [], ◌∷◌, map}
 use Rattle.sq_ast.specs.declared.stmt.Stmt.{Stmt}
 use Rattle.sq_ast.specs.declared.stmt.Stmt.TheOpen.{Stmt-F}

@@ -52,7 +52,8 @@ pub data Phrase : Type 0 where
   Instances : Version → List InstanceText → Phrase
   AMapping : MappingText → Phrase
 
--- The first tokens begin with the phrase, and the second are left after it. A number `1` or `2` is any number token of that value.
+-- The first tokens begin with the phrase, and the second are left after it. A number `1` or `2` is any number token of
+-- that value.
 pub data Derives : Phrase → List Token → List Token → Type 0 where
   no_size : {i : List Token} → Derives (Sizes []) i i
   -- `NAME = NUMBER`

@@ -108,8 +108,8 @@ pub record RuleFault (program : Program) (levels : List Level) (text : List ℕ)
   pub writes : Writes text mapping
   pub broken : BreaksRule program levels mapping f
 
--- Every fault of a mapping file, for a program and a machine of these levels: of the file and its tokens; where there is none, of the grammar;
--- and where there is none, of the rules.
+-- Every fault of a mapping file, for a program and a machine of these levels: of the file and its tokens; where there
+-- is none, of the grammar; and where there is none, of the rules.
 abbrev pub MappingFault : Program → List Level → List ℕ → Fault → Type 0
 MappingFault program levels text = InTurn (HasFault phase.Mapping text) (InTurn (SyntaxFault text) (RuleFault program levels text))
 

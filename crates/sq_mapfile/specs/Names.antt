@@ -1,4 +1,5 @@
--- What the names of a mapping stand for: instances and items of the file, variants of the program, levels of the machine.
+-- What the names of a mapping stand for: instances and items of the file, variants of the program, levels of the
+-- machine.
 use Rattle.std.specs.Prelude.{ℕ, suc, Bool, true, false, ◌&&◌, nat_lt, List, [], ◌∷◌, ◌++◌, Option, Some, None, if◌then◌else◌, slice_get}
 use Rattle.std.specs.Option.{option_and_then}
 use Rattle.std.specs.List.{list_any}

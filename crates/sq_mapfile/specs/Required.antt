@@ -1,4 +1,5 @@
--- What a variant requires of its instances and of the entry: an instance for each task that it calls, a value for each tunable and each size.
+-- What a variant requires of its instances and of the entry: an instance for each task that it calls, a value for each
+-- tunable and each size.
 use Rattle.std.specs.Prelude.{Bool, true, false, List, [], ◌∷◌, ◌++◌, is_some, if◌then◌else◌}
 use Rattle.std.specs.List.{fold, flat_map}
 use Rattle.std.specs.Map.{lookup}

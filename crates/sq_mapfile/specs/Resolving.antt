@@ -1,4 +1,5 @@
--- The mapping that a file says, by functions. A name that stands for nothing has the index 0; so has one past 32 bits, as no file has so many.
+-- The mapping that a file says, by functions. A name that stands for nothing has the index 0; so has one past 32 bits,
+-- as no file has so many.
 use Rattle.std.specs.Prelude.{ℕ, ◌^◌, ltb, List, [], ◌∷◌, map, Option, Some, None, if◌then◌else◌}
 use Rattle.sq_machfile.specs.declared.level.Level.{Level}
 use Rattle.sq_mapfile.specs.declared.mapping.Route.{Route}

@@ -36,7 +36,8 @@ pub record RouteFits (mapping : Mapping) (caller : Instance) (route : Route) : T
   pub task : callee.task ≡ route.task
   pub level : (callee.level ≡ caller.level) ⊎ (callee.level ≡ suc caller.level)
 
--- an instance has a variant of the program, a level of the machine, a route for each task that it calls and a value for each tunable
+-- an instance has a variant of the program, a level of the machine, a route for each task that it calls and a value for
+-- each tunable
 pub record InstanceFits (program : Program) (levels : List Level) (mapping : Mapping) (x : Instance) : Type 0 where
   pub variant : Variant
   pub runs : Runs program x variant

@@ -69,8 +69,8 @@ impl Names {
     }
 }
 
-/// The first item of each name of a list. A name that is longer than all of them isn't looked for among them, so that a search costs
-/// no more than they do, however long the names are that are looked for.
+/// The first item of each name of a list. A name that is longer than all of them isn't looked for among them, so that a
+/// search costs no more than they do, however long the names are that are looked for.
 #[derive(Drop)]
 pub struct Given {
     first: FirstItems,

@@ -78,8 +78,8 @@ impl<'c, 'a> Graph<'c, 'a> {
         Ok(())
     }
 
-    /// Whether calls lead from one instance to another, in any number of steps. The set of those that are seen is also the queue
-    /// of those that are to be followed.
+    /// Whether calls lead from one instance to another, in any number of steps. The set of those that are seen is also
+    /// the queue of those that are to be followed.
     pub fn leads(&self, alloc: Global, from: usize, to: usize) -> Result<bool, AllocError>
         requires { from < length self.now.lists.items }
         ensures { IfOk result (λ r. IsTrue r ↔ Leads self.now.calls.now from to) }

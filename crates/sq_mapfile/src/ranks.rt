@@ -92,8 +92,8 @@ impl<'c, 'a> Ranked<'c, 'a> {
         self.is_on_cycle(alloc, call)
     }
 
-    /// The first call on a cycle. Calls that fall are on none, and calls behind what is found are passed over: so between components
-    /// and in the order of the text one search is made.
+    /// The first call on a cycle. Calls that fall are on none, and calls behind what is found are passed over: so
+    /// between components and in the order of the text one search is made.
     pub fn first_on_cycle(&self, alloc: Global) -> Result<Option<&'c Call<'a>>, AllocError>
         ensures { IfOk result (λ found. IsFirstOnCycle self.now.graph.calls.now self.now.graph.calls.now (option_copied found)) }
     {

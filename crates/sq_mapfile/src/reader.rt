@@ -68,11 +68,13 @@ pub fn read_mapping(
     // Ok exactly where no fault holds; else the first one.
     ensures answers { Answers (MappingFault typed.now machine.now.levels text.now) result }
     ensures found { IfOk result (λ mapping. StandsFor machine.now.levels text.now mapping) }
-    // Its entry, its instances and their routes and tunings are what the program and the machine want, and no calls lead back.
+    // Its entry, its instances and their routes and tunings are what the program and the machine want, and no calls
+    // lead back.
     ensures sound { IfOk result (λ mapping. Sound typed.now machine.now.levels mapping) }
     // A text stands for at most one mapping, which is found where no fault holds.
     ensures only { (mapping : Mapping) → StandsFor machine.now.levels text.now mapping → ((f : Fault) → MappingFault typed.now machine.now.levels text.now f → ⊥) → Gives result mapping }
-    // A text is read where what it stands for is sound, and no instance chooses twice how to spread or chooses as a leaf.
+    // A text is read where what it stands for is sound, and no instance chooses twice how to spread or chooses as a
+    // leaf.
     ensures given { (m : MappingText) (mapping : Mapping) → Writes text.now m → SpreadsOnce m → Resolves machine.now.levels m mapping → Sound typed.now machine.now.levels mapping → Gives result mapping }
 {
     let tokens = match tokens(alloc, Phase::Mapping, text) {

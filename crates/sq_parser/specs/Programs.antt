@@ -23,7 +23,8 @@ IsProgram ts p = grammar.StandsFor most_levels (symbols ts) p
 abbrev pub IsAt : Code → List Token → ℕ → Fault → Type 0
 IsAt code ts i f = (t : Token) × (slice_get ts i ≡ Some t) × (f ≡ record { phase = phase.Program; code = code; place = Some t.place; args = [] })
 
--- The first fault of tokens that stand for no program: the first with which no text begins, or the first that is allowed and opens a level too many.
+-- The first fault of tokens that stand for no program: the first with which no text begins, or the first that is
+-- allowed and opens a level too many.
 abbrev pub HasFault : List Token → Fault → Type 0
 HasFault ts f = ((i : ℕ) × grammar.SyntaxAt most_levels (symbols ts) i × IsAt Syntax ts i f) ⊎ ((i : ℕ) × grammar.TooDeepAt most_levels (symbols ts) i × IsAt TooDeep ts i f)
 

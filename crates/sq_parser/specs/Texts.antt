@@ -13,8 +13,8 @@ use Rattle.sq_parser.specs.declared.small.SmallEnd.TheVariants.{NoMemory}
 use Rattle.sq_parser.specs.Form.{kinds_of}
 use Rattle.sq_parser.specs.Small.{AreProgram, AreMachine, AreMapping}
 
--- The text is no longer than a file of the phase may be, and has these tokens and no comment: every comment begins with a `/`,
--- and no token of the small forms has one.
+-- The text is no longer than a file of the phase may be, and has these tokens and no comment: every comment begins with
+-- a `/`, and no token of the small forms has one.
 pub record IsPlain (phase : Phase) (text : List ℕ) (tokens : List Token) : Type 0 where
   pub fits : FitsFile phase text
   pub tokens_of : AreTokens text tokens

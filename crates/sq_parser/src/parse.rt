@@ -42,9 +42,9 @@ fn stop_of(alloc: Global, tokens: &[Token], error: ParseError) -> Stop
 
 /// The program that the tokens of a program file stand for.
 ///
-/// Refused with `Syntax` at the first token with which no program begins, or with `TooDeep` at the first that is allowed there
-/// and opens the 65th level of nesting. Each open bracket or brace, each unary operator whose operand isn't ended, and each
-/// body without braces is a level.
+/// Refused with `Syntax` at the first token with which no program begins, or with `TooDeep` at the first that is
+/// allowed there and opens the 65th level of nesting. Each open bracket or brace, each unary operator whose operand
+/// isn't ended, and each body without braces is a level.
 pub fn parse_program(alloc: Global, tokens: &TokenList) -> Result<Program, Stop>
     requires { HasEnd tokens.now }
     // The tokens stand for what is found.

@@ -1,5 +1,5 @@
-//! Programs that are read, and texts that stand for none. The trees are forgotten, since to prove here too that they can be dropped
-//! takes longer than all else in this crate.
+//! Programs that are read, and texts that stand for none. The trees are forgotten, since to prove here too that they
+//! can be dropped takes longer than all else in this crate.
 
 use super::*;
 use sq_ast::{Body, VariantKind};

@@ -31,7 +31,8 @@ abbrev pub longer : Place → ℕ → Option Spotted → Spotted
 longer p b None = record { place = p; bytes = b ∷ [] }
 longer p b (Some w) = record { place = w.place; bytes = w.bytes ++ b ∷ [] }
 
--- the words of the text from a place on, of which one may have begun: those of ` 7 0x` from 1:1 on are 7 at 1:2 and 0x at 1:4
+-- the words of the text from a place on, of which one may have begun: those of ` 7 0x` from 1:1 on are 7 at 1:2 and 0x
+-- at 1:4
 abbrev pub words_from : Place → Option Spotted → List ℕ → List Spotted
 words_from p begun [] = closed begun []
 words_from p begun (b ∷ bs) =

@@ -136,8 +136,8 @@ fn picks_of(alloc: Global, text: &[u8]) -> Result<Picks, Stop>
 
 const MOST_BYTES: usize = 268_435_456;
 
-/// The numbers of an order list in turn, each of 32 bits: words of digits with blanks between them. Else its first fault: a
-/// list of more than 268,435,456 bytes, or the first word that is no number or has more bits.
+/// The numbers of an order list in turn, each of 32 bits: words of digits with blanks between them. Else its first
+/// fault: a list of more than 268,435,456 bytes, or the first word that is no number or has more bits.
 #[tactic(auto, unfolding(crate::specs::OrderList::most_bytes))]
 pub fn read_picks(alloc: Global, text: &[u8]) -> Result<Picks, Stop>
     ensures { spec.Gives result (spec.order_list text.now) }

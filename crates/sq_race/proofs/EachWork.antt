@@ -107,7 +107,8 @@ has_params_of : (n : ℕ) (o : Option (List Param)) → typed.has_count n o ≡ 
 has_params_of n None h = absurd (cc h)
 has_params_of n (Some ps) h = (ps, refl)
 
--- frame: that of the walk, from which the work's differs in maps and depth; arrays: the extents of the form's arrays; uses: its accesses
+-- frame: that of the walk, from which the work's differs in maps and depth; arrays: the extents of the form's arrays;
+-- uses: its accesses
 module _ (forms : Forms) (frame : Frame) (m d : ℕ) (names : Names) (tasks : List Variant) (callee : ℕ → Found → Work) (elems : List Elem)
     (arrays : List (List ℕ)) (uses : List Use)
     (placed : (name : Bytes) (a : Array) → lookup (same_name name) names.arrays ≡ Some a → slice_get arrays a.number ≡ Some a.extents)

@@ -122,7 +122,8 @@ module _ (program : Program) (levels : List Level) (mapping : Mapping) (faultles
     (read : Sound program levels mapping) (r : Resolving) (through : resolved program.tasks mapping ≡ Ok r)
     (quiet : (k : ℕ) (f : Form) (uses : List Use) → slice_get r.forms k ≡ Some f → slice_get r.uses k ≡ Some uses
     → NoRaces (maps_by (variant_by program.tasks (slice_get mapping.instances f.instance))) uses) where
-  -- round a form of this number no more than n forms are called within one another, and what is known of it may differ in what its work doesn't depend on
+  -- round a form of this number no more than n forms are called within one another, and what is known of it may differ
+  -- in what its work doesn't depend on
   abbrev Free : ℕ → Type 0
   Free n = (k : ℕ) (form : Key × Found) → slice_get r.found k ≡ Some form → (f : Found) → f.instance ≡ form.1.instance → f.extents ≡ form.1.extents
       → IsRaceFree (form_work program.tasks mapping.instances r.found n k f)

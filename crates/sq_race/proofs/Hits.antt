@@ -71,7 +71,8 @@ use_there spot callee i (y ∷ xs) (suc j) x h =
 
 -- ---- the form's accesses, and the work of its callees
 
--- forms: all that are found; callee: the work of a form, by its number and by what is known of it; arrays: the extents of the form's arrays
+-- forms: all that are found; callee: the work of a form, by its number and by what is known of it; arrays: the extents
+-- of the form's arrays
 module _ (forms : Forms) (callee : ℕ → Found → Work) (arrays : List (List ℕ)) (uses : List Use) where
   -- the accesses of the call are among the form's, and its callee has no race, wherever it is found
   pub record GoodCall (c : Called) : Type 0 where

@@ -1,4 +1,5 @@
--- A variant of a program without a fault: its statements, and the modes of its parameters, which are those of its task's first variant.
+-- A variant of a program without a fault: its statements, and the modes of its parameters, which are those of its
+-- task's first variant.
 use Rattle.std.proofs.Common.{◌≡◌, ℕ, zero, suc, ◌+◌, ◌<◌, ◌==◌, ◌&&◌, nat_lt, not, if◌then◌else◌, Bool, true, false, List, [], ◌∷◌, map, length, Option, Some, None, refl, sym, ◌∙◌, ap, subst, arith}
 use Rattle.std.specs.Prelude.{slice_get}
 use Rattle.std.specs.Option.{option_map_or}

@@ -1,4 +1,5 @@
--- Without a race among the accesses of its forms the work of a program has none: the iterations of its maps may run one after another.
+-- Without a race among the accesses of its forms the work of a program has none: the iterations of its maps may run one
+-- after another.
 use Rattle.std.specs.Prelude.{None}
 use Rattle.sq_spec.specs.declared.resolved.Resolved.{Resolved}
 use Rattle.sq_spec.specs.Works.{work_of}

@@ -1,4 +1,5 @@
--- The race of a map that comes first: by the numbers of the maps round it, then by the later access, then by the earlier one.
+-- The race of a map that comes first: by the numbers of the maps round it, then by the later access, then by the
+-- earlier one.
 use Rattle.std.specs.Prelude.{◌≡◌, ℕ, ◌<◌, ◌≤◌, ◌⊎◌, true, List, slice_get, Option, Some, None, if◌then◌else◌}
 use Rattle.sq_spec.specs.declared.form.Use.{Use}
 use Rattle.sq_race.specs.Order.{at_most, round}

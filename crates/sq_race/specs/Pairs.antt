@@ -66,7 +66,8 @@ pub record AreMarked (m : Map) (uses : List Use) (from to : ℕ) (old new : List
   pub stay : Stay old new
   pub marked : (i : ℕ) (a : Use) → from ≤ i → i < to → slice_get uses i ≡ Some a → counts m a ≡ true → IsKept a new
 
--- Of the first `upto` accesses those from number `since` on are of the iteration of that one, and of those before it the ones of its run are marked.
+-- Of the first `upto` accesses those from number `since` on are of the iteration of that one, and of those before it
+-- the ones of its run are marked.
 pub record IsReady (m : Map) (uses : List Use) (upto since : ℕ) (marks : List Marks) : Type 0 where
   pub within : since ≤ upto - 1
   pub first : 0 < since → CountsAt m uses since

@@ -19,7 +19,8 @@ use Rattle.sq_race.specs.declared.map.Map.{Map}
 use Rattle.sq_race.specs.declared.race.Race.{Race}
 use Rattle.sq_race.specs.declared.forms.Found.{Found}
 
--- The access is one of the run of the map in which the maps round it have these numbers. Of a `mapreduce` the array that it reduces into is left aside.
+-- The access is one of the run of the map in which the maps round it have these numbers. Of a `mapreduce` the array
+-- that it reduces into is left aside.
 pub record IsOf (m : Map) (round : List ℕ) (u : Use) : Type 0 where
   pub call : (m.calls.lo ≤ u.call) × (u.call < m.calls.hi)
   pub kept : m.reduced ≡ Some u.arg → ⊥
@@ -101,7 +102,8 @@ pub record HoldsAt (r : Resolved) (form : ℕ) (round : List ℕ) (x : Found) : 
   pub uses_are : slice_get r.uses form ≡ Some uses
   pub holds : HoldsIn (maps_of_form r of) uses round x
 
--- what is told of a race: its form, the map's place, the array, and of each access the number of the map's iteration and the block
+-- what is told of a race: its form, the map's place, the array, and of each access the number of the map's iteration
+-- and the block
 abbrev pub told : ℕ → Option Variant → Map → Use → Use → Race
 told form variant m a b = record {
   form = form;

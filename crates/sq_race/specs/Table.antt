@@ -16,7 +16,8 @@ abbrev pub position_from : Bytes → List ArgUse → ℕ → Option ℕ
 position_from name [] i = None
 position_from name (a ∷ rest) i = if same_name (out-ArgUse a).name name then Some i else position_from name rest (i + 1)
 
--- What stands in a statement: how many calls; of a call where an argument of a name stands; and the maps, by the number of maps round it and of its first call, before further ones.
+-- What stands in a statement: how many calls; of a call where an argument of a name stands; and the maps, by the number
+-- of maps round it and of its first call, before further ones.
 pub record Portion : Type 0 where
   pub calls : ℕ
   pub position : Bytes → Option ℕ

@@ -1,4 +1,5 @@
--- A machine that reads a program token by token. It keeps what is still owed, and so knows what the tokens before a place allow.
+-- A machine that reads a program token by token. It keeps what is still owed, and so knows what the tokens before a
+-- place allow.
 use Rattle.std.proofs.Common.{ℕ, zero, suc, Bool, true, false, if◌then◌else◌, leb, List, [], ◌∷◌, length, Option, Some, None, Result, Ok, Err}
 use Rattle.std.specs.Prelude.{◌&&◌}
 use Rattle.sq_lexer.specs.declared.token.Sign.TheVariants as g
@@ -48,7 +49,8 @@ pub data Owed : Type 0 where
   Many : Item → Count → ℕ → Owed
   After : Turn → ℕ → Owed
 
--- What a token does to what is owed first: it is read at this level, and leaves more owed; or nothing is owed any more; or it is refused.
+-- What a token does to what is owed first: it is read at this level, and leaves more owed; or nothing is owed any more;
+-- or it is refused.
 pub data Move : Type 0 where
   Eat : ℕ → (List Owed → List Owed) → Move
   Skip : Move

@@ -1,4 +1,5 @@
--- What a parser gives is derived by the grammar at the levels that the machine counts, and the machine goes on after it as the parser does.
+-- What a parser gives is derived by the grammar at the levels that the machine counts, and the machine goes on after it
+-- as the parser does.
 use Rattle.std.proofs.Common.{◌≡◌, ℕ, zero, suc, ◌+◌, ◌≤◌, ◌<◌, Bool, true, false, if◌then◌else◌, leb, List, [], ◌∷◌, ◌++◌, length, Option, Some, None, Ok, Err, refl, sym, ◌∙◌, ap, subst, append_assoc, append-nil, arith}
 use Rattle.std.proofs.lemmas.Bool.{le-leb, lt-leb}
 use Rattle.sq_text.specs.declared.place.Place.{Place}

@@ -1,4 +1,5 @@
--- Classes of symbols that their first token tells apart, and one step of each parser, whatever number of levels is left.
+-- Classes of symbols that their first token tells apart, and one step of each parser, whatever number of levels is
+-- left.
 use Rattle.std.proofs.Common.{◌≡◌, ◌≢◌, ℕ, zero, suc, pos, Bool, true, false, if◌then◌else◌, List, [], ◌∷◌, length, ◌<◌, ◌-◌, Ok, Err, refl, ◌∙◌, ap, subst, rules, arith}
 use denote.Enum.Bare.{same_true, true_same}
 use Rattle.sq_text.specs.declared.place.Place.{Place}

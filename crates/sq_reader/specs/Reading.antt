@@ -170,7 +170,8 @@ abbrev pub Reads : {A : Type 0} → Outcome A → Result A ParseError → List T
 Reads outcome (Ok a) new = outcome ≡ Ok (a, symbols new)
 Reads outcome (Err e) new = e ≢ OutOfMemory → outcome ≡ Err e
 
--- Parts that begin so, one after another. The number bounds the turns; each turn takes a token, so the count of tokens is enough.
+-- Parts that begin so, one after another. The number bounds the turns; each turn takes a token, so the count of tokens
+-- is enough.
 unfoldable pub many_from : {A : Type 0} → (Class → Bool) → Parser A → ℕ → List A → Parser (List A)
 many_from begins one zero found = pure found
 many_from begins one (suc n) found = λ i. if begins (class i)

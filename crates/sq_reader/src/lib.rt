@@ -1,5 +1,5 @@
-//! Reads a program from its tokens, as a function on lists of symbols says, and what is proved of that function: it gives just what
-//! the grammar derives, and stops at the first token that is at fault.
+//! Reads a program from its tokens, as a function on lists of symbols says, and what is proved of that function: it
+//! gives just what the grammar derives, and stops at the first token that is at fault.
 #![tactic(auto)]
 
 mod class;

@@ -35,8 +35,8 @@ abbrev pub filling : (outer inner : ℕ) → Plan
 filling outer inner =
     planned (record { level = 0; capacity = 16; first_child = 0; children = 0 } ∷ []) (t.Loop (n.Const (pos outer)) (t.Loop (n.Const (pos inner)) (fill (n.Const (pos 0)) (pos 7))))
 
--- Beside one another: the fill 1 or 2, three fills spread over two children, and two fills in turn. Those in the spread and
--- in the loop begin at the bytes of their numbers.
+-- Beside one another: the fill 1 or 2, three fills spread over two children, and two fills in turn. Those in the spread
+-- and in the loop begin at the bytes of their numbers.
 abbrev pub mixed : SpreadRule → (pick : ℕ) → Plan
 mixed rule pick =
     planned nodes (t.Par (t.Case (n.Const (pos pick)) (fill (n.Const (pos 0)) (pos 1) ∷ fill (n.Const (pos 0)) (pos 2) ∷ []) ∷ t.Spread (n.Const (pos 3)) rule (fill (n.Index 0) (pos 3)) ∷ t.Loop (n.Const (pos 2)) (t.Seq (t.Skip ∷ fill (n.Index 0) (pos 4) ∷ [])) ∷ []))

@@ -10,7 +10,8 @@ use Rattle.sq_shapes.specs.declared.cursor.ReadError.TheVariants.{Syntax}
 use Rattle.sq_shapes.specs.Patterns.{fits}
 use Rattle.sq_shapes.specs.Reading.{Outcome, front, fitting, all}
 
--- What is owed: a token, or what the next token decides at a point of the grammar. A list that ends with a token owes it in its point.
+-- What is owed: a token, or what the next token decides at a point of the grammar. A list that ends with a token owes
+-- it in its point.
 pub data Owed (P : Type 0) : Type 0 where
   Want : Pattern → Owed P
   At : P → Owed P

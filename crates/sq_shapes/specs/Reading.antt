@@ -63,7 +63,8 @@ all patterns = λ i. front (length patterns) (fitting patterns i) i
 abbrev pub choice : {A : Type 0} → Pattern → Reader A → Reader A → Reader A
 choice pattern p q = λ i. if sees pattern i then p i else q i
 
--- Up to a token of this pattern, one after another. The number bounds the turns, and each turn takes a token, so the count of tokens is enough.
+-- Up to a token of this pattern, one after another. The number bounds the turns, and each turn takes a token, so the
+-- count of tokens is enough.
 unfoldable pub until : {A : Type 0} → Pattern → Reader A → ℕ → List A → Reader (List A)
 until close p zero found = pure found
 until close p (suc n) found = λ i. if sees close i then Ok (found, i)

@@ -11,7 +11,8 @@ use sq_text::{Phase, Stop};
 use sq_types::{Typed, check};
 use std::alloc::Global;
 
-/// The program that a text is, where it breaks no rule; else its first fault, of the tokens before the grammar, and of that before names.
+/// The program that a text is, where it breaks no rule; else its first fault, of the tokens before the grammar, and of
+/// that before names.
 pub fn read_program(alloc: Global, text: &[u8]) -> Result<Typed, Stop>
     ensures found { IfOk result (λ program. IsReadFrom text.now program) }
     ensures refused { IfRefused result (λ its. IsFault text.now its) }

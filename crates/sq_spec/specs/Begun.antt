@@ -86,7 +86,8 @@ manner_of elems names (Reduce op array) = manner.Gathering (reduction_of elems o
 
 -- ---- statements
 
--- how many calls stand in it, and its tables, by the number of its first call, the array that is reduced into and the maps round it
+-- how many calls stand in it, and its tables, by the number of its first call, the array that is reduced into and the
+-- maps round it
 pub record Tabled : Type 0 where
   pub calls : ℕ
   pub table : ℕ → Option Bytes → List (List Range) → Begun

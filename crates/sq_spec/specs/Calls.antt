@@ -120,7 +120,8 @@ key_of form call instance in_place extents = form ∷ call ∷ instance ∷ map 
 abbrev pub extents_of : List Argument → List (List ℕ)
 extents_of xs = map (λ x. lengths x.rect) xs
 
--- where a call stands in its form: its number, the outermost map round it, the array that is reduced into, and the iterations
+-- where a call stands in its form: its number, the outermost map round it, the array that is reduced into, and the
+-- iterations
 pub record Spot : Type 0 where
   pub call : ℕ
   pub outer : Option Place

@@ -1,4 +1,5 @@
--- What names stand for in a form: each name that is known at a place of a program without a fault stands for something there.
+-- What names stand for in a form: each name that is known at a place of a program without a fault stands for something
+-- there.
 use Rattle.std.specs.Prelude.{◌≡◌, ℕ, suc, ◌<◌, ℤ, true, List, [], Option, Some, Ok, IsSome}
 use Rattle.std.specs.Map.{lookup}
 use Rattle.sq_text.specs.Names.{Bytes, same_name}
@@ -16,7 +17,8 @@ use Rattle.sq_spec.specs.Args.{Names}
 use Rattle.sq_spec.specs.Stmts.{bounds, times, in_iteration}
 use Rattle.sq_spec.specs.Decls.{Scope, empty_scope, params_from, all_declared}
 
--- a number for a size, a tunable number or a variable, a list for a tunable list, an array, or the blocks of a block set
+-- a number for a size, a tunable number or a variable, a list for a tunable list, an array, or the blocks of a block
+-- set
 abbrev pub IsThere : Names → Numbers → Bytes → Kind → Type 0
 IsThere names numbers name kind.Size = IsSome (lookup (same_name name) numbers)
 IsThere names numbers name kind.Scalar = IsSome (lookup (same_name name) numbers)

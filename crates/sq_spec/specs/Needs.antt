@@ -1,14 +1,17 @@
--- At which nodes of a machine forms run, and how many bytes a node needs. A form's end is what its buffers take, with those of its caller
--- where that runs at the same level; a node needs the greatest end of the forms that run at it.
+-- At which nodes of a machine forms run, and how many bytes a node needs. A form's end is what its buffers take, with
+-- those of its caller where that runs at the same level; a node needs the greatest end of the forms that run at it.
 --
--- A root h has two children, a and b. Form 0 at h has two arrays of ten ints: its end is 80. A `mappar` over pieces of four ints makes a
--- lower call for each, on one piece of both arrays. Pieces 0 and 1 are whole, so their calls reach form 1, whose end is 16 + 16; piece 2 is
--- ragged, so its call reaches form 2, whose end is 8 + 8.
--- - Cyclic, iterations 0 and 2 stand at a, and 1 at b: form 1 runs at a and b, form 2 at a. So h needs 80, a needs 32 and b needs 32.
--- - Blocked, iterations 0 and 1 stand at a, and 2 at b: form 1 runs at a, form 2 at b. So h needs 80, a needs 32 and b needs 16.
--- - As a `mapseq` it isn't spread, and every call runs at child 0: forms 1 and 2 run at a. So h needs 80, a needs 32 and b needs 0.
--- A call of form 0 at its own level, whose first argument of ten ints is in place and whose second isn't, reaches a form that runs at h too,
--- and ends at 80 + 40: with it h needs 120.
+-- A root h has two children, a and b. Form 0 at h has two arrays of ten ints: its end is 80. A `mappar` over pieces of
+-- four ints makes a lower call for each, on one piece of both arrays. Pieces 0 and 1 are whole, so their calls reach
+-- form 1, whose end is 16 + 16; piece 2 is ragged, so its call reaches form 2, whose end is 8 + 8.
+-- - Cyclic, iterations 0 and 2 stand at a, and 1 at b: form 1 runs at a and b, form 2 at a. So h needs 80, a needs 32
+--   and b needs 32.
+-- - Blocked, iterations 0 and 1 stand at a, and 2 at b: form 1 runs at a, form 2 at b. So h needs 80, a needs 32 and
+--   b needs 16.
+-- - As a `mapseq` it isn't spread, and every call runs at child 0: forms 1 and 2 run at a. So h needs 80, a needs 32
+--   and b needs 0.
+-- A call of form 0 at its own level, whose first argument of ten ints is in place and whose second isn't, reaches a
+-- form that runs at h too, and ends at 80 + 40: with it h needs 120.
 use Rattle.std.specs.Prelude.{◌≡◌, ◌⊎◌, ℕ, suc, ◌+◌, ◌*◌, ◌/◌, ◌≤◌, Bool, true, false, not, ◌&&◌, ◌||◌, ◌==◌, List, [], ◌∷◌, ◌++◌, map, Option, Some, None, is_none, Ok, Err, if◌then◌else◌, slice_get}
 use Rattle.std.specs.List.{flat_map, range_with_len}
 use Rattle.sq_num.specs.declared.Elem.{Elem}
@@ -112,14 +115,16 @@ pub record Turn : Type 0 where
   pub count : ℕ
   pub t : ℕ
 
--- A call: its number, the extents of its arguments, which of them are in place, and the iteration of the spread map round it.
+-- A call: its number, the extents of its arguments, which of them are in place, and the iteration of the spread map
+-- round it.
 pub record Reached : Type 0 where
   pub call : ℕ
   pub extents : List (List ℕ)
   pub in_place : List Bool
   pub turn : Option Turn
 
--- A part of a form's statements: how many calls stand in it, whether a lower call and whether a same-level call does, and its calls as they would run.
+-- A part of a form's statements: how many calls stand in it, whether a lower call and whether a same-level call does,
+-- and its calls as they would run.
 pub record Reaching : Type 0 where
   pub calls : ℕ
   pub lower : Frame → Bool
@@ -163,7 +168,8 @@ is_beside Par = true
 is_beside Seq = false
 is_beside (Reduce op array) = true
 
--- A `mappar` or `mapreduce` is spread where it stands in no other spread map of its form, and has in its body a lower call and no same-level call.
+-- A `mappar` or `mapreduce` is spread where it stands in no other spread map of its form, and has in its body a lower
+-- call and no same-level call.
 abbrev pub is_spread : MapKind → Option Turn → Bool → Bool → Bool
 is_spread kind turn lower same = is_beside kind && (is_none turn && (lower && not same))
 

@@ -63,7 +63,8 @@ AreExamined names numbers reduced params i (a ∷ rest) [] = ⊥
 AreExamined names numbers reduced params i (a ∷ rest) (x ∷ xs) =
     (argument names numbers reduced (slice_get params i) a ≡ Ok x) × AreExamined names numbers reduced params (i + 1) rest xs
 
--- A call of this text that is reached: an instance serves it, its arguments are there, and none of its tests is at fault.
+-- A call of this text that is reached: an instance serves it, its arguments are there, and none of its tests is at
+-- fault.
 pub record IsReached (frame : Frame) (names : Names) (text : List Call) (c : Called) : Type 0 where
   pub call : Call
   pub position : ℕ
@@ -105,7 +106,8 @@ UsesAreInOrder = (steps : List Step) (s t : State) (more : Forms) → run s step
 
 -- ---- callees
 
--- the form is the one that the call reaches: of the same call of the same caller, the same instance and level, with the same flags and extents
+-- the form is the one that the call reaches: of the same call of the same caller, the same instance and level, with the
+-- same flags and extents
 pub record IsCallee (c : Called) (form : Key × Found) : Type 0 where
   pub key : form.0 ≡ c.key
   pub caller : form.1.caller ≡ c.form.caller
@@ -129,8 +131,9 @@ AsManyForms = (variants : List Variant) (mapping : Mapping) (r : Resolving) → 
 abbrev pub steps_of : List Variant → List Instance → Instance → Variant → ℕ → Found → Scope → List Step
 steps_of variants instances x v k f scope = body_steps v.body (frame_in variants instances x k f) scope
 
--- A form of the answer whose variant and parameters are known: its declarations went through, its locals are theirs, and its accesses are
--- those of its calls in order. Each call is reached, and the form that its accesses name is its callee.
+-- A form of the answer whose variant and parameters are known: its declarations went through, its locals are theirs,
+-- and its accesses are those of its calls in order. Each call is reached, and the form that its accesses name is its
+-- callee.
 pub record Ran (variants : List Variant) (instances : List Instance) (r : Resolving) (k : ℕ) (f : Found) (x : Instance) (v : Variant) (begun : Scope) : Type 0 where
   pub scope : Scope
   pub declared : all_declared x.tunings begun v.decls ≡ Ok scope

@@ -1,5 +1,5 @@
--- What doesn't occur under a program without a fault and a mapping that was read: a call without an instance, a form without a variant,
--- parameters whose extents don't fit.
+-- What doesn't occur under a program without a fault and a mapping that was read: a call without an instance, a form
+-- without a variant, parameters whose extents don't fit.
 use Rattle.std.specs.Prelude.{◌≡◌, ◌⊎◌, ℕ, suc, true, List, length, Some, Ok, slice_get}
 use Rattle.sq_ast.specs.declared.stmt.Call.{Call}
 use Rattle.sq_ast.specs.declared.program.Program.{Program}

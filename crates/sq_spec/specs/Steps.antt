@@ -17,7 +17,8 @@ Key = List ℕ
 abbrev pub Forms : Type 0
 Forms = List (Key × Found)
 
--- A call that was examined: the form that it reaches, its accesses where that form has a number, and the fault of one form too many.
+-- A call that was examined: the form that it reaches, its accesses where that form has a number, and the fault of one
+-- form too many.
 pub record Called : Type 0 where
   pub key : Key
   pub form : Found

@@ -13,7 +13,8 @@ use Rattle.sq_spec.specs.declared.form.Use.{Use}
 use Rattle.sq_spec.specs.Steps.{Forms}
 use Rattle.sq_spec.specs.Resolving.{resolved}
 
--- what the walk over the forms of a program gives, under a mapping that was read with it and with a machine of these levels
+-- what the walk over the forms of a program gives, under a mapping that was read with it and with a machine of these
+-- levels
 pub record IsWalked (program : Program) (levels : List Level) (mapping : Mapping) (found : Forms) (forms : List Form) (uses : List (List Use)) : Type 0 where
   pub formed : is_formed program ≡ true
   pub faultless : is_sound program ≡ true

@@ -60,7 +60,8 @@ map_work manner.InTurn place count work = Each count work
 map_work manner.AtOnce place count work = AtOnce place count work
 map_work (manner.Gathering r) place count work = Gathers r place count work
 
--- forms: all that were found; callee: the work of a form, by its number and by what is known of it; elems: the element types of the form's arrays
+-- forms: all that were found; callee: the work of a form, by its number and by what is known of it; elems: the element
+-- types of the form's arrays
 module _ (forms : Forms) (callee : ℕ → Found → Work) (elems : List Elem) where
   abbrev pub reached_work : Frame → Callee → Called → List Argument → Work
   reached_work frame c reached xs =
@@ -142,7 +143,8 @@ entry_arguments [] i extents = []
 entry_arguments (p ∷ ps) i extents =
     record { mode = p.mode; is_reduced = false; array = i; rect = whole (extents_at (slice_get extents i)) } ∷ entry_arguments ps (i + 1) extents
 
--- the entry is the first form; a call leads to a form behind its caller's, so there are no longer chains than there are forms
+-- the entry is the first form; a call leads to a form behind its caller's, so there are no longer chains than there are
+-- forms
 abbrev pub entry_work : List Variant → Mapping → Forms → Option (Key × Found) → Work
 entry_work variants mapping forms None = Nothing
 entry_work variants mapping forms (Some entry) =
@@ -156,7 +158,7 @@ abbrev pub found_in : Value Resolving → Forms
 found_in (Ok r) = r.found
 found_in (Err fault) = []
 
--- The meaning of a program: from its input arrays, by the numbers of the parameters, the arrays after it, in which the `out` and `inout` ones are
--- its outputs; or the first trap with its path.
+-- The meaning of a program: from its input arrays, by the numbers of the parameters, the arrays after it, in which the
+-- `out` and `inout` ones are its outputs; or the first trap with its path.
 abbrev pub flat : Program → Mapping → Arrays → Outcome
 flat program mapping = meaning (work_of program.tasks mapping (found_in (resolved program.tasks mapping)))

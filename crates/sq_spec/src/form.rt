@@ -66,7 +66,8 @@ pub struct Use {
     pub call: u32,
     /// The argument's position in the call.
     pub arg: u32,
-    /// The numbers of the iterations of the maps round the call in its own form, outermost first. A map of several ranges has one number.
+    /// The numbers of the iterations of the maps round the call in its own form, outermost first. A map of several
+    /// ranges has one number.
     pub iterations: Items<u32>,
     /// In text order of the form's parameters and then its locals.
     pub array: u32,

@@ -91,8 +91,8 @@ pub fn uses_are_in_order()
     ensures { UsesAreInOrder }
 {}
 
-/// Each form of the answer ran: its locals are those of its declarations, its accesses those of its calls in order, each
-/// call is reached, and the form that its accesses name is its callee.
+/// Each form of the answer ran: its locals are those of its declarations, its accesses those of its calls in order,
+/// each call is reached, and the form that its accesses name is its callee.
 pub fn forms_ran()
     ensures { FormsRan }
 {}
@@ -123,8 +123,8 @@ pub fn known_names_stand()
     ensures serve { StandingNamesServe }
 {}
 
-/// A node needs one number of bytes, which is 0 where no form runs; the entry runs at the root alone; and each form runs
-/// at nodes of its level. The calls by which that is said are those that the walk reached.
+/// A node needs one number of bytes, which is 0 where no form runs; the entry runs at the root alone; and each form
+/// runs at nodes of its level. The calls by which that is said are those that the walk reached.
 pub fn needs_are_sound()
     ensures one { NeedIsOne }
     ensures none { NoFormNoNeed }

@@ -40,8 +40,8 @@ pub fn tables_mean_the_statements()
     ensures { TablesMeanStatements }
 {}
 
-/// Without a race the tables of a program's forms mean what the program means, with the iterations of all maps one after
-/// another.
+/// Without a race the tables of a program's forms mean what the program means, with the iterations of all maps one
+/// after another.
 #[tactic(auto, using(crate::proofs::NumberedForms::tables_mean_program))]
 pub fn tables_mean_the_program()
     ensures { TablesMeanProgram }

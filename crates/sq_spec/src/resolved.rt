@@ -29,7 +29,8 @@ use sq_types::Typed;
 use sqlite_items::{Items, at};
 use std::alloc::{AllocError, Global};
 
-/// A program, its mapping and its machine, with the forms in the order in which they are found, and the accesses of each.
+/// A program, its mapping and its machine, with the forms in the order in which they are found, and the accesses of
+/// each.
 #[derive(Drop)]
 pub struct Resolved<'a> {
     typed: &'a Typed,

@@ -1,4 +1,5 @@
-//! How many calls and maps stand in the maps of a variant, so that calls have their numbers without being counted again.
+//! How many calls and maps stand in the maps of a variant, so that calls have their numbers without being counted
+//! again.
 
 ghost use Rattle.std.specs.Prelude.{◌≡◌, ◌+◌, ◌++◌, drop, length, map, IfOk, OnOk};
 ghost use Rattle.sq_spec.specs.Faults.{NoRefusal};

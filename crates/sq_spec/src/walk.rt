@@ -15,7 +15,8 @@ const MOST_USES: u32 = 1_048_576;
 
 const MOST_FORMS: usize = 4_096;
 
-/// How many more uses the outermost map may have, the forms by what makes them one, and the accesses of the form that is walked.
+/// How many more uses the outermost map may have, the forms by what makes them one, and the accesses of the form that
+/// is walked.
 #[derive(Drop)]
 pub struct Walk {
     pub left: u32,

@@ -19,8 +19,8 @@ pub record Carried : Type 0 where
   pub down : ℕ
   pub up : ℕ
 
--- how often it was opened, its plan once it is open, the bytes of each node from the root on, the events performed, where they are told, how many there
--- were of each kind, and what each edge carried, from the root's on
+-- how often it was opened, its plan once it is open, the bytes of each node from the root on, the events performed,
+-- where they are told, how many there were of each kind, and what each edge carried, from the root's on
 pub record BankSeen : Type 0 where
   pub openings : ℕ
   pub plan : Option Plan

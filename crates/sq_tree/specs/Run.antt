@@ -26,7 +26,8 @@ abbrev pub counted_all : List SmallEvent → Counts → Counts
 counted_all [] counts = counts
 counted_all (event ∷ rest) counts = counted_all rest (counted event counts)
 
--- since the bank was opened these events and no others were performed, one after another from this start on, and nothing else was done to the nodes
+-- since the bank was opened these events and no others were performed, one after another from this start on, and
+-- nothing else was done to the nodes
 pub record HasPerformed (plan : Plan) (start : List (List ℕ)) (performed : List SmallEvent) (now : BankSeen) : Type 0 where
   pub events : (told : List SmallEvent) → now.events ≡ Some told → told ≡ performed
   pub counts : now.counts ≡ counted_all performed (record { fills = 0; leaves = 0 })

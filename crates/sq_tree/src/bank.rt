@@ -8,10 +8,11 @@ use sq_num::Elem;
 use std::alloc::Global;
 use std::rc::Rc;
 
-/// Memories, one for each node of a machine, and the events that are performed on them. Contracts see what it holds and what it has
-/// performed since it was opened; of its bytes nothing changes but what a call names.
+/// Memories, one for each node of a machine, and the events that are performed on them. Contracts see what it holds and
+/// what it has performed since it was opened; of its bytes nothing changes but what a call names.
 pub trait Bank {
-    /// How often it was opened, its plan, the bytes of its nodes, the events performed, where they are told, their counts, and what each edge carried.
+    /// How often it was opened, its plan, the bytes of its nodes, the events performed, where they are told, their
+    /// counts, and what each edge carried.
     ghost seen: { Self → BankSeen };
 
     /// Opens the bank, or opens it again: the plan's capacity in zero bytes, and nothing performed.

@@ -80,8 +80,9 @@ const PAIR_MAP: &[u8] =
 
 const LEAF_MAP: &[u8] = b"mapping 1; entry top(N = 8); instance top = t::leaf @ host { }";
 
-// A fault of each code but the limits; and of two faults the one that the walk meets first: an argument before Shape, Shape before
-// Alias, the entry's parameters before a declaration, a bound before the body, a caller's calls before a callee's declarations.
+// A fault of each code but the limits; and of two faults the one that the walk meets first: an argument before Shape,
+// Shape before Alias, the entry's parameters before a declaration, a bound before the body, a caller's calls before a
+// callee's declarations.
 const CASES: [Case; 14] = [
     (
         b"task t::inner(inout int A[N]) { tunable int U;
@@ -345,7 +346,8 @@ const ONE_CALL: &[u8] = b"task t::inner(inout int A[N]) { t(A); } task t::leaf(i
 const TWO_CALLS: &[u8] =
     b"task t::inner(inout int A[N]) { t(A); t(A); } task t::leaf(inout int A[N]) { }";
 
-// 64 forms may stand round a call, so that 65 may follow one another; and 4,095 forms are found before the next level has too many.
+// 64 forms may stand round a call, so that 65 may follow one another; and 4,095 forms are found before the next level
+// has too many.
 #[test]
 fn forms_are_limited(rt: HostRuntime) -> Result<(), Fail> {
     let deepest = chain(rt.alloc(), 65)?;

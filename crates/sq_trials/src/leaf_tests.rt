@@ -9,7 +9,8 @@ use sq_types::Typed;
 use std::alloc::{AllocError, Global};
 use std::process::Abort;
 
-// The text, whose last variant is run; sizes and tunables; the arrays, which are zeros where no elements are given; and what comes of it:
+// The text, whose last variant is run; sizes and tunables; the arrays, which are zeros where no elements are given; and
+// what comes of it:
 // the elements of all arrays, or the trap with its line and column.
 type Case = (&'static str, &'static str, &'static str, &'static str);
 

@@ -39,7 +39,8 @@ type Told = (
 type Case = (&'static [u8], &'static [u8], Option<Told>);
 
 const CASES: [Case; 16] = [
-    // Blocks that only touch; one block read by all iterations; two calls of one iteration; iterations one after another.
+    // Blocks that only touch; one block read by all iterations; two calls of one iteration; iterations one after
+    // another.
     (
         b"task t::inner(inout int A[N]) { blkset Ab = rchop(A, 2);
   mappar (int i = 0 to 4) { u(Ab[i]); u(Ab[i]); } }

@@ -25,8 +25,8 @@ const HEAD: &str =
 
 const LEAF: &str = "task u::leaf(in int X[K], inout int Y[L]) { }";
 
-/// A map of a program: how many are round it, its calls, whether it reduces into the second argument of its one call, and
-/// its line.
+/// A map of a program: how many are round it, its calls, whether it reduces into the second argument of its one call,
+/// and its line.
 #[derive(Clone, Copy)]
 struct MapRow {
     depth: usize,

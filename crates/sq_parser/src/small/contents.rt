@@ -1,5 +1,5 @@
-//! What the tokens of a small form stand for. Each function takes the names from the places where the form has them, and then
-//! compares all tokens with the form of these names.
+//! What the tokens of a small form stand for. Each function takes the names from the places where the form has them,
+//! and then compares all tokens with the form of these names.
 
 ghost use Rattle.std.specs.Prelude.{◌≡◌, ℕ, IfOk};
 ghost use Rattle.sq_parser.specs.Form.{kinds_of};
