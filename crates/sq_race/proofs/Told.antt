@@ -1,16 +1,43 @@
 -- The first race of all forms.
-use Rattle.std.proofs.Common.{◌≡◌, ℕ, ◌+◌, ◌<◌, ◌≤◌, arith, refl, sym, ◌∙◌, subst, List, length, Option, Some, None, slice_get, inl, inr}
+use Rattle.std.proofs.Common.{◌≡◌, ℕ, ◌+◌, ◌<◌, ◌≤◌, zero, suc, arith, refl, sym, ◌∙◌, ap, subst, List, [], ◌∷◌, length, Option, Some, None, slice_get, inl, inr}
 use Rattle.std.proofs.lemmas.Bool.{cases_eq, cases_lt}
 use Rattle.std.proofs.lemmas.Option.{slice_get_within}
 use Rattle.sq_ast.specs.declared.program.Variant.{Variant}
+use Rattle.sq_mapfile.specs.declared.mapping.Instance.{Instance}
+use Rattle.sq_spec.specs.Tables.{at_index}
 use Rattle.sq_spec.specs.declared.form.Form.{Form}
 use Rattle.sq_spec.specs.declared.form.Use.{Use}
 use Rattle.sq_spec.specs.declared.resolved.Resolved.{Resolved}
-use Rattle.sq_race.specs.Race.{HoldsIn, HoldsAt, IsFirstIn, IsFirstOf, IsFirstRace, IsFirstOfForm, NoneOfForms, IsTold, maps_of_form, variant_in}
+use Rattle.sq_race.specs.Race.{HoldsIn, HoldsAt, IsFirstIn, IsFirstOf, IsFirstRace, IsFirstOfForm, NoneOfForms, IsTold, maps_of_form, variant_in, variant_by, number_by, number_in, maps_by, all_maps, listed}
 use Rattle.sq_race.specs.declared.map.Map.{Map}
 use Rattle.sq_race.specs.declared.race.Race.{Race}
 use Rattle.sq_race.specs.declared.forms.Found.{Found}
 use Rattle.sq_race.proofs.Steps.{one_there}
+
+-- ---- a form's variant, by its number
+
+by_number : (variants : List Variant) (x : Option Instance) → variant_by variants x ≡ at_index variants (number_by variants x)
+by_number variants None = refl
+by_number variants (Some x) = refl
+
+maps_there : (variants : List Variant) (n : ℕ) → listed (slice_get (all_maps variants) n) ≡ maps_by (slice_get variants n)
+maps_there [] n = refl
+maps_there (v ∷ variants) zero = refl
+maps_there (v ∷ variants) (suc n) = maps_there variants n
+
+maps_by_number : (variants : List Variant) (n : Option ℕ) → listed (at_index (all_maps variants) n) ≡ maps_by (at_index variants n)
+maps_by_number variants None = refl
+maps_by_number variants (Some n) = maps_there variants n
+
+pub its_variant : (r : Resolved) (f : Form) (n : Option ℕ) (v : Option Variant) → n ≡ number_in r f → v ≡ at_index r.typed.now.tasks n → v ≡ variant_in r f
+its_variant r f n v number is =
+    is ∙ ap (at_index r.typed.now.tasks) number ∙ sym (by_number r.typed.now.tasks (slice_get r.mapping.now.instances f.instance))
+
+pub its_maps : (r : Resolved) (f : Form) (n : Option ℕ) (all : List (List Map)) (maps : List Map) → all ≡ all_maps r.typed.now.tasks → n ≡ number_in r f → maps ≡ listed (at_index all n) → maps ≡ maps_of_form r f
+its_maps r f n all maps are number is =
+    is ∙ ap (λ (list : List (List Map)). listed (at_index list n)) are ∙ maps_by_number r.typed.now.tasks n ∙ ap maps_by (its_variant r f n (at_index r.typed.now.tasks n) number refl)
+
+-- ---- races of one form, and of all
 
 -- a race of the form is one over its maps and accesses
 in_form : (r : Resolved) (n : ℕ) (f : Form) (uses : List Use) (s : List ℕ) (y : Found) → slice_get r.forms n ≡ Some f → slice_get r.uses n ≡ Some uses → HoldsAt r n s y → HoldsIn (maps_of_form r f) uses s y

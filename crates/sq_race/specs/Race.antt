@@ -8,7 +8,7 @@ use Rattle.sq_ast.specs.declared.program.Decl.TheVariants as decl
 use Rattle.sq_ast.specs.declared.program.Variant.{Variant}
 use Rattle.sq_mapfile.specs.declared.mapping.Instance.{Instance}
 use Rattle.sq_rect.specs.Blocks.{Share}
-use Rattle.sq_spec.specs.Tables.{variant_of}
+use Rattle.sq_spec.specs.Tables.{variant_of, first_of_kind}
 use Rattle.sq_spec.specs.declared.form.Form.{Form}
 use Rattle.sq_spec.specs.declared.form.Use.{Use}
 use Rattle.sq_spec.specs.declared.resolved.Resolved.{Resolved}
@@ -130,6 +130,18 @@ IsFirstRace r None = (n : ℕ) (s : List ℕ) (y : Found) → HoldsAt r n s y �
 IsFirstRace r (Some race) = IsFirst r race
 
 -- ---- what the code does
+
+-- the number of an instance's variant
+abbrev pub number_by : List Variant → Option Instance → Option ℕ
+number_by variants None = None
+number_by variants (Some x) = first_of_kind x.kind 0 variants x.task
+
+abbrev pub number_in : Resolved → Form → Option ℕ
+number_in r f = number_by r.typed.now.tasks (slice_get r.mapping.now.instances f.instance)
+
+abbrev pub listed : Option (List Map) → List Map
+listed None = []
+listed (Some maps) = maps
 
 -- this is a race, and none of the form is before it
 pub record IsFirstIn (maps : List Map) (uses : List Use) (x : Found) : Type 0 where

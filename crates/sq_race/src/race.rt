@@ -2,16 +2,15 @@
 
 ghost use Rattle.std.specs.Prelude.{◌≡◌, ◌<◌, [], length, map, slice_get, get_or, Some, IfOk};
 ghost use Rattle.std.specs.Option.{option_copied};
-ghost use Rattle.sq_spec.specs.Tables as tables;
+ghost use Rattle.sq_spec.specs.Tables.{at_index};
 ghost use Rattle.sq_race.specs.Race as spec;
 
 use crate::forms::{Found, first_of};
 use crate::map::Map;
 use crate::table::maps_in;
-use sq_ast::{Body, Decl, Param, Variant, VariantKind};
-use sq_mapfile::Instance;
+use sq_ast::{Body, Decl, Param, Variant};
 use sq_rect::Rect;
-use sq_spec::{Form, Resolved, Use};
+use sq_spec::{Form, Resolved, Use, variant_number};
 use sq_text::{Name, Place};
 use sqlite_items::{Items, at};
 use std::alloc::{AllocError, Global};
@@ -32,42 +31,23 @@ pub struct Race {
     pub rect_b: Rect,
 }
 
-fn is_same_kind(kind: VariantKind, other: VariantKind) -> bool
-    ensures { result ≡ tables.same_kind kind other }
-{
-    kind == other
-}
-
-// The number of the first variant of the task and kind.
-fn first_of_kind(variants: &[Variant], task: &Name, kind: VariantKind) -> Option<usize>
-    ensures { result ≡ tables.first_of_kind kind 0 variants.now task.now }
-{
-    for (i, v) in variants.iter().enumerate() {
-        if is_same_kind(v.kind, kind) {
-            if *task == v.task {
-                return Some(i);
-            }
-        }
-    }
-    None
-}
-
-fn variant<'a>(variants: &'a [Variant], task: &Name, kind: VariantKind) -> Option<&'a Variant>
-    ensures { option_copied result ≡ tables.variant_of variants.now task.now kind }
-{
-    let number = first_of_kind(variants, task, kind)?;
-    at(variants, number)
-}
-
-fn variant_in<'a>(r: &Resolved<'a>, form: &Form) -> Option<&'a Variant>
-    ensures { option_copied result ≡ spec.variant_in r.now form.now }
+// The number of the form's variant.
+fn number_in(r: &Resolved<'_>, form: &Form) -> Option<usize>
+    ensures { result ≡ spec.number_in r.now form.now }
 {
     let instance = at(r.mapping().instances.as_slice(), form.instance as usize)?;
-    variant(
+    variant_number(
         r.typed().program().tasks.as_slice(),
         &instance.task,
         instance.kind,
     )
+}
+
+fn variant_at<'a>(variants: &'a [Variant], number: Option<usize>) -> Option<&'a Variant>
+    ensures { option_copied result ≡ at_index variants.now number }
+{
+    let number = number?;
+    at(variants, number)
 }
 
 // The maps of a variant; a leaf has none.
@@ -94,27 +74,15 @@ fn all_maps(alloc: Global, variants: &[Variant]) -> Result<Items<Items<Map>>, Al
     Ok(all)
 }
 
-// The maps of the variant that an instance is of.
-fn maps_at<'a>(all: &'a [Items<Map>], variants: &[Variant], x: &Instance) -> &'a [Map]
-    requires { all.now ≡ spec.all_maps variants.now }
-    ensures { result.now ≡ spec.maps_by (tables.variant_of variants.now x.now.task x.now.kind) }
+// The maps of the variant with this number.
+fn maps_at<'a>(all: &'a [Items<Map>], number: Option<usize>) -> &'a [Map]
+    ensures { result.now ≡ spec.listed (at_index all.now number) }
 {
-    match first_of_kind(variants, &x.task, x.kind) {
+    match number {
         Some(i) => match at(all, i) {
             Some(maps) => maps.as_slice(),
             None => &[],
         },
-        None => &[],
-    }
-}
-
-// The maps of the form's variant.
-fn maps_for<'a>(all: &'a [Items<Map>], r: &Resolved<'_>, form: &Form) -> &'a [Map]
-    requires { all.now ≡ spec.all_maps r.now.typed.now.tasks }
-    ensures { result.now ≡ spec.maps_of_form r.now form.now }
-{
-    match at(r.mapping().instances.as_slice(), form.instance as usize) {
-        Some(x) => maps_at(all, r.typed().program().tasks.as_slice(), x),
         None => &[],
     }
 }
@@ -239,8 +207,9 @@ fn race_in(
     ensures { IfOk result (λ race. spec.IsFirstOfForm r.now number race) }
 {
     let form = form_at(r, number);
-    let variant = variant_in(r, form);
-    let maps = maps_for(all, r, form);
+    let chosen = number_in(r, form);
+    let variant = variant_at(r.typed().program().tasks.as_slice(), chosen);
+    let maps = maps_at(all, chosen);
     let uses = r.uses(number);
     match first_of(alloc, maps, uses)? {
         None => Ok(None),

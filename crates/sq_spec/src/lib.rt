@@ -26,3 +26,4 @@ pub use begun::{Begun, Manner, Reached, Reduction};
 pub use body::{Body, FormBody};
 pub use form::{Caller, Form, LocalArray, Use};
 pub use resolved::{Resolved, resolve};
+pub use tables::variant_number;

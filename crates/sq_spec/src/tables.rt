@@ -44,8 +44,8 @@ fn first_of_kind(
     Ok(first)
 }
 
-// The number of the first variant of the task and kind.
-fn first_number(list: &[Variant], task: &Name, kind: VariantKind) -> Option<usize>
+/// The number of the first variant of a task and kind, looked up without a table.
+pub fn variant_number(list: &[Variant], task: &Name, kind: VariantKind) -> Option<usize>
     ensures { result ≡ spec.first_of_kind kind 0 list.now task.now }
 {
     for (i, v) in list.iter().enumerate() {
@@ -62,7 +62,7 @@ fn first_number(list: &[Variant], task: &Name, kind: VariantKind) -> Option<usiz
 pub fn variant_in<'a>(list: &'a [Variant], task: &Name, kind: VariantKind) -> Option<&'a Variant>
     ensures { option_copied result ≡ spec.variant_of list.now task.now kind }
 {
-    let number = first_number(list, task, kind)?;
+    let number = variant_number(list, task, kind)?;
     at(list, number)
 }
 
