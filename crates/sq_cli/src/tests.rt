@@ -22,81 +22,67 @@ struct Case<'a> {
     err: &'a [u8],
 }
 
-fn files(rt: &HostRuntime) -> Result<MemFiles, Fail> {
-    let mut files = MemFiles::new(rt.alloc());
-    files.add("P1.sq", PROGRAM)?;
-    files.add("canonical.sq", CANONICAL)?;
-    files.add(
-        "ends.sq",
-        b"void task a::inner(in int A[N]) {\n  mappar (int i =",
-    )?;
-    files.add(
-        "writes.sq",
-        b"void task t::leaf(in int A[N]) {\n  A[0] = 1;\n}\n",
-    )?;
-    files.add(
+// Every file that a case names, with what it holds.
+const FILES: &[(&str, &[u8])] = &[
+    ("P1.sq", PROGRAM),
+    ("canonical.sq", CANONICAL),
+    ("ends.sq", b"void task a::inner(in int A[N]) {\n  mappar (int i ="),
+    ("writes.sq", b"void task t::leaf(in int A[N]) {\n  A[0] = 1;\n}\n"),
+    (
         "two.sq",
         b"void task twice::inner(in int A[N], out int B[N]) {\n  tunable int U;\n  blkset Ab = rchop(A, U);\n  blkset Bb = rchop(B, U);\n  mappar (int i = 0 to (N + U - 1) / U) {\n    twice(Ab[i], Bb[i]);\n  }\n}\nvoid task twice::leaf(in int A[N], out int B[N]) {\n  for (int i = 0; i < N; i++) B[i] = A[i] + A[i];\n}\n",
-    )?;
-    files.add(
+    ),
+    (
         "minus.sq",
         b"void task t::leaf(in int A[N], out int B[N]) { for (int i = 0; i < N; i++) B[i] = A[i] - A[i] - A[i]; }",
-    )?;
-    files.add(
-        "3.map",
-        b"mapping 1; entry top(N = 3); instance top = twice::leaf @ host { }",
-    )?;
-    files.add(
-        "1.map",
-        b"mapping 1; entry top(N = 1); instance top = twice::leaf @ host { }",
-    )?;
-    files.add(
-        "minus.map",
-        b"mapping 1; entry top(N = 3); instance top = t::leaf @ host { }",
-    )?;
-    files.add(
+    ),
+    ("3.map", b"mapping 1; entry top(N = 3); instance top = twice::leaf @ host { }"),
+    ("1.map", b"mapping 1; entry top(N = 1); instance top = twice::leaf @ host { }"),
+    ("minus.map", b"mapping 1; entry top(N = 3); instance top = t::leaf @ host { }"),
+    (
         "tens.sq",
         b"void task tens::inner(in int A[N], out int B[N]) {\n  blkset Ab = rchop(A, 1);\n  blkset Bb = rchop(B, 1);\n  mappar (int i = 0 to N) {\n    tens(Ab[i], Bb[i]);\n  }\n}\nvoid task tens::leaf(in int A[N], out int B[N]) {\n  for (int i = 0; i < N; i++) B[i] = 10 / A[i];\n}\n",
-    )?;
-    files.add(
+    ),
+    (
         "race.sq",
         b"void task twice::inner(in int A[N], out int B[N]) {\n  tunable int U;\n  blkset Ab = rchop(A, U);\n  blkset Bb = rchop(B, U);\n  mappar (int i = 0 to 2) {\n    twice(Ab[i], Bb[0]);\n  }\n}\nvoid task twice::leaf(in int A[N], out int B[N]) {\n  for (int i = 0; i < N; i++) B[i] = A[i] + A[i];\n}\n",
-    )?;
-    files.add(
+    ),
+    (
         "8.map",
         b"mapping 1; entry top(N = 8); instance top = twice::inner @ host { tunable U = 4; call twice -> low; } instance low = twice::leaf @ core { }",
-    )?;
-    files.add(
+    ),
+    (
         "chop.map",
         b"mapping 1; entry top(N = 8); instance top = twice::inner @ host { tunable U = 0; call twice -> low; } instance low = twice::leaf @ core { }",
-    )?;
-    files.add(
+    ),
+    (
         "cycle.map",
         b"mapping 1;\nentry a(N = 8);\ninstance a = twice::inner @ host { tunable U = 4; call twice -> b; }\ninstance b = twice::inner @ host { tunable U = 2; call twice -> a; }\n",
-    )?;
-    files.add(
+    ),
+    (
         "tens.map",
         b"mapping 1; entry top(N = 4); instance top = tens::inner @ host { call tens -> low; } instance low = tens::leaf @ core { }",
-    )?;
-    files.add(
-        "two.mach",
-        b"machine 1; level host { capacity 64; } children 2; level core { capacity 32; }",
-    )?;
-    files.add(
-        "fan.mach",
-        b"machine 1; level host { capacity 64; } children 0; level core { capacity 32; }",
-    )?;
-    files.add("8.txt", b"array A int [8]\n1 2 3 4 5 6 7 8\n")?;
-    files.add("tens.txt", b"array A int [4]\n1 0 2 0\n")?;
-    files.add("32.mach", b"machine 1; level host { capacity 32; }")?;
-    files.add("31.mach", b"machine 1; level host { capacity 31; }")?;
-    files.add("16.mach", b"machine 1; level host { capacity 16; }")?;
-    files.add("3.txt", b"array A int [3]\n1 2 3\n")?;
-    files.add("1.txt", b"array A int [1]\n2147483647\n")?;
-    files.add("short.txt", b"array A int [3]\n1 2\n")?;
-    files.add("range.txt", b"array A int [3]\n1 2147483648 3\n")?;
-    files.add("name.txt", b"array C int [3]\n1 2 3\n")?;
-    files.add("extra.txt", b"array A int [3]\n1 2 3 4\n")?;
+    ),
+    ("two.mach", b"machine 1; level host { capacity 64; } children 2; level core { capacity 32; }"),
+    ("fan.mach", b"machine 1; level host { capacity 64; } children 0; level core { capacity 32; }"),
+    ("8.txt", b"array A int [8]\n1 2 3 4 5 6 7 8\n"),
+    ("tens.txt", b"array A int [4]\n1 0 2 0\n"),
+    ("32.mach", b"machine 1; level host { capacity 32; }"),
+    ("31.mach", b"machine 1; level host { capacity 31; }"),
+    ("16.mach", b"machine 1; level host { capacity 16; }"),
+    ("3.txt", b"array A int [3]\n1 2 3\n"),
+    ("1.txt", b"array A int [1]\n2147483647\n"),
+    ("short.txt", b"array A int [3]\n1 2\n"),
+    ("range.txt", b"array A int [3]\n1 2147483648 3\n"),
+    ("name.txt", b"array C int [3]\n1 2 3\n"),
+    ("extra.txt", b"array A int [3]\n1 2 3 4\n"),
+];
+
+fn files(rt: &HostRuntime) -> Result<MemFiles, Fail> {
+    let mut files = MemFiles::new(rt.alloc());
+    for (name, content) in FILES {
+        files.add(name, content)?;
+    }
     Ok(files)
 }
 
