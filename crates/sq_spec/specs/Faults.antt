@@ -79,9 +79,3 @@ abbrev pub Leaves : {A B : Type 0} → Result A Stop → Value B → B → Type 
 Leaves (Ok a) value left = value ≡ Ok left
 Leaves (Err (Refused f)) value left = value ≡ Err f
 Leaves (Err NoMemory) value left = Unit {0}
-
--- an answer that isn't a refusal
-abbrev pub NoRefusal : {A : Type 0} → Result A Stop → Type 0
-NoRefusal (Ok a) = Unit {0}
-NoRefusal (Err (Refused f)) = ⊥
-NoRefusal (Err NoMemory) = Unit {0}

@@ -1,7 +1,5 @@
 -- What the walk meets in statements, as they would run.
-use Rattle.std.specs.Prelude.{◌≡◌, ℕ, zero, suc, ◌+◌, ◌*◌, ◌/◌, ◌%◌, ℤ, pos, negsuc, List, [], ◌∷◌, ◌++◌, map, Option, Some, None, Result, Ok, Err, slice_get}
-use Rattle.sq_text.specs.declared.fault.Stop.{Stop}
-use Rattle.sq_text.specs.declared.fault.Stop.TheVariants.{Refused, NoMemory}
+use Rattle.std.specs.Prelude.{◌≡◌, ℕ, zero, suc, ◌+◌, ◌*◌, ◌/◌, ◌%◌, ℤ, pos, negsuc, List, [], ◌∷◌, ◌++◌, map, Option, Some, None, Ok, Err, slice_get}
 use Rattle.sq_text.specs.declared.place.Place.{Place}
 use Rattle.sq_ast.specs.declared.program.Body.{Body}
 use Rattle.sq_ast.specs.declared.program.Body.TheVariants.{Inner, Leaf}
@@ -186,12 +184,6 @@ pub record Begins {A : Type 0} (front whole : List A) : Type 0 where
 -- where statements stand, in these iterations
 abbrev pub spot_at : At → List ℕ → Spot
 spot_at a iterations = record { call = a.call; outer = a.outer; reduced = option_copied a.reduced; iterations = iterations }
-
--- a count that has 32 bits, or memory ran out
-abbrev pub Counts : Result ℕ Stop → ℕ → Type 0
-Counts (Ok n) m = n ≡ m
-Counts (Err (Refused f)) m = ⊥
-Counts (Err NoMemory) m = Unit {0}
 
 -- a path, without its last iteration where it has one
 abbrev pub Ended : List ℕ → List ℕ → Type 0

@@ -112,7 +112,7 @@ fn bounds_or_none(
     known: &Known,
     numbers: &Bindings,
     ranges: &[Range],
-) -> Result<Option<Items<i64>>, Stop>
+) -> Result<Option<Items<i64>>, AllocError>
     ensures { IfOk result (λ o. o ≡ spec.worth_or_none (stmts.bounds ranges.now numbers.now (argued.names_of known.now).lists)) }
 {
     let env = Env {
@@ -122,22 +122,27 @@ fn bounds_or_none(
     match bounds(alloc, &env, ranges) {
         Ok(bounds) => Ok(Some(bounds)),
         Err(Stop::Refused(_)) => Ok(None),
-        Err(Stop::NoMemory) => Err(Stop::NoMemory),
+        Err(Stop::NoMemory) => Err(AllocError),
     }
 }
 
 // A count that has 32 bits; else memory would have run out before.
-fn count(bounds: &[i64]) -> Result<u32, Stop>
+fn count(bounds: &[i64]) -> Result<u32, AllocError>
     ensures { IfOk result (λ n. n ≡ stmts.times bounds.now) }
 {
     let count = times(bounds);
     if count > u64::from(u32::MAX) {
-        return Err(Stop::NoMemory);
+        return Err(AllocError);
     }
     Ok(count as u32)
 }
 
-fn count_at(alloc: Global, known: &Known, numbers: &Bindings, ranges: &[Range]) -> Result<u32, Stop>
+fn count_at(
+    alloc: Global,
+    known: &Known,
+    numbers: &Bindings,
+    ranges: &[Range],
+) -> Result<u32, AllocError>
     ensures { IfOk result (λ n. n ≡ spec.count_at ranges.now (argued.names_of known.now).lists numbers.now) }
 {
     match bounds_or_none(alloc, known, numbers, ranges)? {
@@ -155,7 +160,7 @@ fn push_argument(
     param: Option<&Param>,
     a: &ArgUse,
     list: &mut Items<Argument>,
-) -> Result<(), Stop>
+) -> Result<(), AllocError>
     ensures { OnOk result ((later : List SpecArgument) → list.new ++ later ≡ list.old ++ argued.joined (argued.argument (argued.names_of known.now) numbers.now (option_copied reduced.entry) (option_copied param.entry) a.now) later) }
 {
     match examined(alloc, known, numbers, reduced, param, a) {
@@ -164,7 +169,7 @@ fn push_argument(
             Ok(())
         }
         Err(Stop::Refused(_)) => Ok(()),
-        Err(Stop::NoMemory) => Err(Stop::NoMemory),
+        Err(Stop::NoMemory) => Err(AllocError),
     }
 }
 
@@ -175,7 +180,7 @@ fn arguments(
     reduced: Option<&Name>,
     params: &[Param],
     list: &[ArgUse],
-) -> Result<Items<Argument>, Stop>
+) -> Result<Items<Argument>, AllocError>
     ensures { IfOk result (λ xs. xs ≡ argued.arguments (argued.names_of known.now) numbers.now (option_copied reduced.entry) params.now 0 list.now) }
 {
     let mut out = Items::new(alloc);
@@ -237,7 +242,7 @@ fn reach(
     setting: &Setting<'_>,
     numbers: &Bindings,
     met: &Met<'_>,
-) -> Result<Reached, Stop>
+) -> Result<Reached, AllocError>
     ensures { IfOk result (λ r. r ≡ spec.reached setting.now.forms.now.entries (worlds.frame_of setting.now.frame.now) (argued.names_of setting.now.known.now) met.now.number (option_copied met.now.reduced) (worlds.callee_by met.now.callee) met.now.args.now numbers.now) }
 {
     let callee = met.callee;
@@ -261,7 +266,7 @@ fn push_counts(
     nest: &[Level<'_>],
     ranges: &[Range],
     counts: &mut Items<u32>,
-) -> Result<(), Stop>
+) -> Result<(), AllocError>
     ensures counts { OnOk result (counts.new ≡ counts.old ++ map (spec.count_at ranges.now (argued.names_of setting.now.known.now).lists) (spec.moments nest.now (argued.names_of setting.now.known.now).lists numbers.old)) }
     ensures numbers { OnOk result (numbers.new ≡ numbers.old) }
 {
@@ -289,7 +294,7 @@ fn push_reached(
     nest: &[Level<'_>],
     met: &Met<'_>,
     times: &mut Items<Reached>,
-) -> Result<(), Stop>
+) -> Result<(), AllocError>
     ensures times { OnOk result (times.new ≡ times.old ++ map (spec.reached setting.now.forms.now.entries (worlds.frame_of setting.now.frame.now) (argued.names_of setting.now.known.now) met.now.number (option_copied met.now.reduced) (worlds.callee_by met.now.callee) met.now.args.now) (spec.moments nest.now (argued.names_of setting.now.known.now).lists numbers.old)) }
     ensures numbers { OnOk result (numbers.new ≡ numbers.old) }
 {
@@ -330,8 +335,8 @@ fn deeper<'a>(
 // How many calls stand in a statement.
 #[cycle(calls)]
 #[tactic(auto, using(crate::proofs::OpenedStmt::opened_stmt))]
-fn calls_in(s: &Stmt) -> Result<u32, Stop>
-    ensures { stmts.Counts result (stmts.portion s.now).calls }
+fn calls_in(s: &Stmt) -> Result<u32, AllocError>
+    ensures { IfOk result (λ n. n ≡ (stmts.portion s.now).calls) }
 {
     match s {
         Stmt::Call(_) => Ok(1),
@@ -343,8 +348,8 @@ fn calls_in(s: &Stmt) -> Result<u32, Stop>
 }
 
 #[cycle(calls)]
-fn calls_in_all(list: &[Stmt]) -> Result<u32, Stop>
-    ensures { stmts.Counts result (stmts.calls_of (map stmts.portion list.now)) }
+fn calls_in_all(list: &[Stmt]) -> Result<u32, AllocError>
+    ensures { IfOk result (λ n. n ≡ stmts.calls_of (map stmts.portion list.now)) }
 {
     let mut count = 0;
     for s in list {
@@ -402,7 +407,7 @@ fn call_table(
     reduced: Option<&Name>,
     call: u32,
     c: &Call,
-) -> Result<Begun, Stop>
+) -> Result<Begun, AllocError>
     ensures begun { IfOk result (λ b. b ≡ spec.call_table setting.now.forms.now.entries (worlds.frame_of setting.now.frame.now) (argued.names_of setting.now.known.now) setting.now.elems.now numbers.old c.now (worlds.callee_of (worlds.frame_of setting.now.frame.now) c.now.task) call (option_copied reduced.entry) nest.now) }
     ensures numbers { OnOk result (numbers.new ≡ numbers.old) }
 {
@@ -432,7 +437,7 @@ fn counts_of(
     numbers: &mut Bindings,
     nest: &[Level<'_>],
     ranges: &[Range],
-) -> Result<Items<u32>, Stop>
+) -> Result<Items<u32>, AllocError>
     ensures counts { IfOk result (λ counts. counts ≡ map (spec.count_at ranges.now (argued.names_of setting.now.known.now).lists) (spec.moments nest.now (argued.names_of setting.now.known.now).lists numbers.old)) }
     ensures numbers { OnOk result (numbers.new ≡ numbers.old) }
 {
@@ -442,7 +447,7 @@ fn counts_of(
 }
 
 // How many iterations there are before each time; sums that don't have 64 bits have no room in memory.
-fn starts_of(alloc: Global, counts: &[u32]) -> Result<Items<usize>, Stop>
+fn starts_of(alloc: Global, counts: &[u32]) -> Result<Items<usize>, AllocError>
     ensures { IfOk result (λ starts. starts ≡ spec.starts_from 0 counts.now) }
 {
     let mut starts = Items::new(alloc);
@@ -473,7 +478,7 @@ fn statement<'a>(
     reduced: Option<&'a Name>,
     call: u32,
     s: &'a Stmt,
-) -> Result<Begun, Stop>
+) -> Result<Begun, AllocError>
     ensures begun { IfOk result (λ b. b ≡ (spec.tabled setting.now.forms.now.entries (worlds.frame_of setting.now.frame.now) (argued.names_of setting.now.known.now) setting.now.elems.now numbers.old s.now).table call (option_copied reduced.entry) nest.now) }
     ensures numbers { OnOk result (numbers.new ≡ numbers.old) }
 {
@@ -522,7 +527,7 @@ pub fn statements<'a>(
     reduced: Option<&'a Name>,
     call: u32,
     list: &'a [Stmt],
-) -> Result<Items<Begun>, Stop>
+) -> Result<Items<Begun>, AllocError>
     ensures begun { IfOk result (λ bs. bs ≡ spec.all_of (map (spec.tabled setting.now.forms.now.entries (worlds.frame_of setting.now.frame.now) (argued.names_of setting.now.known.now) setting.now.elems.now numbers.old) list.now) call (option_copied reduced.entry) nest.now) }
     ensures numbers { OnOk result (numbers.new ≡ numbers.old) }
 {

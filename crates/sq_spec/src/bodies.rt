@@ -92,7 +92,7 @@ fn list_tables(
     setting: &Setting<'_>,
     numbers: &mut Bindings,
     list: &[Stmt],
-) -> Result<Items<Begun>, Stop>
+) -> Result<Items<Begun>, AllocError>
     ensures { IfOk result (λ bs. bs ≡ begun.tables setting.now.forms.now.entries (worlds.frame_of setting.now.frame.now) (argued.names_of setting.now.known.now) setting.now.elems.now numbers.old list.now) }
 {
     let nest: Items<Level<'_>> = Items::new(alloc);
@@ -106,7 +106,7 @@ fn what_runs(
     forms: &IndexMap<Key, Found>,
     v: &Variant,
     scope: &mut Scope,
-) -> Result<Body, Stop>
+) -> Result<Body, AllocError>
     requires { spec.MayCompile v.now }
     ensures { IfOk result (λ b. b ≡ spec.what_runs forms.now.entries (worlds.frame_of frame.now) v.now v.now.body (decls.scope_of scope.old)) }
 {
@@ -141,7 +141,7 @@ fn declared_body(
     v: &Variant,
     form: &Found,
     scope: &mut Scope,
-) -> Result<FormBody, Stop>
+) -> Result<FormBody, AllocError>
     requires { spec.MayCompile v.now }
     ensures { IfOk result (λ b. b ≡ spec.declared_body forms.now.entries (worlds.frame_of frame.now) v.now form.now (Ok (decls.scope_of scope.old))) }
 {
@@ -173,7 +173,7 @@ fn scope_body(
     v: &Variant,
     form: &Found,
     mut scope: Scope,
-) -> Result<FormBody, Stop>
+) -> Result<FormBody, AllocError>
     requires { spec.MayCompile v.now }
     ensures { IfOk result (λ b. b ≡ spec.declared_body forms.now.entries (worlds.frame_of frame.now) v.now form.now (decls.all_declared x.now.tunings (decls.scope_of scope) v.now.decls)) }
 {
@@ -181,7 +181,7 @@ fn scope_body(
     match declare_all(alloc, &mut scope, &settings, v.decls.as_slice()) {
         Ok(()) => declared_body(alloc, frame, forms, v, form, &mut scope),
         Err(Stop::Refused(_)) => Ok(no_body(alloc)),
-        Err(Stop::NoMemory) => Err(Stop::NoMemory),
+        Err(Stop::NoMemory) => Err(AllocError),
     }
 }
 
@@ -192,7 +192,7 @@ fn found_body(
     forms: &IndexMap<Key, Found>,
     k: u32,
     form: &Found,
-) -> Result<FormBody, Stop>
+) -> Result<FormBody, AllocError>
     requires { spec.AllCompile variants.now.list.now }
     ensures { IfOk result (λ b. b ≡ spec.instance_body forms.now.entries variants.now.list.now instances.now k form.now (slice_get instances.now form.now.instance)) }
 {
@@ -227,7 +227,7 @@ pub fn body_of(
     instances: &[Instance],
     forms: &IndexMap<Key, Found>,
     k: u32,
-) -> Result<FormBody, Stop>
+) -> Result<FormBody, AllocError>
     requires { spec.AllCompile variants.now.list.now }
     ensures { IfOk result (λ b. b ≡ spec.body_of variants.now.list.now instances.now forms.now.entries k) }
 {

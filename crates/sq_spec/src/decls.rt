@@ -6,7 +6,7 @@ ghost use Rattle.std.specs.Option.{option_copied};
 ghost use Rattle.sq_text.specs.Names.{same_name};
 ghost use Rattle.sq_blocks.specs.Names.{list_of};
 ghost use Rattle.sq_blocks.specs.Spans.{judged};
-ghost use Rattle.sq_spec.specs.Faults.{Gives, Makes, Leaves, NoRefusal};
+ghost use Rattle.sq_spec.specs.Faults.{Gives, Makes, Leaves};
 ghost use Rattle.sq_blocks.specs.declared.chop.Chop.TheVariants.{Regular, Irregular};
 ghost use Rattle.sq_spec.specs.Args as argued;
 ghost use Rattle.sq_spec.specs.Decls as spec;
@@ -325,9 +325,13 @@ pub fn declare_all(
     Ok(())
 }
 
-fn param(alloc: Global, scope: &mut Scope, p: &Param, dims: Option<&Dims>) -> Result<bool, Stop>
-    ensures none { NoRefusal result }
-    ensures fits { IfOk result (λ fits. spec.Fits (spec.param_at (spec.scope_of scope.old) p.now (option_copied dims.entry)) fits (spec.scope_of scope.new)) }
+fn param(
+    alloc: Global,
+    scope: &mut Scope,
+    p: &Param,
+    dims: Option<&Dims>,
+) -> Result<bool, AllocError>
+    ensures { IfOk result (λ fits. spec.Fits (spec.param_at (spec.scope_of scope.old) p.now (option_copied dims.entry)) fits (spec.scope_of scope.new)) }
 {
     let Some(dims) = dims else {
         return Ok(false);
@@ -337,7 +341,7 @@ fn param(alloc: Global, scope: &mut Scope, p: &Param, dims: Option<&Dims>) -> Re
         return Ok(false);
     }
     let Some(arrays) = scope.arrays.checked_add(1) else {
-        return Err(Stop::NoMemory);
+        return Err(AllocError);
     };
     let array = Array {
         number: scope.arrays,
@@ -354,9 +358,8 @@ pub fn params(
     scope: &mut Scope,
     list: &[Param],
     extents: &[Dims],
-) -> Result<bool, Stop>
-    ensures none { NoRefusal result }
-    ensures fits { IfOk result (λ fits. spec.Fits (spec.params_from (spec.scope_of scope.old) list.now 0 extents.now) fits (spec.scope_of scope.new)) }
+) -> Result<bool, AllocError>
+    ensures { IfOk result (λ fits. spec.Fits (spec.params_from (spec.scope_of scope.old) list.now 0 extents.now) fits (spec.scope_of scope.new)) }
 {
     for (i, p) in list.iter().enumerate() {
         if !param(alloc, scope, p, at(extents, i))? {

@@ -91,17 +91,13 @@ impl<'a> Resolved<'a> {
     pub fn body(&self, alloc: Global, form: u32) -> Result<FormBody, AllocError>
         ensures { IfOk result (λ b. b ≡ body_of self.now.typed.now.tasks self.now.mapping.now.instances self.now.found.entries form) }
     {
-        let body = form_body(
+        form_body(
             alloc,
             self.typed.program(),
             self.mapping.instances.as_slice(),
             &self.found,
             form,
-        );
-        match body {
-            Ok(body) => Ok(body),
-            Err(_) => Err(AllocError),
-        }
+        )
     }
 }
 
@@ -123,7 +119,7 @@ fn form_body(
     instances: &[Instance],
     found: &IndexMap<Key, Found>,
     form: u32,
-) -> Result<FormBody, Stop>
+) -> Result<FormBody, AllocError>
     requires sound { is_sound program.now ≡ true }
     requires loops { HasLoops most_levels program.now.tasks }
     ensures { IfOk result (λ b. b ≡ body_of program.now.tasks instances.now found.now.entries form) }

@@ -2,13 +2,11 @@
 //! again.
 
 ghost use Rattle.std.specs.Prelude.{◌≡◌, ◌+◌, ◌++◌, drop, length, map, IfOk, OnOk};
-ghost use Rattle.sq_spec.specs.Faults.{NoRefusal};
 ghost use Rattle.sq_spec.specs.Stmts as spec;
 
 use sq_ast::{Body, Stmt, Variant};
-use sq_text::Stop;
 use sqlite_items::{Items, at};
-use std::alloc::Global;
+use std::alloc::{AllocError, Global};
 
 /// Of a map: how many calls stand in it, and how many maps, itself among them.
 #[derive(Clone, Copy, Debug, PartialEq, Eq)]
@@ -18,18 +16,18 @@ pub struct Tally {
 }
 
 // Added where it has 32 bits; else memory would have run out before.
-pub fn plus(a: u32, b: u32) -> Result<u32, Stop>
-    ensures { spec.Counts result (a + b) }
+pub fn plus(a: u32, b: u32) -> Result<u32, AllocError>
+    ensures { IfOk result (λ n. n ≡ a + b) }
 {
     match a.checked_add(b) {
         Some(sum) => Ok(sum),
-        None => Err(Stop::NoMemory),
+        None => Err(AllocError),
     }
 }
 
 /// The number of a call behind so many others.
-pub fn call_behind(call: u32, calls: u32) -> Result<u32, Stop>
-    ensures { spec.Counts result (call + calls) }
+pub fn call_behind(call: u32, calls: u32) -> Result<u32, AllocError>
+    ensures { IfOk result (λ n. n ≡ call + calls) }
 {
     plus(call, calls)
 }
@@ -37,8 +35,7 @@ pub fn call_behind(call: u32, calls: u32) -> Result<u32, Stop>
 // Keeps the tallies of the maps of a statement, in text order; how many calls and maps stand in it.
 #[cycle(tallies)]
 #[tactic(auto, using(crate::proofs::OpenedStmt::opened_stmt))]
-fn push_tally(maps: &mut Items<Tally>, s: &Stmt) -> Result<Tally, Stop>
-    ensures none { NoRefusal result }
+fn push_tally(maps: &mut Items<Tally>, s: &Stmt) -> Result<Tally, AllocError>
     ensures maps { OnOk result (maps.new ≡ maps.old ++ (spec.portion s.now).maps) }
     ensures sum { IfOk result (λ t. t ≡ spec.sum_of (spec.portion s.now)) }
 {
@@ -60,8 +57,7 @@ fn push_tally(maps: &mut Items<Tally>, s: &Stmt) -> Result<Tally, Stop>
 
 // Keeps the tallies of the maps of statements, in text order; how many calls and maps stand in them.
 #[cycle(tallies)]
-fn push_tallies(maps: &mut Items<Tally>, list: &[Stmt]) -> Result<Tally, Stop>
-    ensures none { NoRefusal result }
+fn push_tallies(maps: &mut Items<Tally>, list: &[Stmt]) -> Result<Tally, AllocError>
     ensures maps { OnOk result (maps.new ≡ maps.old ++ spec.maps_of (map spec.portion list.now)) }
     ensures sum { IfOk result (λ t. t ≡ spec.sum_of_all (map spec.portion list.now)) }
 {
@@ -78,9 +74,8 @@ fn push_tallies(maps: &mut Items<Tally>, list: &[Stmt]) -> Result<Tally, Stop>
     })
 }
 
-fn tallies_of(alloc: Global, body: &Body) -> Result<Items<Tally>, Stop>
-    ensures none { NoRefusal result }
-    ensures maps { IfOk result (λ maps. maps ≡ spec.tallies_of body.now) }
+fn tallies_of(alloc: Global, body: &Body) -> Result<Items<Tally>, AllocError>
+    ensures { IfOk result (λ maps. maps ≡ spec.tallies_of body.now) }
 {
     let mut maps = Items::new(alloc);
     match body {
@@ -93,9 +88,8 @@ fn tallies_of(alloc: Global, body: &Body) -> Result<Items<Tally>, Stop>
 }
 
 /// The tallies of the maps of each variant, in text order.
-pub fn all_tallies(alloc: Global, variants: &[Variant]) -> Result<Items<Items<Tally>>, Stop>
-    ensures none { NoRefusal result }
-    ensures maps { IfOk result (λ tallies. tallies ≡ spec.all_tallies variants.now) }
+pub fn all_tallies(alloc: Global, variants: &[Variant]) -> Result<Items<Items<Tally>>, AllocError>
+    ensures { IfOk result (λ tallies. tallies ≡ spec.all_tallies variants.now) }
 {
     let mut tallies = Items::new(alloc);
     for v in variants {
