@@ -27,7 +27,7 @@ use Rattle.sq_spec.specs.Stmts.{Portion, portion, calls_of as portion_calls, all
 use Rattle.sq_spec.specs.Resolving.{start}
 use Rattle.sq_spec.specs.Reached.{calls_in}
 use Rattle.sq_spec.specs.Begun.{number_or, manner_of}
-use Rattle.sq_spec.specs.Work.{Work, Nothing, Then, Each, AtOnce, Gathers}
+use Rattle.sq_spec.specs.Work.{Work, Then}
 use Rattle.sq_spec.specs.Meaning.{Outcome, and_then, entered, returned}
 use Rattle.sq_spec.specs.InTurn.{gathering, serial}
 use Rattle.sq_spec.specs.Works as works

@@ -1,31 +1,24 @@
 -- A program without a race means what its forms do by their tables.
-use Rattle.std.proofs.Common.{◌≡◌, ℕ, zero, suc, List, [], ◌∷◌, length, slice_get, Option, Some, None, Ok, Err, refl, sym, ap, ◌∙◌, subst}
+use Rattle.std.proofs.Common.{◌≡◌, ℕ, zero, suc, List, [], length, slice_get, Option, Some, None, Ok, Err, refl, sym, ap, ◌∙◌, subst}
 use Rattle.std.proofs.Math.Logic.{∥∥₁_elim}
 use Rattle.std.specs.Coded.{Coded-set, coded_list, coded×, coded_ℕ}
-use Rattle.sq_text.specs.declared.fault.Fault.{Fault}
-use Rattle.sq_ast.specs.declared.stmt.Stmt.{Stmt}
 use Rattle.sq_ast.specs.declared.program.Body.{Body as Text}
 use Rattle.sq_ast.specs.declared.program.Body.TheVariants as text
-use Rattle.sq_ast.specs.declared.program.Program.{Program}
 use Rattle.sq_ast.specs.declared.program.Variant.{Variant}
 use Rattle.sq_mapfile.specs.declared.mapping.Instance.{Instance}
 use Rattle.sq_mapfile.specs.declared.mapping.Mapping.{Mapping}
 use Rattle.sq_leaf.specs.Source.{Arrays}
-use Rattle.sq_leaf.specs.Leaf.{leaf_value}
 use Rattle.sq_spec.specs.declared.form.Found.{Found}
 use Rattle.sq_spec.specs.Faults.{Value}
 use Rattle.sq_spec.specs.Steps.{Forms, Key, Called, key_number}
 use Rattle.sq_spec.specs.Tables.{variant_of}
-use Rattle.sq_spec.specs.Worlds.{Frame}
 use Rattle.sq_spec.specs.Stmts.{stmts_steps}
 use Rattle.sq_spec.specs.Decls.{Scope, empty_scope, params_from, all_declared}
 use Rattle.sq_spec.specs.Resolving.{Resolving, resolved, frame_in, start, entry_params}
 use Rattle.sq_spec.specs.Reached.{calls_in, form_number, or_zero, CalleeIs, Ran, steps_of}
 use Rattle.sq_spec.specs.Begun.{number_or, elems_of}
-use Rattle.sq_spec.specs.BegunWork.{statements_work}
 use Rattle.sq_spec.specs.declared.body.FormBody.{FormBody}
 use Rattle.sq_spec.specs.Bodies.{no_body, declared_body, scope_body, variant_body, instance_body, found_body, body_of, running, body_work, numbered_work}
-use Rattle.sq_spec.specs.Work.{Work, Leaf}
 use Rattle.sq_spec.specs.Meaning.{Outcome, and_then, entered, returned, meaning}
 use Rattle.sq_spec.specs.InTurn.{IsRaceFree, serial}
 use Rattle.sq_spec.specs.Works as works
@@ -35,7 +28,6 @@ use Rattle.sq_spec.specs.contracts.form.Found as row
 use Rattle.sq_spec.specs.Walked.{IsWalked}
 use Rattle.sq_spec.specs.Numbered.{called_entry, entry_call, TablesMeanProgram}
 use Rattle.sq_spec.proofs.RanHold.{forms_ran}
-use Rattle.sq_spec.proofs.Rows.{Alike}
 use Rattle.sq_spec.proofs.TablesMean.{list_agrees}
 use Rattle.sq_spec.proofs.Serial.{race_free_is_serial}
 use Rattle.sq_spec.proofs.Numbered.{RunAlike, between, Suits, suit_each, list_serves}

@@ -14,13 +14,11 @@ use Rattle.sq_ast.specs.Grammar.{most_levels}
 use Rattle.sq_text.specs.Names.{Bytes}
 use Rattle.sq_types.specs.Nesting.{HasLoops}
 use Rattle.sq_types.specs.Sound.{is_sound}
-use Rattle.sq_blocks.specs.Names.{Numbers}
 use Rattle.sq_leaf.specs.declared.shape.Shape.{Shape}
 use Rattle.sq_leaf.specs.Leaf.{Leaf, IsLeaf, is_leaf_body}
 use Rattle.sq_spec.specs.declared.form.LocalArray.{LocalArray}
 use Rattle.sq_spec.specs.Works.{local_shapes}
 use Rattle.sq_spec.specs.declared.begun.Begun.{Begun}
-use Rattle.sq_spec.specs.declared.body.Body.{Body}
 use Rattle.sq_spec.specs.declared.body.Body.TheVariants as body
 use Rattle.sq_spec.specs.Steps.{Forms}
 use Rattle.sq_spec.specs.Tables.{at_index, first_of_kind, variant_of}

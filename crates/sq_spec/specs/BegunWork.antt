@@ -1,5 +1,5 @@
 -- The work that the tables of a form's statements stand for.
-use Rattle.std.specs.Prelude.{◌≡◌, ℕ, zero, suc, ◌+◌, Bool, List, [], ◌∷◌, map, get_or, slice_get, Option, Some, None}
+use Rattle.std.specs.Prelude.{◌≡◌, ℕ, ◌+◌, Bool, List, [], ◌∷◌, map, get_or, slice_get, Option, Some, None}
 use Rattle.sq_num.specs.declared.Elem.{Elem}
 use Rattle.sq_ast.specs.declared.stmt.Stmt.{Stmt}
 use Rattle.sq_blocks.specs.Names.{Numbers}

@@ -1,5 +1,5 @@
 -- What a program means, by the tables of its forms.
-use Rattle.std.specs.Prelude.{◌≡◌, ℕ, false, List, length, Option, Some, None, slice_get}
+use Rattle.std.specs.Prelude.{◌≡◌, false, List, length, Option, Some, None, slice_get}
 use Rattle.sq_ast.specs.declared.program.Variant.{Variant}
 use Rattle.sq_mapfile.specs.declared.mapping.Mapping.{Mapping}
 use Rattle.sq_leaf.specs.Source.{Arrays}
