@@ -102,10 +102,11 @@ fn begin_in(plan: &Plan, sizes: &Sizes, fs: &mut [Frame])
     let top = Chain::Root;
     let nodes = Chain::Link(0, &top);
     let env = Env {
+        plan,
         turns: &top,
         nodes: &nodes,
     };
-    begin(&plan.draft.term, sizes, plan, &env, fs, 1, 0);
+    begin(&plan.draft.term, sizes, &env, fs, 1, 0);
     cover(fs, 0, 0);
 }
 
@@ -118,6 +119,7 @@ fn event_in(plan: &Plan, sizes: &Sizes, fs: &[Frame], k: u64) -> Event
     let top = Chain::Root;
     let nodes = Chain::Link(0, &top);
     let env = Env {
+        plan,
         turns: &top,
         nodes: &nodes,
     };
@@ -127,7 +129,7 @@ fn event_in(plan: &Plan, sizes: &Sizes, fs: &[Frame], k: u64) -> Event
         count: 0,
         value: 0,
     };
-    event_of(&plan.draft.term, sizes, plan, &env, fs, 1, k, &mut event);
+    event_of(&plan.draft.term, sizes, &env, fs, 1, k, &mut event);
     event
 }
 
@@ -140,10 +142,11 @@ fn perform_in(plan: &Plan, sizes: &Sizes, fs: &mut [Frame], k: u64, trapped: boo
     let top = Chain::Root;
     let nodes = Chain::Link(0, &top);
     let env = Env {
+        plan,
         turns: &top,
         nodes: &nodes,
     };
-    perform(&plan.draft.term, sizes, plan, &env, fs, 1, k, trapped);
+    perform(&plan.draft.term, sizes, &env, fs, 1, k, trapped);
     cover(fs, 0, 0);
 }
 

@@ -12,7 +12,7 @@ use crate::event::{Event, tell};
 use crate::frame::Frame;
 use crate::frames::{Within, arm_for, frame_at, frames_of};
 use crate::sizes::Sizes;
-use sq_ir::{Num, Plan, Term};
+use sq_ir::{Num, Term};
 use sq_text::SpreadRule;
 
 /// Finds the part in which the k-th ready event stands.
@@ -64,47 +64,27 @@ pub(crate) fn find_child(children: u32, width: u64, fs: &[Frame], o: usize, k: u
 pub(crate) fn event_of(
     t: &Term,
     s: &Sizes,
-    plan: &Plan,
     env: &Env<'_>,
     fs: &[Frame],
     o: usize,
     k: u64,
     told: &mut Event,
 )
-    requires sizes { s.now ≡ (made plan.now t.now).sizes }
+    requires sizes { s.now ≡ (made env.now.plan.now t.now).sizes }
     requires fits { o + frames s.now ≤ length fs.now }
-    requires right { IsRight ((made plan.now t.now).form (env_of env.now)) (frame_in fs.now) o }
-    requires there { k < ready (rest_of ((made plan.now t.now).form (env_of env.now)) (frame_in fs.now) o) }
-    ensures { event_at (rest_of ((made plan.now t.now).form (env_of env.now)) (frame_in fs.now) o) k ≡ Some (seen told.new) }
+    requires right { IsRight ((made env.now.plan.now t.now).form (env_of env.now)) (frame_in fs.now) o }
+    requires there { k < ready (rest_of ((made env.now.plan.now t.now).form (env_of env.now)) (frame_in fs.now) o) }
+    ensures { event_at (rest_of ((made env.now.plan.now t.now).form (env_of env.now)) (frame_in fs.now) o) k ≡ Some (seen told.new) }
 {
     match t {
         Term::Skip => unreachable!(),
-        Term::Act(action) => tell(action, plan, env, told),
-        Term::Seq(parts) => event_seq(
-            parts.as_slice(),
-            s.parts.as_slice(),
-            plan,
-            env,
-            fs,
-            o,
-            k,
-            told,
-        ),
-        Term::Par(parts) => event_par(
-            parts.as_slice(),
-            s.parts.as_slice(),
-            plan,
-            env,
-            fs,
-            o,
-            k,
-            told,
-        ),
+        Term::Act(action) => tell(action, env, told),
+        Term::Seq(parts) => event_seq(parts.as_slice(), s.parts.as_slice(), env, fs, o, k, told),
+        Term::Par(parts) => event_par(parts.as_slice(), s.parts.as_slice(), env, fs, o, k, told),
         Term::Loop { count, body } => event_loop(
             body.get(),
             &s.parts.as_slice()[0],
             count,
-            plan,
             env,
             fs,
             o,
@@ -117,7 +97,6 @@ pub(crate) fn event_of(
                 &s.parts.as_slice()[0],
                 count,
                 *rule,
-                plan,
                 env,
                 fs,
                 o,
@@ -129,7 +108,6 @@ pub(crate) fn event_of(
             arms.as_slice(),
             s.parts.as_slice(),
             pick,
-            plan,
             env,
             fs,
             o,
@@ -147,7 +125,6 @@ pub(crate) fn event_of(
                 size,
                 child,
                 buffers.as_slice(),
-                plan,
                 env,
                 fs,
                 o,
@@ -163,24 +140,22 @@ pub(crate) fn event_of(
 fn event_seq(
     parts: &[Term],
     sizes: &[Sizes],
-    plan: &Plan,
     env: &Env<'_>,
     fs: &[Frame],
     o: usize,
     k: u64,
     told: &mut Event,
 )
-    requires sizes { sizes.now ≡ sizes_of plan.now parts.now }
+    requires sizes { sizes.now ≡ sizes_of env.now.plan.now parts.now }
     requires fits { o + stop (1 + greatest sizes.now) ≤ length fs.now }
-    requires right { IsRight (seq_form plan.now parts.now (env_of env.now)) (frame_in fs.now) o }
-    requires there { k < ready (rest_of (seq_form plan.now parts.now (env_of env.now)) (frame_in fs.now) o) }
-    ensures { event_at (rest_of (seq_form plan.now parts.now (env_of env.now)) (frame_in fs.now) o) k ≡ Some (seen told.new) }
+    requires right { IsRight (seq_form env.now.plan.now parts.now (env_of env.now)) (frame_in fs.now) o }
+    requires there { k < ready (rest_of (seq_form env.now.plan.now parts.now (env_of env.now)) (frame_in fs.now) o) }
+    ensures { event_at (rest_of (seq_form env.now.plan.now parts.now (env_of env.now)) (frame_in fs.now) o) k ≡ Some (seen told.new) }
 {
     event_one(
         parts,
         sizes,
         frame_at(fs, o).at as usize,
-        plan,
         env,
         fs,
         o + 1,
@@ -194,25 +169,23 @@ fn event_seq(
 fn event_par(
     parts: &[Term],
     sizes: &[Sizes],
-    plan: &Plan,
     env: &Env<'_>,
     fs: &[Frame],
     o: usize,
     k: u64,
     told: &mut Event,
 )
-    requires sizes { sizes.now ≡ sizes_of plan.now parts.now }
+    requires sizes { sizes.now ≡ sizes_of env.now.plan.now parts.now }
     requires fits { o + stop (1 + total sizes.now) ≤ length fs.now }
-    requires right { IsRight (par_form plan.now parts.now (env_of env.now)) (frame_in fs.now) o }
-    requires there { k < ready (rest_of (par_form plan.now parts.now (env_of env.now)) (frame_in fs.now) o) }
-    ensures { event_at (rest_of (par_form plan.now parts.now (env_of env.now)) (frame_in fs.now) o) k ≡ Some (seen told.new) }
+    requires right { IsRight (par_form env.now.plan.now parts.now (env_of env.now)) (frame_in fs.now) o }
+    requires there { k < ready (rest_of (par_form env.now.plan.now parts.now (env_of env.now)) (frame_in fs.now) o) }
+    ensures { event_at (rest_of (par_form env.now.plan.now parts.now (env_of env.now)) (frame_in fs.now) o) k ≡ Some (seen told.new) }
 {
     let found = find_part(sizes, fs, o, k);
     event_one(
         parts,
         sizes,
         found.part,
-        plan,
         env,
         fs,
         found.place,
@@ -227,21 +200,20 @@ fn event_case(
     arms: &[Term],
     sizes: &[Sizes],
     pick: &Num,
-    plan: &Plan,
     env: &Env<'_>,
     fs: &[Frame],
     o: usize,
     k: u64,
     told: &mut Event,
 )
-    requires sizes { sizes.now ≡ sizes_of plan.now arms.now }
+    requires sizes { sizes.now ≡ sizes_of env.now.plan.now arms.now }
     requires fits { o + stop (1 + greatest sizes.now) ≤ length fs.now }
-    requires right { IsRight (case_form plan.now pick.now arms.now (env_of env.now)) (frame_in fs.now) o }
-    requires there { k < ready (rest_of (case_form plan.now pick.now arms.now (env_of env.now)) (frame_in fs.now) o) }
-    ensures { event_at (rest_of (case_form plan.now pick.now arms.now (env_of env.now)) (frame_in fs.now) o) k ≡ Some (seen told.new) }
+    requires right { IsRight (case_form env.now.plan.now pick.now arms.now (env_of env.now)) (frame_in fs.now) o }
+    requires there { k < ready (rest_of (case_form env.now.plan.now pick.now arms.now (env_of env.now)) (frame_in fs.now) o) }
+    ensures { event_at (rest_of (case_form env.now.plan.now pick.now arms.now (env_of env.now)) (frame_in fs.now) o) k ≡ Some (seen told.new) }
 {
-    let i = arm_for(pick, plan, env, arms.len());
-    event_one(arms, sizes, i, plan, env, fs, o + 1, k, told)
+    let i = arm_for(pick, env, arms.len());
+    event_one(arms, sizes, i, env, fs, o + 1, k, told)
 }
 
 // Tells the k-th ready event of the i-th of some parts.
@@ -250,23 +222,22 @@ fn event_one(
     parts: &[Term],
     sizes: &[Sizes],
     i: usize,
-    plan: &Plan,
     env: &Env<'_>,
     fs: &[Frame],
     p: usize,
     k: u64,
     told: &mut Event,
 )
-    requires sizes { sizes.now ≡ sizes_of plan.now parts.now }
+    requires sizes { sizes.now ≡ sizes_of env.now.plan.now parts.now }
     requires part { i < length parts.now }
     requires fits { p + frames_at sizes.now i ≤ length fs.now }
-    requires right { IsRight (items_of plan.now parts.now (env_of env.now) i) (frame_in fs.now) p }
-    requires there { k < ready (rest_of (items_of plan.now parts.now (env_of env.now) i) (frame_in fs.now) p) }
-    ensures { event_at (rest_of (items_of plan.now parts.now (env_of env.now) i) (frame_in fs.now) p) k ≡ Some (seen told.new) }
+    requires right { IsRight (items_of env.now.plan.now parts.now (env_of env.now) i) (frame_in fs.now) p }
+    requires there { k < ready (rest_of (items_of env.now.plan.now parts.now (env_of env.now) i) (frame_in fs.now) p) }
+    ensures { event_at (rest_of (items_of env.now.plan.now parts.now (env_of env.now) i) (frame_in fs.now) p) k ≡ Some (seen told.new) }
 {
     let part = &parts[i];
     let size = &sizes[i];
-    event_of(part, size, plan, env, fs, p, k, told)
+    event_of(part, size, env, fs, p, k, told)
 }
 
 // Tells the k-th ready event of the body of a scope.
@@ -275,29 +246,28 @@ fn event_inside(
     body: &Term,
     size: &Sizes,
     child: &Option<Num>,
-    plan: &Plan,
     env: &Env<'_>,
     fs: &[Frame],
     p: usize,
     k: u64,
     told: &mut Event,
 )
-    requires sizes { size.now ≡ (made plan.now body.now).sizes }
+    requires sizes { size.now ≡ (made env.now.plan.now body.now).sizes }
     requires fits { p + frames size.now ≤ length fs.now }
-    requires right { IsRight ((made plan.now body.now).form (inside plan.now child.now (env_of env.now))) (frame_in fs.now) p }
-    requires there { k < ready (rest_of ((made plan.now body.now).form (inside plan.now child.now (env_of env.now))) (frame_in fs.now) p) }
-    ensures { event_at (rest_of ((made plan.now body.now).form (inside plan.now child.now (env_of env.now))) (frame_in fs.now) p) k ≡ Some (seen told.new) }
+    requires right { IsRight ((made env.now.plan.now body.now).form (inside env.now.plan.now child.now (env_of env.now))) (frame_in fs.now) p }
+    requires there { k < ready (rest_of ((made env.now.plan.now body.now).form (inside env.now.plan.now child.now (env_of env.now))) (frame_in fs.now) p) }
+    ensures { event_at (rest_of ((made env.now.plan.now body.now).form (inside env.now.plan.now child.now (env_of env.now))) (frame_in fs.now) p) k ≡ Some (seen told.new) }
 {
     match child {
-        None => event_of(body, size, plan, env, fs, p, k, told),
+        None => event_of(body, size, env, fs, p, k, told),
         Some(c) => {
-            let c = count_of(c, plan, env);
-            let nodes = Chain::Link(child_node(plan, env, c), env.nodes);
+            let c = count_of(c, env);
+            let nodes = Chain::Link(child_node(env, c), env.nodes);
             let inner = Env {
-                turns: env.turns,
                 nodes: &nodes,
+                ..*env
             };
-            event_of(body, size, plan, &inner, fs, p, k, told)
+            event_of(body, size, &inner, fs, p, k, told)
         }
     }
 }
@@ -308,25 +278,24 @@ fn event_loop(
     body: &Term,
     size: &Sizes,
     count: &Num,
-    plan: &Plan,
     env: &Env<'_>,
     fs: &[Frame],
     o: usize,
     k: u64,
     told: &mut Event,
 )
-    requires sizes { size.now ≡ (made plan.now body.now).sizes }
+    requires sizes { size.now ≡ (made env.now.plan.now body.now).sizes }
     requires fits { o + stop (1 + frames size.now) ≤ length fs.now }
-    requires right { IsRight (loop_form plan.now count.now body.now (env_of env.now)) (frame_in fs.now) o }
-    requires there { k < ready (rest_of (loop_form plan.now count.now body.now (env_of env.now)) (frame_in fs.now) o) }
-    ensures { event_at (rest_of (loop_form plan.now count.now body.now (env_of env.now)) (frame_in fs.now) o) k ≡ Some (seen told.new) }
+    requires right { IsRight (loop_form env.now.plan.now count.now body.now (env_of env.now)) (frame_in fs.now) o }
+    requires there { k < ready (rest_of (loop_form env.now.plan.now count.now body.now (env_of env.now)) (frame_in fs.now) o) }
+    ensures { event_at (rest_of (loop_form env.now.plan.now count.now body.now (env_of env.now)) (frame_in fs.now) o) k ≡ Some (seen told.new) }
 {
     let turns = Chain::Link(frame_at(fs, o).at, env.turns);
     let inner = Env {
         turns: &turns,
-        nodes: env.nodes,
+        ..*env
     };
-    event_of(body, size, plan, &inner, fs, o + 1, k, told)
+    event_of(body, size, &inner, fs, o + 1, k, told)
 }
 
 // Tells the k-th ready event of a spread.
@@ -336,26 +305,25 @@ fn event_spread(
     size: &Sizes,
     count: &Num,
     rule: SpreadRule,
-    plan: &Plan,
     env: &Env<'_>,
     fs: &[Frame],
     o: usize,
     k: u64,
     told: &mut Event,
 )
-    requires sizes { size.now ≡ (made plan.now body.now).sizes }
-    requires fits { o + stop (1 + stop (frames size.now * fan plan.now.nodes)) ≤ length fs.now }
-    requires right { IsRight (spread_form plan.now count.now rule body.now (env_of env.now)) (frame_in fs.now) o }
-    requires there { k < ready (rest_of (spread_form plan.now count.now rule body.now (env_of env.now)) (frame_in fs.now) o) }
-    ensures { event_at (rest_of (spread_form plan.now count.now rule body.now (env_of env.now)) (frame_in fs.now) o) k ≡ Some (seen told.new) }
+    requires sizes { size.now ≡ (made env.now.plan.now body.now).sizes }
+    requires fits { o + stop (1 + stop (frames size.now * fan env.now.plan.now.nodes)) ≤ length fs.now }
+    requires right { IsRight (spread_form env.now.plan.now count.now rule body.now (env_of env.now)) (frame_in fs.now) o }
+    requires there { k < ready (rest_of (spread_form env.now.plan.now count.now rule body.now (env_of env.now)) (frame_in fs.now) o) }
+    ensures { event_at (rest_of (spread_form env.now.plan.now count.now rule body.now (env_of env.now)) (frame_in fs.now) o) k ≡ Some (seen told.new) }
 {
-    let found = find_child(children_of(plan, env), size.frames, fs, o, k);
+    let found = find_child(children_of(env), size.frames, fs, o, k);
     let turns = Chain::Link(frame_at(fs, found.place).turn, env.turns);
     let inner = Env {
         turns: &turns,
-        nodes: env.nodes,
+        ..*env
     };
-    event_of(body, size, plan, &inner, fs, found.place, found.event, told)
+    event_of(body, size, &inner, fs, found.place, found.event, told)
 }
 
 // Tells the k-th ready event of a scope.
@@ -365,18 +333,17 @@ fn event_within(
     size: &Sizes,
     child: &Option<Num>,
     buffers: &[u32],
-    plan: &Plan,
     env: &Env<'_>,
     fs: &[Frame],
     o: usize,
     k: u64,
     told: &mut Event,
 )
-    requires sizes { size.now ≡ (made plan.now body.now).sizes }
+    requires sizes { size.now ≡ (made env.now.plan.now body.now).sizes }
     requires fits { o + stop (1 + frames size.now) ≤ length fs.now }
-    requires right { IsRight (within_form plan.now child.now buffers.now body.now (env_of env.now)) (frame_in fs.now) o }
-    requires there { k < ready (rest_of (within_form plan.now child.now buffers.now body.now (env_of env.now)) (frame_in fs.now) o) }
-    ensures { event_at (rest_of (within_form plan.now child.now buffers.now body.now (env_of env.now)) (frame_in fs.now) o) k ≡ Some (seen told.new) }
+    requires right { IsRight (within_form env.now.plan.now child.now buffers.now body.now (env_of env.now)) (frame_in fs.now) o }
+    requires there { k < ready (rest_of (within_form env.now.plan.now child.now buffers.now body.now (env_of env.now)) (frame_in fs.now) o) }
+    ensures { event_at (rest_of (within_form env.now.plan.now child.now buffers.now body.now (env_of env.now)) (frame_in fs.now) o) k ≡ Some (seen told.new) }
 {
-    event_inside(body, size, child, plan, env, fs, o + 1, k, told)
+    event_inside(body, size, child, env, fs, o + 1, k, told)
 }

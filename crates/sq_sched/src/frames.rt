@@ -9,7 +9,7 @@ ghost use Rattle.sq_sched.specs.Children.{Next, cyclic_from, block_next};
 use crate::env::{Env, children_of, count_of, value_of};
 use crate::frame::Frame;
 use crate::sizes::Sizes;
-use sq_ir::{Num, Plan};
+use sq_ir::Num;
 use sq_text::SpreadRule;
 
 /// A frame; one that is not there is all zeros.
@@ -105,10 +105,10 @@ fn arm_of(x: i64, n: usize) -> usize
 }
 
 /// The arm of a case with n arms; n where there is none.
-pub(crate) fn arm_for(pick: &Num, plan: &Plan, env: &Env<'_>, n: usize) -> usize
-    ensures { result ≡ (if has_arm (value plan.now pick.now (env_of env.now)) n then nat_part (value plan.now pick.now (env_of env.now)) else n) }
+pub(crate) fn arm_for(pick: &Num, env: &Env<'_>, n: usize) -> usize
+    ensures { result ≡ (if has_arm (value env.now.plan.now pick.now (env_of env.now)) n then nat_part (value env.now.plan.now pick.now (env_of env.now)) else n) }
 {
-    arm_of(value_of(pick, plan, env), n)
+    arm_of(value_of(pick, env), n)
 }
 
 /// The number of frames of the i-th of some parts.
@@ -145,13 +145,13 @@ pub(crate) struct Spread {
 }
 
 /// A spread where it stands.
-pub(crate) fn spread_of(number: &Num, rule: SpreadRule, plan: &Plan, env: &Env<'_>) -> Spread
-    ensures { result ≡ record { rule = rule; turns = count plan.now number.now (env_of env.now); children = children_at plan.now (env_of env.now) } }
+pub(crate) fn spread_of(number: &Num, rule: SpreadRule, env: &Env<'_>) -> Spread
+    ensures { result ≡ record { rule = rule; turns = count env.now.plan.now number.now (env_of env.now); children = children_at env.now.plan.now (env_of env.now) } }
 {
     Spread {
         rule,
-        turns: count_of(number, plan, env),
-        children: children_of(plan, env),
+        turns: count_of(number, env),
+        children: children_of(env),
     }
 }
 

@@ -14,7 +14,7 @@ use crate::find::{find_child, find_part};
 use crate::frame::Frame;
 use crate::frames::{Spread, arm_for, cover, frame_at, settle, spread_of, tally};
 use crate::sizes::Sizes;
-use sq_ir::{Num, Plan, Term};
+use sq_ir::{Num, Term};
 use sq_text::SpreadRule;
 
 // Part i goes on; or it is done, and the next one of which something is to be done begins.
@@ -22,21 +22,20 @@ fn next_part(
     parts: &[Term],
     sizes: &[Sizes],
     i: usize,
-    plan: &Plan,
     env: &Env<'_>,
     fs: &mut [Frame],
     p: usize,
 ) -> usize
-    requires sizes { sizes.now ≡ sizes_of plan.now parts.now }
+    requires sizes { sizes.now ≡ sizes_of env.now.plan.now parts.now }
     requires fits { p + greatest sizes.now ≤ length fs.old }
     requires part { i < length parts.now }
     ensures kept { IsKept fs.old fs.new p (greatest sizes.now) }
-    ensures goes { Goes (length parts.now) (items_of plan.now parts.now (env_of env.now)) fs.old fs.new p i result }
+    ensures goes { Goes (length parts.now) (items_of env.now.plan.now parts.now (env_of env.now)) fs.old fs.new p i result }
 {
     if !frame_at(fs, p).done {
         return i;
     }
-    first_part(parts, sizes, i + 1, plan, env, fs, p)
+    first_part(parts, sizes, i + 1, env, fs, p)
 }
 
 // Iteration i goes on; or it is done, and the next one of which something is to be done begins.
@@ -45,21 +44,20 @@ fn next_turn(
     size: &Sizes,
     n: u64,
     i: u64,
-    plan: &Plan,
     env: &Env<'_>,
     fs: &mut [Frame],
     p: usize,
 ) -> u64
-    requires sizes { size.now ≡ (made plan.now body.now).sizes }
+    requires sizes { size.now ≡ (made env.now.plan.now body.now).sizes }
     requires fits { p + frames size.now ≤ length fs.old }
     requires part { i < n }
     ensures kept { IsKept fs.old fs.new p (frames size.now) }
-    ensures goes { Goes n (turns_of plan.now body.now (env_of env.now)) fs.old fs.new p i result }
+    ensures goes { Goes n (turns_of env.now.plan.now body.now (env_of env.now)) fs.old fs.new p i result }
 {
     if !frame_at(fs, p).done {
         return i;
     }
-    first_turn(body, size, n, i + 1, plan, env, fs, p)
+    first_turn(body, size, n, i + 1, env, fs, p)
 }
 
 // Iteration `turn` of a child goes on; or it is done, and the next one of which something is to be done begins.
@@ -69,22 +67,21 @@ fn next_at(
     spread: Spread,
     child: u32,
     turn: u64,
-    plan: &Plan,
     env: &Env<'_>,
     fs: &mut [Frame],
     p: usize,
 )
-    requires sizes { size.now ≡ (made plan.now body.now).sizes }
+    requires sizes { size.now ≡ (made env.now.plan.now body.now).sizes }
     requires fits { p + frames size.now ≤ length fs.old }
     requires turn { turn < spread.turns }
     requires child { child < spread.children }
     ensures kept { IsKept fs.old fs.new p (frames size.now) }
-    ensures moves { Moves spread.turns (children.items spread (made plan.now body.now).form (env_of env.now) child) fs.old fs.new p turn }
+    ensures moves { Moves spread.turns (children.items spread (made env.now.plan.now body.now).form (env_of env.now) child) fs.old fs.new p turn }
 {
     if !frame_at(fs, p).done {
         return;
     }
-    first_at(body, size, spread, child, turn + 1, plan, env, fs, p);
+    first_at(body, size, spread, child, turn + 1, env, fs, p);
 }
 
 /// The k-th ready event is finished, or has trapped.
@@ -92,19 +89,18 @@ fn next_at(
 pub(crate) fn perform(
     t: &Term,
     s: &Sizes,
-    plan: &Plan,
     env: &Env<'_>,
     fs: &mut [Frame],
     o: usize,
     k: u64,
     trapped: bool,
 )
-    requires sizes { s.now ≡ (made plan.now t.now).sizes }
+    requires sizes { s.now ≡ (made env.now.plan.now t.now).sizes }
     requires fits { o + frames s.now ≤ length fs.old }
-    requires right { IsRight ((made plan.now t.now).form (env_of env.now)) (frame_in fs.old) o }
-    requires there { k < ready (rest_of ((made plan.now t.now).form (env_of env.now)) (frame_in fs.old) o) }
+    requires right { IsRight ((made env.now.plan.now t.now).form (env_of env.now)) (frame_in fs.old) o }
+    requires there { k < ready (rest_of ((made env.now.plan.now t.now).form (env_of env.now)) (frame_in fs.old) o) }
     ensures kept { IsKept fs.old fs.new o (frames s.now) }
-    ensures stepped { HasStepped ((made plan.now t.now).form (env_of env.now)) (frame_in fs.old) (frame_in fs.new) o k trapped }
+    ensures stepped { HasStepped ((made env.now.plan.now t.now).form (env_of env.now)) (frame_in fs.old) (frame_in fs.new) o k trapped }
     ensures turn { (frame_in fs.new o).turn ≡ (frame_in fs.old o).turn }
 {
     match t {
@@ -130,7 +126,6 @@ pub(crate) fn perform(
         Term::Seq(parts) => perform_seq(
             parts.as_slice(),
             s.parts.as_slice(),
-            plan,
             env,
             fs,
             o,
@@ -140,7 +135,6 @@ pub(crate) fn perform(
         Term::Par(parts) => perform_par(
             parts.as_slice(),
             s.parts.as_slice(),
-            plan,
             env,
             fs,
             o,
@@ -151,7 +145,6 @@ pub(crate) fn perform(
             body.get(),
             &s.parts.as_slice()[0],
             count,
-            plan,
             env,
             fs,
             o,
@@ -164,7 +157,6 @@ pub(crate) fn perform(
                 &s.parts.as_slice()[0],
                 count,
                 *rule,
-                plan,
                 env,
                 fs,
                 o,
@@ -176,7 +168,6 @@ pub(crate) fn perform(
             arms.as_slice(),
             s.parts.as_slice(),
             pick,
-            plan,
             env,
             fs,
             o,
@@ -194,7 +185,6 @@ pub(crate) fn perform(
                 size,
                 child,
                 buffers.as_slice(),
-                plan,
                 env,
                 fs,
                 o,
@@ -210,50 +200,48 @@ fn perform_one(
     parts: &[Term],
     sizes: &[Sizes],
     i: usize,
-    plan: &Plan,
     env: &Env<'_>,
     fs: &mut [Frame],
     p: usize,
     k: u64,
     trapped: bool,
 )
-    requires sizes { sizes.now ≡ sizes_of plan.now parts.now }
+    requires sizes { sizes.now ≡ sizes_of env.now.plan.now parts.now }
     requires part { i < length parts.now }
     requires fits { p + frames_at sizes.now i ≤ length fs.old }
-    requires right { IsRight (items_of plan.now parts.now (env_of env.now) i) (frame_in fs.old) p }
-    requires there { k < ready (rest_of (items_of plan.now parts.now (env_of env.now) i) (frame_in fs.old) p) }
+    requires right { IsRight (items_of env.now.plan.now parts.now (env_of env.now) i) (frame_in fs.old) p }
+    requires there { k < ready (rest_of (items_of env.now.plan.now parts.now (env_of env.now) i) (frame_in fs.old) p) }
     ensures kept { IsKept fs.old fs.new p (frames_at sizes.now i) }
-    ensures stepped { HasStepped (items_of plan.now parts.now (env_of env.now) i) (frame_in fs.old) (frame_in fs.new) p k trapped }
+    ensures stepped { HasStepped (items_of env.now.plan.now parts.now (env_of env.now) i) (frame_in fs.old) (frame_in fs.new) p k trapped }
     ensures turn { (frame_in fs.new p).turn ≡ (frame_in fs.old p).turn }
 {
     let part = &parts[i];
     let size = &sizes[i];
-    perform(part, size, plan, env, fs, p, k, trapped);
+    perform(part, size, env, fs, p, k, trapped);
 }
 
 #[cycle(performs)]
 fn perform_seq(
     parts: &[Term],
     sizes: &[Sizes],
-    plan: &Plan,
     env: &Env<'_>,
     fs: &mut [Frame],
     o: usize,
     k: u64,
     trapped: bool,
 )
-    requires sizes { sizes.now ≡ sizes_of plan.now parts.now }
+    requires sizes { sizes.now ≡ sizes_of env.now.plan.now parts.now }
     requires fits { o + stop (1 + greatest sizes.now) ≤ length fs.old }
-    requires right { IsRight (seq_form plan.now parts.now (env_of env.now)) (frame_in fs.old) o }
-    requires there { k < ready (rest_of (seq_form plan.now parts.now (env_of env.now)) (frame_in fs.old) o) }
+    requires right { IsRight (seq_form env.now.plan.now parts.now (env_of env.now)) (frame_in fs.old) o }
+    requires there { k < ready (rest_of (seq_form env.now.plan.now parts.now (env_of env.now)) (frame_in fs.old) o) }
     ensures kept { IsKept fs.old fs.new o (stop (1 + greatest sizes.now)) }
-    ensures stepped { HasStepped (seq_form plan.now parts.now (env_of env.now)) (frame_in fs.old) (frame_in fs.new) o k trapped }
+    ensures stepped { HasStepped (seq_form env.now.plan.now parts.now (env_of env.now)) (frame_in fs.old) (frame_in fs.new) o k trapped }
     ensures turn { (frame_in fs.new o).turn ≡ (frame_in fs.old o).turn }
 {
     let whole = frame_at(fs, o);
     let i = whole.at as usize;
-    perform_one(parts, sizes, i, plan, env, fs, o + 1, k, trapped);
-    let next = next_part(parts, sizes, i, plan, env, fs, o + 1);
+    perform_one(parts, sizes, i, env, fs, o + 1, k, trapped);
+    let next = next_part(parts, sizes, i, env, fs, o + 1);
     settle(fs, o, next as u64, parts.len() as u64, whole.turn);
 }
 
@@ -262,24 +250,23 @@ fn perform_case(
     arms: &[Term],
     sizes: &[Sizes],
     pick: &Num,
-    plan: &Plan,
     env: &Env<'_>,
     fs: &mut [Frame],
     o: usize,
     k: u64,
     trapped: bool,
 )
-    requires sizes { sizes.now ≡ sizes_of plan.now arms.now }
+    requires sizes { sizes.now ≡ sizes_of env.now.plan.now arms.now }
     requires fits { o + stop (1 + greatest sizes.now) ≤ length fs.old }
-    requires right { IsRight (case_form plan.now pick.now arms.now (env_of env.now)) (frame_in fs.old) o }
-    requires there { k < ready (rest_of (case_form plan.now pick.now arms.now (env_of env.now)) (frame_in fs.old) o) }
+    requires right { IsRight (case_form env.now.plan.now pick.now arms.now (env_of env.now)) (frame_in fs.old) o }
+    requires there { k < ready (rest_of (case_form env.now.plan.now pick.now arms.now (env_of env.now)) (frame_in fs.old) o) }
     ensures kept { IsKept fs.old fs.new o (stop (1 + greatest sizes.now)) }
-    ensures stepped { HasStepped (case_form plan.now pick.now arms.now (env_of env.now)) (frame_in fs.old) (frame_in fs.new) o k trapped }
+    ensures stepped { HasStepped (case_form env.now.plan.now pick.now arms.now (env_of env.now)) (frame_in fs.old) (frame_in fs.new) o k trapped }
     ensures turn { (frame_in fs.new o).turn ≡ (frame_in fs.old o).turn }
 {
     let turn = frame_at(fs, o).turn;
-    let i = arm_for(pick, plan, env, arms.len());
-    perform_one(arms, sizes, i, plan, env, fs, o + 1, k, trapped);
+    let i = arm_for(pick, env, arms.len());
+    perform_one(arms, sizes, i, env, fs, o + 1, k, trapped);
     settle(fs, o, 0, 1, turn);
 }
 
@@ -287,19 +274,18 @@ fn perform_case(
 fn perform_par(
     parts: &[Term],
     sizes: &[Sizes],
-    plan: &Plan,
     env: &Env<'_>,
     fs: &mut [Frame],
     o: usize,
     k: u64,
     trapped: bool,
 )
-    requires sizes { sizes.now ≡ sizes_of plan.now parts.now }
+    requires sizes { sizes.now ≡ sizes_of env.now.plan.now parts.now }
     requires fits { o + stop (1 + total sizes.now) ≤ length fs.old }
-    requires right { IsRight (par_form plan.now parts.now (env_of env.now)) (frame_in fs.old) o }
-    requires there { k < ready (rest_of (par_form plan.now parts.now (env_of env.now)) (frame_in fs.old) o) }
+    requires right { IsRight (par_form env.now.plan.now parts.now (env_of env.now)) (frame_in fs.old) o }
+    requires there { k < ready (rest_of (par_form env.now.plan.now parts.now (env_of env.now)) (frame_in fs.old) o) }
     ensures kept { IsKept fs.old fs.new o (stop (1 + total sizes.now)) }
-    ensures stepped { HasStepped (par_form plan.now parts.now (env_of env.now)) (frame_in fs.old) (frame_in fs.new) o k trapped }
+    ensures stepped { HasStepped (par_form env.now.plan.now parts.now (env_of env.now)) (frame_in fs.old) (frame_in fs.new) o k trapped }
     ensures turn { (frame_in fs.new o).turn ≡ (frame_in fs.old o).turn }
 {
     let found = find_part(sizes, fs, o, k);
@@ -308,7 +294,6 @@ fn perform_par(
         parts,
         sizes,
         found.part,
-        plan,
         env,
         fs,
         found.place,
@@ -323,30 +308,29 @@ fn perform_inside(
     body: &Term,
     size: &Sizes,
     child: &Option<Num>,
-    plan: &Plan,
     env: &Env<'_>,
     fs: &mut [Frame],
     p: usize,
     k: u64,
     trapped: bool,
 )
-    requires sizes { size.now ≡ (made plan.now body.now).sizes }
+    requires sizes { size.now ≡ (made env.now.plan.now body.now).sizes }
     requires fits { p + frames size.now ≤ length fs.old }
-    requires right { IsRight ((made plan.now body.now).form (inside plan.now child.now (env_of env.now))) (frame_in fs.old) p }
-    requires there { k < ready (rest_of ((made plan.now body.now).form (inside plan.now child.now (env_of env.now))) (frame_in fs.old) p) }
+    requires right { IsRight ((made env.now.plan.now body.now).form (inside env.now.plan.now child.now (env_of env.now))) (frame_in fs.old) p }
+    requires there { k < ready (rest_of ((made env.now.plan.now body.now).form (inside env.now.plan.now child.now (env_of env.now))) (frame_in fs.old) p) }
     ensures kept { IsKept fs.old fs.new p (frames size.now) }
-    ensures stepped { HasStepped ((made plan.now body.now).form (inside plan.now child.now (env_of env.now))) (frame_in fs.old) (frame_in fs.new) p k trapped }
+    ensures stepped { HasStepped ((made env.now.plan.now body.now).form (inside env.now.plan.now child.now (env_of env.now))) (frame_in fs.old) (frame_in fs.new) p k trapped }
 {
     match child {
-        None => perform(body, size, plan, env, fs, p, k, trapped),
+        None => perform(body, size, env, fs, p, k, trapped),
         Some(c) => {
-            let c = count_of(c, plan, env);
-            let nodes = Chain::Link(child_node(plan, env, c), env.nodes);
+            let c = count_of(c, env);
+            let nodes = Chain::Link(child_node(env, c), env.nodes);
             let inner = Env {
-                turns: env.turns,
                 nodes: &nodes,
+                ..*env
             };
-            perform(body, size, plan, &inner, fs, p, k, trapped);
+            perform(body, size, &inner, fs, p, k, trapped);
         }
     }
 }
@@ -356,30 +340,29 @@ fn perform_loop(
     body: &Term,
     size: &Sizes,
     count: &Num,
-    plan: &Plan,
     env: &Env<'_>,
     fs: &mut [Frame],
     o: usize,
     k: u64,
     trapped: bool,
 )
-    requires sizes { size.now ≡ (made plan.now body.now).sizes }
+    requires sizes { size.now ≡ (made env.now.plan.now body.now).sizes }
     requires fits { o + stop (1 + frames size.now) ≤ length fs.old }
-    requires right { IsRight (loop_form plan.now count.now body.now (env_of env.now)) (frame_in fs.old) o }
-    requires there { k < ready (rest_of (loop_form plan.now count.now body.now (env_of env.now)) (frame_in fs.old) o) }
+    requires right { IsRight (loop_form env.now.plan.now count.now body.now (env_of env.now)) (frame_in fs.old) o }
+    requires there { k < ready (rest_of (loop_form env.now.plan.now count.now body.now (env_of env.now)) (frame_in fs.old) o) }
     ensures kept { IsKept fs.old fs.new o (stop (1 + frames size.now)) }
-    ensures stepped { HasStepped (loop_form plan.now count.now body.now (env_of env.now)) (frame_in fs.old) (frame_in fs.new) o k trapped }
+    ensures stepped { HasStepped (loop_form env.now.plan.now count.now body.now (env_of env.now)) (frame_in fs.old) (frame_in fs.new) o k trapped }
     ensures turn { (frame_in fs.new o).turn ≡ (frame_in fs.old o).turn }
 {
-    let n = count_of(count, plan, env);
+    let n = count_of(count, env);
     let whole = frame_at(fs, o);
     let turns = Chain::Link(whole.at, env.turns);
     let inner = Env {
         turns: &turns,
-        nodes: env.nodes,
+        ..*env
     };
-    perform(body, size, plan, &inner, fs, o + 1, k, trapped);
-    let next = next_turn(body, size, n, whole.at, plan, env, fs, o + 1);
+    perform(body, size, &inner, fs, o + 1, k, trapped);
+    let next = next_turn(body, size, n, whole.at, env, fs, o + 1);
     settle(fs, o, next, n, whole.turn);
 }
 
@@ -389,46 +372,35 @@ fn perform_spread(
     size: &Sizes,
     count: &Num,
     rule: SpreadRule,
-    plan: &Plan,
     env: &Env<'_>,
     fs: &mut [Frame],
     o: usize,
     k: u64,
     trapped: bool,
 )
-    requires sizes { size.now ≡ (made plan.now body.now).sizes }
-    requires fits { o + stop (1 + stop (frames size.now * fan plan.now.nodes)) ≤ length fs.old }
-    requires right { IsRight (spread_form plan.now count.now rule body.now (env_of env.now)) (frame_in fs.old) o }
-    requires there { k < ready (rest_of (spread_form plan.now count.now rule body.now (env_of env.now)) (frame_in fs.old) o) }
-    ensures kept { IsKept fs.old fs.new o (stop (1 + stop (frames size.now * fan plan.now.nodes))) }
-    ensures stepped { HasStepped (spread_form plan.now count.now rule body.now (env_of env.now)) (frame_in fs.old) (frame_in fs.new) o k trapped }
+    requires sizes { size.now ≡ (made env.now.plan.now body.now).sizes }
+    requires fits { o + stop (1 + stop (frames size.now * fan env.now.plan.now.nodes)) ≤ length fs.old }
+    requires right { IsRight (spread_form env.now.plan.now count.now rule body.now (env_of env.now)) (frame_in fs.old) o }
+    requires there { k < ready (rest_of (spread_form env.now.plan.now count.now rule body.now (env_of env.now)) (frame_in fs.old) o) }
+    ensures kept { IsKept fs.old fs.new o (stop (1 + stop (frames size.now * fan env.now.plan.now.nodes))) }
+    ensures stepped { HasStepped (spread_form env.now.plan.now count.now rule body.now (env_of env.now)) (frame_in fs.old) (frame_in fs.new) o k trapped }
     ensures turn { (frame_in fs.new o).turn ≡ (frame_in fs.old o).turn }
 {
-    let spread = spread_of(count, rule, plan, env);
+    let spread = spread_of(count, rule, env);
     let found = find_child(spread.children, size.frames, fs, o, k);
     let before = frame_at(fs, found.place);
     let turns = Chain::Link(before.turn, env.turns);
     let inner = Env {
         turns: &turns,
-        nodes: env.nodes,
+        ..*env
     };
-    perform(
-        body,
-        size,
-        plan,
-        &inner,
-        fs,
-        found.place,
-        found.event,
-        trapped,
-    );
+    perform(body, size, &inner, fs, found.place, found.event, trapped);
     next_at(
         body,
         size,
         spread,
         found.part as u32,
         before.turn,
-        plan,
         env,
         fs,
         found.place,
@@ -442,22 +414,21 @@ fn perform_within(
     size: &Sizes,
     child: &Option<Num>,
     buffers: &[u32],
-    plan: &Plan,
     env: &Env<'_>,
     fs: &mut [Frame],
     o: usize,
     k: u64,
     trapped: bool,
 )
-    requires sizes { size.now ≡ (made plan.now body.now).sizes }
+    requires sizes { size.now ≡ (made env.now.plan.now body.now).sizes }
     requires fits { o + stop (1 + frames size.now) ≤ length fs.old }
-    requires right { IsRight (within_form plan.now child.now buffers.now body.now (env_of env.now)) (frame_in fs.old) o }
-    requires there { k < ready (rest_of (within_form plan.now child.now buffers.now body.now (env_of env.now)) (frame_in fs.old) o) }
+    requires right { IsRight (within_form env.now.plan.now child.now buffers.now body.now (env_of env.now)) (frame_in fs.old) o }
+    requires there { k < ready (rest_of (within_form env.now.plan.now child.now buffers.now body.now (env_of env.now)) (frame_in fs.old) o) }
     ensures kept { IsKept fs.old fs.new o (stop (1 + frames size.now)) }
-    ensures stepped { HasStepped (within_form plan.now child.now buffers.now body.now (env_of env.now)) (frame_in fs.old) (frame_in fs.new) o k trapped }
+    ensures stepped { HasStepped (within_form env.now.plan.now child.now buffers.now body.now (env_of env.now)) (frame_in fs.old) (frame_in fs.new) o k trapped }
     ensures turn { (frame_in fs.new o).turn ≡ (frame_in fs.old o).turn }
 {
     let turn = frame_at(fs, o).turn;
-    perform_inside(body, size, child, plan, env, fs, o + 1, k, trapped);
+    perform_inside(body, size, child, env, fs, o + 1, k, trapped);
     cover(fs, o, turn);
 }

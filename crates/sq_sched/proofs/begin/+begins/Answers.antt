@@ -21,20 +21,20 @@ first_part-begin_one-requires t c =
 
 pub begin_one-begin-requires : goal.begin_one-begin-requires
 begin_one-begin-requires t c =
-    let l = c.args.plan.now in
+    let l = c.args.env.now.plan.now in
     let m = most_at the_size c.args.parts.now c.args.i c.index-parts-i.result c.requires.there c.index-parts-i.is in
     (omega (arith, m), (one_sizes l c.args.parts.now c.args.sizes.now c.args.i c.index-sizes-i.result c.index-parts-i.result c.requires.sizes c.requires.there c.index-sizes-i.is c.index-parts-i.is, one_fits l c.args.parts.now c.args.sizes.now c.args.i c.args.p (length c.args.fs.now) c.index-sizes-i.result c.requires.sizes c.requires.there c.index-sizes-i.is c.requires.fits))
 
 pub begin_one-returns-clause-kept : goal.begin_one-returns-clause-kept
 begin_one-returns-clause-kept t c =
-    let n = ap length c.requires.sizes ∙ sizes_length c.args.plan.now c.args.parts.now in
+    let n = ap length c.requires.sizes ∙ sizes_length c.args.env.now.plan.now c.args.parts.now in
     let th = c.requires.there in
     let e = one_frames c.args.sizes.now c.args.i c.index-sizes-i.result (omega (arith, n, th)) c.index-sizes-i.is in
     subst (λ w. IsKept c.args.fs.now c.begin.new.fs c.args.p w) e c.begin.ensures.kept
 
 pub begin-returns-in-Seq-clause-begun : goal.begin-returns-in-Seq-clause-begun
 begin-returns-in-Seq-clause-begun t c =
-    let l = c.args.plan.now in
+    let l = c.args.env.now.plan.now in
     let env = env_of c.args.env.now in
     let o = c.args.o in
     let s = c.args.s.now in
@@ -50,7 +50,7 @@ begin-returns-in-Seq-clause-begun t c =
 
 pub begin-returns-in-Loop-clause-begun : goal.begin-returns-in-Loop-clause-begun
 begin-returns-in-Loop-clause-begun t c =
-    let l = c.args.plan.now in
+    let l = c.args.env.now.plan.now in
     let env = env_of c.args.env.now in
     let o = c.args.o in
     let s = c.args.s.now in
@@ -66,7 +66,7 @@ begin-returns-in-Loop-clause-begun t c =
 
 pub begin-returns-in-Par-clause-kept : goal.begin-returns-in-Par-clause-kept
 begin-returns-in-Par-clause-kept t c =
-    let l = c.args.plan.now in
+    let l = c.args.env.now.plan.now in
     let env = env_of c.args.env.now in
     let o = c.args.o in
     let s = c.args.s.now in
@@ -77,7 +77,7 @@ begin-returns-in-Par-clause-kept t c =
 
 pub begin-returns-in-Par-clause-begun : goal.begin-returns-in-Par-clause-begun
 begin-returns-in-Par-clause-begun t c =
-    let l = c.args.plan.now in
+    let l = c.args.env.now.plan.now in
     let env = env_of c.args.env.now in
     let o = c.args.o in
     let s = c.args.s.now in
@@ -93,7 +93,7 @@ begin-returns-in-Par-clause-begun t c =
 
 pub begin-returns-in-Within-clause-begun : goal.begin-returns-in-Within-clause-begun
 begin-returns-in-Within-clause-begun t c =
-    let l = c.args.plan.now in
+    let l = c.args.env.now.plan.now in
     let env = env_of c.args.env.now in
     let o = c.args.o in
     let s = c.args.s.now in
@@ -108,7 +108,7 @@ begin-returns-in-Within-clause-begun t c =
 
 pub first_part-bounds-fs-p : goal.first_part-bounds-fs-p
 first_part-bounds-fs-p t c =
-    let p = items_pos c.args.plan.now c.args.parts.now c.loop-i.i c.loop-i-test.true in
+    let p = items_pos c.args.env.now.plan.now c.args.parts.now c.loop-i.i c.loop-i-test.true in
     let q = ap (λ ss. frames_at ss c.loop-i.i) c.requires.sizes in
     let m = frames_most c.args.sizes.now c.loop-i.i in
     let i = c.loop-i.invariant.same in
@@ -116,29 +116,29 @@ first_part-bounds-fs-p t c =
 
 pub first_part-returns-then-not-fs-p-clause-kept : goal.first_part-returns-then-not-fs-p-clause-kept
 first_part-returns-then-not-fs-p-clause-kept t c =
-    passed_kept (length c.args.parts.now) (items_of c.args.plan.now c.args.parts.now (env_of c.args.env.now)) c.args.fs.now c.loop-i.fs c.begin_one.new.fs c.args.p (greatest c.args.sizes.now) (frames_at c.args.sizes.now c.loop-i.i) c.args.from c.loop-i.i c.loop-i.invariant c.begin_one.ensures.kept (frames_most c.args.sizes.now c.loop-i.i)
+    passed_kept (length c.args.parts.now) (items_of c.args.env.now.plan.now c.args.parts.now (env_of c.args.env.now)) c.args.fs.now c.loop-i.fs c.begin_one.new.fs c.args.p (greatest c.args.sizes.now) (frames_at c.args.sizes.now c.loop-i.i) c.args.from c.loop-i.i c.loop-i.invariant c.begin_one.ensures.kept (frames_most c.args.sizes.now c.loop-i.i)
 
 pub first_part-returns-then-not-fs-p-clause-found : goal.first_part-returns-then-not-fs-p-clause-found
 first_part-returns-then-not-fs-p-clause-found t c =
     let fs = c.begin_one.new.fs in
     let d : (frame_in fs c.args.p).done ≡ false = c.if-not-fs-p.true in
-    passed_found (length c.args.parts.now) (items_of c.args.plan.now c.args.parts.now (env_of c.args.env.now)) c.args.fs.now c.loop-i.fs fs c.args.p (greatest c.args.sizes.now) c.args.from c.loop-i.i c.loop-i.invariant c.loop-i-test.true c.begin_one.ensures.begun d
+    passed_found (length c.args.parts.now) (items_of c.args.env.now.plan.now c.args.parts.now (env_of c.args.env.now)) c.args.fs.now c.loop-i.fs fs c.args.p (greatest c.args.sizes.now) c.args.from c.loop-i.i c.loop-i.invariant c.loop-i-test.true c.begin_one.ensures.begun d
 
 pub first_part-loop-i-preserved : goal.first_part-loop-i-preserved
 first_part-loop-i-preserved t c =
     let fs = c.begin_one.new.fs in
     let d : (frame_in fs c.args.p).done ≡ true = c.if-not-fs-p.false in
-    passed_next (length c.args.parts.now) (items_of c.args.plan.now c.args.parts.now (env_of c.args.env.now)) c.args.fs.now c.loop-i.fs fs c.args.p (greatest c.args.sizes.now) (frames_at c.args.sizes.now c.loop-i.i) c.args.from c.loop-i.i c.loop-i.invariant c.loop-i-test.true c.begin_one.ensures.begun d c.begin_one.ensures.kept (frames_most c.args.sizes.now c.loop-i.i) (omega arith)
+    passed_next (length c.args.parts.now) (items_of c.args.env.now.plan.now c.args.parts.now (env_of c.args.env.now)) c.args.fs.now c.loop-i.fs fs c.args.p (greatest c.args.sizes.now) (frames_at c.args.sizes.now c.loop-i.i) c.args.from c.loop-i.i c.loop-i.invariant c.loop-i-test.true c.begin_one.ensures.begun d c.begin_one.ensures.kept (frames_most c.args.sizes.now c.loop-i.i) (omega arith)
 
 pub first_turn-loop-i-preserved : goal.first_turn-loop-i-preserved
 first_turn-loop-i-preserved t c =
     let fs = c.begin.new.fs in
     let d : (frame_in fs c.args.p).done ≡ true = c.if-not-fs-p.false in
-    passed_next c.args.n (turns_of c.args.plan.now c.args.body.now (env_of c.args.env.now)) c.args.fs.now c.loop-i.fs fs c.args.p (frames c.args.size.now) (frames c.args.size.now) c.args.from c.loop-i.i c.loop-i.invariant c.loop-i-test.true c.begin.ensures.begun d c.begin.ensures.kept (omega arith) (omega arith)
+    passed_next c.args.n (turns_of c.args.env.now.plan.now c.args.body.now (env_of c.args.env.now)) c.args.fs.now c.loop-i.fs fs c.args.p (frames c.args.size.now) (frames c.args.size.now) c.args.from c.loop-i.i c.loop-i.invariant c.loop-i-test.true c.begin.ensures.begun d c.begin.ensures.kept (omega arith) (omega arith)
 
 pub begin_parts-begin_one-requires : goal.begin_parts-begin_one-requires
 begin_parts-begin_one-requires t c =
-    let l = c.args.plan.now in
+    let l = c.args.env.now.plan.now in
     let i = c.loop-i.i in
     let m = before_room l c.args.parts.now c.args.sizes.now i c.requires.sizes c.loop-i-test.true (omega arith) in
     let r = c.requires.fits in
@@ -149,8 +149,8 @@ begin_parts-begin_one-requires t c =
 pub begin_parts-bounds-fs-p : goal.begin_parts-bounds-fs-p
 begin_parts-bounds-fs-p t c =
     let i = c.loop-i.i in
-    let m = before_room c.args.plan.now c.args.parts.now c.args.sizes.now i c.requires.sizes c.loop-i-test.true (omega arith) in
-    let q = items_pos c.args.plan.now c.args.parts.now i c.loop-i-test.true in
+    let m = before_room c.args.env.now.plan.now c.args.parts.now c.args.sizes.now i c.requires.sizes c.loop-i-test.true (omega arith) in
+    let q = items_pos c.args.env.now.plan.now c.args.parts.now i c.loop-i-test.true in
     let q2 = ap (λ ss. frames_at ss i) c.requires.sizes in
     let r = c.requires.fits in
     let s = c.loop-i.invariant.2.same in
@@ -160,8 +160,8 @@ begin_parts-bounds-fs-p t c =
 pub begin_parts-bounds-fs-p-in-loop-i : goal.begin_parts-bounds-fs-p-in-loop-i
 begin_parts-bounds-fs-p-in-loop-i t c =
     let i = c.loop-i.i in
-    let m = before_room c.args.plan.now c.args.parts.now c.args.sizes.now i c.requires.sizes c.loop-i-test.true (omega arith) in
-    let q = items_pos c.args.plan.now c.args.parts.now i c.loop-i-test.true in
+    let m = before_room c.args.env.now.plan.now c.args.parts.now c.args.sizes.now i c.requires.sizes c.loop-i-test.true (omega arith) in
+    let q = items_pos c.args.env.now.plan.now c.args.parts.now i c.loop-i-test.true in
     let q2 = ap (λ ss. frames_at ss i) c.requires.sizes in
     let r = c.requires.fits in
     let s = c.loop-i.invariant.2.same in
@@ -171,8 +171,8 @@ begin_parts-bounds-fs-p-in-loop-i t c =
 pub begin_parts-offset_bounds-fs-p : goal.begin_parts-offset_bounds-fs-p
 begin_parts-offset_bounds-fs-p t c =
     let i = c.loop-i.i in
-    let m = before_room c.args.plan.now c.args.parts.now c.args.sizes.now i c.requires.sizes c.loop-i-test.true (omega arith) in
-    let q = items_pos c.args.plan.now c.args.parts.now i c.loop-i-test.true in
+    let m = before_room c.args.env.now.plan.now c.args.parts.now c.args.sizes.now i c.requires.sizes c.loop-i-test.true (omega arith) in
+    let q = items_pos c.args.env.now.plan.now c.args.parts.now i c.loop-i-test.true in
     let q2 = ap (λ ss. frames_at ss i) c.requires.sizes in
     let r = c.requires.fits in
     let s = c.loop-i.invariant.2.same in
@@ -183,8 +183,8 @@ begin_parts-offset_bounds-fs-p t c =
 pub begin_parts-offset_bounds-fs-p-in-loop-i : goal.begin_parts-offset_bounds-fs-p-in-loop-i
 begin_parts-offset_bounds-fs-p-in-loop-i t c =
     let i = c.loop-i.i in
-    let m = before_room c.args.plan.now c.args.parts.now c.args.sizes.now i c.requires.sizes c.loop-i-test.true (omega arith) in
-    let q = items_pos c.args.plan.now c.args.parts.now i c.loop-i-test.true in
+    let m = before_room c.args.env.now.plan.now c.args.parts.now c.args.sizes.now i c.requires.sizes c.loop-i-test.true (omega arith) in
+    let q = items_pos c.args.env.now.plan.now c.args.parts.now i c.loop-i-test.true in
     let q2 = ap (λ ss. frames_at ss i) c.requires.sizes in
     let r = c.requires.fits in
     let s = c.loop-i.invariant.2.same in
@@ -195,8 +195,8 @@ begin_parts-offset_bounds-fs-p-in-loop-i t c =
 pub begin_parts-overflow_add-p-in-loop-i : goal.begin_parts-overflow_add-p-in-loop-i
 begin_parts-overflow_add-p-in-loop-i t c =
     let i = c.loop-i.i in
-    let m = before_room c.args.plan.now c.args.parts.now c.args.sizes.now i c.requires.sizes c.loop-i-test.true (omega arith) in
-    let q = items_pos c.args.plan.now c.args.parts.now i c.loop-i-test.true in
+    let m = before_room c.args.env.now.plan.now c.args.parts.now c.args.sizes.now i c.requires.sizes c.loop-i-test.true (omega arith) in
+    let q = items_pos c.args.env.now.plan.now c.args.parts.now i c.loop-i-test.true in
     let q2 = ap (λ ss. frames_at ss i) c.requires.sizes in
     let r = c.requires.fits in
     let s = c.loop-i.invariant.2.same in
@@ -208,13 +208,13 @@ begin_parts-overflow_add-p-in-loop-i t c =
 pub begin_parts-overflow_add-ready : goal.begin_parts-overflow_add-ready
 begin_parts-overflow_add-ready t c =
     let i = c.loop-i.i in
-    let m = before_room c.args.plan.now c.args.parts.now c.args.sizes.now i c.requires.sizes c.loop-i-test.true (omega arith) in
-    let q = items_pos c.args.plan.now c.args.parts.now i c.loop-i-test.true in
+    let m = before_room c.args.env.now.plan.now c.args.parts.now c.args.sizes.now i c.requires.sizes c.loop-i-test.true (omega arith) in
+    let q = items_pos c.args.env.now.plan.now c.args.parts.now i c.loop-i-test.true in
     let q2 = ap (λ ss. frames_at ss i) c.requires.sizes in
     let r = c.requires.fits in
     let s = c.loop-i.invariant.2.same in
     let p = c.loop-i.invariant.1 in
-    let plan = c.args.plan.now in
+    let plan = c.args.env.now.plan.now in
     let ts = c.args.parts.now in
     let env = env_of c.args.env.now in
     let more = ap (λ ss. before ss (i + 1)) c.requires.sizes ∙ before_more plan ts i c.loop-i-test.true
@@ -237,13 +237,13 @@ begin_parts-overflow_add-ready t c =
 pub begin_parts-loop-i-preserved : goal.begin_parts-loop-i-preserved
 begin_parts-loop-i-preserved t c =
     let i = c.loop-i.i in
-    let m = before_room c.args.plan.now c.args.parts.now c.args.sizes.now i c.requires.sizes c.loop-i-test.true (omega arith) in
-    let q = items_pos c.args.plan.now c.args.parts.now i c.loop-i-test.true in
+    let m = before_room c.args.env.now.plan.now c.args.parts.now c.args.sizes.now i c.requires.sizes c.loop-i-test.true (omega arith) in
+    let q = items_pos c.args.env.now.plan.now c.args.parts.now i c.loop-i-test.true in
     let q2 = ap (λ ss. frames_at ss i) c.requires.sizes in
     let r = c.requires.fits in
     let s = c.loop-i.invariant.2.same in
     let p = c.loop-i.invariant.1 in
-    let plan = c.args.plan.now in
+    let plan = c.args.env.now.plan.now in
     let ts = c.args.parts.now in
     let env = env_of c.args.env.now in
     let more = ap (λ ss. before ss (i + 1)) c.requires.sizes ∙ before_more plan ts i c.loop-i-test.true
@@ -273,13 +273,13 @@ begin_arm-returns-then-i-arms-clause-kept t c = wider c.args.fs.now c.begin_one.
 
 pub begin_arm-returns-then-i-arms-clause-begun : goal.begin_arm-returns-then-i-arms-clause-begun
 begin_arm-returns-then-i-arms-clause-begun t c =
-    let l = c.args.plan.now in
+    let l = c.args.env.now.plan.now in
     let env = env_of c.args.env.now in
     arm_there c.args.arms.now (value l c.args.pick.now env) (items_of l c.args.arms.now env) (frame_in c.begin_one.new.fs) c.args.p c.arm_for-i.result c.arm_for-i.ensures c.if-i-arms.true c.begin_one.ensures.begun
 
 pub begin-returns-in-Case-clause-begun : goal.begin-returns-in-Case-clause-begun
 begin-returns-in-Case-clause-begun t c =
-    let l = c.args.plan.now in
+    let l = c.args.env.now.plan.now in
     let env = env_of c.args.env.now in
     let o = c.args.o in
     let s = c.args.s.now in
@@ -296,7 +296,7 @@ begin-returns-in-Case-clause-begun t c =
 
 pub begin-returns-in-Spread-clause-kept : goal.begin-returns-in-Spread-clause-kept
 begin-returns-in-Spread-clause-kept t c =
-    let l = c.args.plan.now in
+    let l = c.args.env.now.plan.now in
     let env = env_of c.args.env.now in
     let o = c.args.o in
     let s = c.args.s.now in
@@ -312,7 +312,7 @@ begin-returns-in-Spread-clause-kept t c =
 
 pub begin-returns-in-Spread-clause-begun : goal.begin-returns-in-Spread-clause-begun
 begin-returns-in-Spread-clause-begun t c =
-    let l = c.args.plan.now in
+    let l = c.args.env.now.plan.now in
     let env = env_of c.args.env.now in
     let o = c.args.o in
     let s = c.args.s.now in
@@ -335,9 +335,9 @@ pub begin_children-first_at-requires : goal.begin_children-first_at-requires
 begin_children-first_at-requires t c =
     let i = c.loop-child.child in
     let v = frames c.args.size.now in
-    let le = fan-at c.args.plan.now c.args.plan.now.nodes (node_here (env_of c.args.env.now)) in
+    let le = fan-at c.args.env.now.plan.now c.args.env.now.plan.now.nodes (node_here (env_of c.args.env.now)) in
     let ec = c.requires.children in
-    let m = child_room v c.args.spread.children (fan c.args.plan.now.nodes) i c.loop-child-test.true (omega (arith, le, ec)) (omega arith) in
+    let m = child_room v c.args.spread.children (fan c.args.env.now.plan.now.nodes) i c.loop-child-test.true (omega (arith, le, ec)) (omega arith) in
     let r = c.requires.fits in
     let p = c.loop-child.invariant.1 in
     let s = c.loop-child.invariant.2.same in
@@ -347,10 +347,10 @@ pub begin_children-bounds-fs-p : goal.begin_children-bounds-fs-p
 begin_children-bounds-fs-p t c =
     let i = c.loop-child.child in
     let v = frames c.args.size.now in
-    let le = fan-at c.args.plan.now c.args.plan.now.nodes (node_here (env_of c.args.env.now)) in
+    let le = fan-at c.args.env.now.plan.now c.args.env.now.plan.now.nodes (node_here (env_of c.args.env.now)) in
     let ec = c.requires.children in
-    let m = child_room v c.args.spread.children (fan c.args.plan.now.nodes) i c.loop-child-test.true (omega (arith, le, ec)) (omega arith) in
-    let q = subst (λ z. 0 < frames z) (sym c.requires.sizes) (made-pos c.args.plan.now c.args.body.now) in
+    let m = child_room v c.args.spread.children (fan c.args.env.now.plan.now.nodes) i c.loop-child-test.true (omega (arith, le, ec)) (omega arith) in
+    let q = subst (λ z. 0 < frames z) (sym c.requires.sizes) (made-pos c.args.env.now.plan.now c.args.body.now) in
     let r = c.requires.fits in
     let p = c.loop-child.invariant.1 in
     let s = c.loop-child.invariant.2.same in
@@ -360,10 +360,10 @@ pub begin_children-bounds-fs-p-in-loop-child : goal.begin_children-bounds-fs-p-i
 begin_children-bounds-fs-p-in-loop-child t c =
     let i = c.loop-child.child in
     let v = frames c.args.size.now in
-    let le = fan-at c.args.plan.now c.args.plan.now.nodes (node_here (env_of c.args.env.now)) in
+    let le = fan-at c.args.env.now.plan.now c.args.env.now.plan.now.nodes (node_here (env_of c.args.env.now)) in
     let ec = c.requires.children in
-    let m = child_room v c.args.spread.children (fan c.args.plan.now.nodes) i c.loop-child-test.true (omega (arith, le, ec)) (omega arith) in
-    let q = subst (λ z. 0 < frames z) (sym c.requires.sizes) (made-pos c.args.plan.now c.args.body.now) in
+    let m = child_room v c.args.spread.children (fan c.args.env.now.plan.now.nodes) i c.loop-child-test.true (omega (arith, le, ec)) (omega arith) in
+    let q = subst (λ z. 0 < frames z) (sym c.requires.sizes) (made-pos c.args.env.now.plan.now c.args.body.now) in
     let r = c.requires.fits in
     let p = c.loop-child.invariant.1 in
     let s = c.loop-child.invariant.2.same in
@@ -373,9 +373,9 @@ pub begin_children-overflow_add-p-in-loop-child : goal.begin_children-overflow_a
 begin_children-overflow_add-p-in-loop-child t c =
     let i = c.loop-child.child in
     let v = frames c.args.size.now in
-    let le = fan-at c.args.plan.now c.args.plan.now.nodes (node_here (env_of c.args.env.now)) in
+    let le = fan-at c.args.env.now.plan.now c.args.env.now.plan.now.nodes (node_here (env_of c.args.env.now)) in
     let ec = c.requires.children in
-    let m = child_room v c.args.spread.children (fan c.args.plan.now.nodes) i c.loop-child-test.true (omega (arith, le, ec)) (omega arith) in
+    let m = child_room v c.args.spread.children (fan c.args.env.now.plan.now.nodes) i c.loop-child-test.true (omega (arith, le, ec)) (omega arith) in
     let r = c.requires.fits in
     let p = c.loop-child.invariant.1 in
     let s = c.loop-child.invariant.2.same in
@@ -386,7 +386,7 @@ pub begin_children-overflow_add-ready : goal.begin_children-overflow_add-ready
 begin_children-overflow_add-ready t c =
     let i = c.loop-child.child in
     let v = frames c.args.size.now in
-    let l = c.args.plan.now in
+    let l = c.args.env.now.plan.now in
     let env = env_of c.args.env.now in
     let b = c.args.body.now in
     let x = c.args.spread in
@@ -408,7 +408,7 @@ pub begin_children-loop-child-preserved : goal.begin_children-loop-child-preserv
 begin_children-loop-child-preserved t c =
     let i = c.loop-child.child in
     let v = frames c.args.size.now in
-    let l = c.args.plan.now in
+    let l = c.args.env.now.plan.now in
     let env = env_of c.args.env.now in
     let b = c.args.body.now in
     let x = c.args.spread in
@@ -426,7 +426,7 @@ pub begin_children-returns : goal.begin_children-returns
 begin_children-returns t c =
     let x = c.args.spread in
     let v = frames c.args.size.now in
-    let item = children.items x (made c.args.plan.now c.args.body.now).form (env_of c.args.env.now) in
+    let item = children.items x (made c.args.env.now.plan.now c.args.body.now).form (env_of c.args.env.now) in
     let le = c.loop-child.invariant.0 in
     let e : c.loop-child.child ≡ x.children = omega (arith, le) in
     subst (λ n. PartsBegun (λ i. 1 + i * v) (λ i. x.turns) item c.args.fs.now c.loop-child.fs c.args.o n c.loop-child.ready c.loop-child.live) e c.loop-child.invariant.2
@@ -435,7 +435,7 @@ pub first_at-returns-then-not-fs-p-clause-begun : goal.first_at-returns-then-not
 first_at-returns-then-not-fs-p-clause-begun t c =
     let x = c.args.spread in
     let env = env_of c.args.env.now in
-    let form = (made c.args.plan.now c.args.body.now).form in
+    let form = (made c.args.env.now.plan.now c.args.body.now).form in
     let i = c.loop-turn.turn in
     let gs = c.begin.new.fs in
     let d : (frame_in gs c.args.p).done ≡ false = c.if-not-fs-p.true in
@@ -445,7 +445,7 @@ pub first_at-loop-turn-preserved : goal.first_at-loop-turn-preserved
 first_at-loop-turn-preserved t c =
     let x = c.args.spread in
     let env = env_of c.args.env.now in
-    let form = (made c.args.plan.now c.args.body.now).form in
+    let form = (made c.args.env.now.plan.now c.args.body.now).form in
     let item = children.items x form env c.args.child in
     let i = c.loop-turn.turn in
     let w = frames c.args.size.now in

@@ -13,7 +13,7 @@ use Rattle.sq_sched.proofs.find.+reads.Goals as goal
 
 pub event_of-returns-in-Act : goal.event_of-returns-in-Act
 event_of-returns-in-Act t c =
-    let l = c.args.plan.now in
+    let l = c.args.env.now.plan.now in
     let env = env_of c.args.env.now in
     let fs = frame_in c.args.fs.now in
     let there = subst (λ x. c.args.k < ready (rest_of ((made l x).form env) fs c.args.o)) c.in-Act.is c.requires.there in
@@ -21,7 +21,7 @@ event_of-returns-in-Act t c =
 
 pub event_one-event_of-requires : goal.event_one-event_of-requires
 event_one-event_of-requires t c =
-    let l = c.args.plan.now in
+    let l = c.args.env.now.plan.now in
     let env = env_of c.args.env.now in
     let fs = frame_in c.args.fs.now in
     let m = most_at the_size c.args.parts.now c.args.i c.index-parts-i.result c.requires.part c.index-parts-i.is in
@@ -30,7 +30,7 @@ event_one-event_of-requires t c =
 
 pub event_seq-event_one-requires : goal.event_seq-event_one-requires
 event_seq-event_one-requires t c =
-    let l = c.args.plan.now in
+    let l = c.args.env.now.plan.now in
     let env = env_of c.args.env.now in
     let fs = frame_in c.args.fs.now in
     let o = c.args.o in
@@ -59,13 +59,13 @@ event_seq-event_one-requires t c =
 
 pub event_par-find_part-found-requires-clause-fits : goal.event_par-find_part-found-requires-clause-fits
 event_par-find_part-found-requires-clause-fits t c =
-    let r = par_room c.args.plan.now c.args.parts.now c.args.sizes.now c.requires.sizes (omega arith) in
+    let r = par_room c.args.env.now.plan.now c.args.parts.now c.args.sizes.now c.requires.sizes (omega arith) in
     let f = c.requires.fits in
     omega (arith, r, f)
 
 pub event_par-find_part-found-requires-clause-there : goal.event_par-find_part-found-requires-clause-there
 event_par-find_part-found-requires-clause-there t c =
-    let l = c.args.plan.now in
+    let l = c.args.env.now.plan.now in
     let env = env_of c.args.env.now in
     let fs = frame_in c.args.fs.now in
     let o = c.args.o in
@@ -77,7 +77,7 @@ event_par-find_part-found-requires-clause-there t c =
 
 pub event_par-event_one-requires : goal.event_par-event_one-requires
 event_par-event_one-requires t c =
-    let l = c.args.plan.now in
+    let l = c.args.env.now.plan.now in
     let env = env_of c.args.env.now in
     let fs = frame_in c.args.fs.now in
     let o = c.args.o in
@@ -96,7 +96,7 @@ event_par-event_one-requires t c =
 
 pub event_par-returns : goal.event_par-returns
 event_par-returns t c =
-    let l = c.args.plan.now in
+    let l = c.args.env.now.plan.now in
     let env = env_of c.args.env.now in
     let fs = frame_in c.args.fs.now in
     let o = c.args.o in
@@ -113,7 +113,7 @@ event_par-returns t c =
 
 pub event_case-event_one-requires : goal.event_case-event_one-requires
 event_case-event_one-requires t c =
-    let l = c.args.plan.now in
+    let l = c.args.env.now.plan.now in
     let env = env_of c.args.env.now in
     let fs = frame_in c.args.fs.now in
     let o = c.args.o in
@@ -126,7 +126,7 @@ event_case-event_one-requires t c =
 
 pub event_case-returns : goal.event_case-returns
 event_case-returns t c =
-    let l = c.args.plan.now in
+    let l = c.args.env.now.plan.now in
     let env = env_of c.args.env.now in
     let fs = frame_in c.args.fs.now in
     let o = c.args.o in
@@ -139,7 +139,7 @@ event_case-returns t c =
 
 pub event_spread-find_child-found-requires-clause-fits : goal.event_spread-find_child-found-requires-clause-fits
 event_spread-find_child-found-requires-clause-fits t c =
-    let l = c.args.plan.now in
+    let l = c.args.env.now.plan.now in
     let env = env_of c.args.env.now in
     let es = c.args.fs.now in
     let o = c.args.o in
@@ -158,7 +158,7 @@ event_spread-find_child-found-requires-clause-fits t c =
 
 pub event_spread-find_child-found-requires-clause-there : goal.event_spread-find_child-found-requires-clause-there
 event_spread-find_child-found-requires-clause-there t c =
-    let l = c.args.plan.now in
+    let l = c.args.env.now.plan.now in
     let env = env_of c.args.env.now in
     let es = c.args.fs.now in
     let o = c.args.o in
@@ -178,7 +178,7 @@ event_spread-find_child-found-requires-clause-there t c =
 
 pub event_spread-event_of-requires : goal.event_spread-event_of-requires
 event_spread-event_of-requires t c =
-    let l = c.args.plan.now in
+    let l = c.args.env.now.plan.now in
     let env = env_of c.args.env.now in
     let es = c.args.fs.now in
     let o = c.args.o in
@@ -210,7 +210,7 @@ event_spread-event_of-requires t c =
 
 pub event_spread-returns : goal.event_spread-returns
 event_spread-returns t c =
-    let l = c.args.plan.now in
+    let l = c.args.env.now.plan.now in
     let env = env_of c.args.env.now in
     let es = c.args.fs.now in
     let o = c.args.o in

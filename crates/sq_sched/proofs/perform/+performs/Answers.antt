@@ -18,7 +18,7 @@ use Rattle.sq_sched.proofs.perform.+performs.Goals as goal
 
 pub perform_one-perform-requires : goal.perform_one-perform-requires
 perform_one-perform-requires t c =
-    let l = c.args.plan.now in
+    let l = c.args.env.now.plan.now in
     let env = env_of c.args.env.now in
     let fs = frame_in c.args.fs.now in
     let m = most_at the_size c.args.parts.now c.args.i c.index-parts-i.result c.requires.part c.index-parts-i.is in
@@ -27,14 +27,14 @@ perform_one-perform-requires t c =
 
 pub perform_one-returns-clause-kept : goal.perform_one-returns-clause-kept
 perform_one-returns-clause-kept t c =
-    let n = ap length c.requires.sizes ∙ sizes_length c.args.plan.now c.args.parts.now in
+    let n = ap length c.requires.sizes ∙ sizes_length c.args.env.now.plan.now c.args.parts.now in
     let th = c.requires.part in
     let e = one_frames c.args.sizes.now c.args.i c.index-sizes-i.result (omega (arith, n, th)) c.index-sizes-i.is in
     subst (λ w. IsKept c.args.fs.now c.perform.new.fs c.args.p w) e c.perform.ensures.kept
 
 pub perform_seq-perform_one-requires : goal.perform_seq-perform_one-requires
 perform_seq-perform_one-requires t c =
-    let l = c.args.plan.now in
+    let l = c.args.env.now.plan.now in
     let env = env_of c.args.env.now in
     let fs = frame_in c.args.fs.now in
     let o = c.args.o in
@@ -63,7 +63,7 @@ perform_seq-perform_one-requires t c =
 
 pub perform_seq-next_part-next-requires-clause-part : goal.perform_seq-next_part-next-requires-clause-part
 perform_seq-next_part-next-requires-clause-part t c =
-    let x = seq_into c.args.plan.now (env_of c.args.env.now) c.args.o c.args.k c.args.parts.now (frame_in c.args.fs.now) c.requires.right c.requires.there in
+    let x = seq_into c.args.env.now.plan.now (env_of c.args.env.now) c.args.o c.args.k c.args.parts.now (frame_in c.args.fs.now) c.requires.right c.requires.there in
     subst (λ i. i < length c.args.parts.now) (ap (λ f. f.at) (sym c.frame_at-whole.ensures)) x.0
 
 pub perform_seq-returns-clause-kept : goal.perform_seq-returns-clause-kept
@@ -78,7 +78,7 @@ perform_seq-returns-clause-kept t c =
 
 pub perform_seq-returns-clause-stepped : goal.perform_seq-returns-clause-stepped
 perform_seq-returns-clause-stepped t c =
-    let l = c.args.plan.now in
+    let l = c.args.env.now.plan.now in
     let env = env_of c.args.env.now in
     let ts = c.args.parts.now in
     let r = one_room c.args.sizes.now 0 (omega arith) in
@@ -90,7 +90,7 @@ perform_seq-returns-clause-stepped t c =
 
 pub perform-returns-then-trapped-clause-stepped : goal.perform-returns-then-trapped-clause-stepped
 perform-returns-then-trapped-clause-stepped t c =
-    let l = c.args.plan.now in
+    let l = c.args.env.now.plan.now in
     let env = env_of c.args.env.now in
     let es = c.args.fs.now in
     let o = c.args.o in
@@ -106,7 +106,7 @@ perform-returns-then-trapped-clause-stepped t c =
 
 pub perform-returns-else-trapped-clause-stepped : goal.perform-returns-else-trapped-clause-stepped
 perform-returns-else-trapped-clause-stepped t c =
-    let l = c.args.plan.now in
+    let l = c.args.env.now.plan.now in
     let env = env_of c.args.env.now in
     let es = c.args.fs.now in
     let o = c.args.o in
@@ -122,7 +122,7 @@ perform-returns-else-trapped-clause-stepped t c =
 
 pub perform_case-perform_one-requires : goal.perform_case-perform_one-requires
 perform_case-perform_one-requires t c =
-    let l = c.args.plan.now in
+    let l = c.args.env.now.plan.now in
     let env = env_of c.args.env.now in
     let es = c.args.fs.now in
     let o = c.args.o in
@@ -136,7 +136,7 @@ perform_case-perform_one-requires t c =
 
 pub perform_case-returns-clause-kept : goal.perform_case-returns-clause-kept
 perform_case-returns-clause-kept t c =
-    let l = c.args.plan.now in
+    let l = c.args.env.now.plan.now in
     let env = env_of c.args.env.now in
     let es = c.args.fs.now in
     let o = c.args.o in
@@ -151,7 +151,7 @@ perform_case-returns-clause-kept t c =
 
 pub perform_case-returns-clause-stepped : goal.perform_case-returns-clause-stepped
 perform_case-returns-clause-stepped t c =
-    let l = c.args.plan.now in
+    let l = c.args.env.now.plan.now in
     let env = env_of c.args.env.now in
     let es = c.args.fs.now in
     let o = c.args.o in
@@ -169,13 +169,13 @@ perform_case-returns-clause-stepped t c =
 
 pub perform_par-find_part-found-requires-clause-fits : goal.perform_par-find_part-found-requires-clause-fits
 perform_par-find_part-found-requires-clause-fits t c =
-    let r = par_room c.args.plan.now c.args.parts.now c.args.sizes.now c.requires.sizes (omega arith) in
+    let r = par_room c.args.env.now.plan.now c.args.parts.now c.args.sizes.now c.requires.sizes (omega arith) in
     let f = c.requires.fits in
     omega (arith, r, f)
 
 pub perform_par-find_part-found-requires-clause-there : goal.perform_par-find_part-found-requires-clause-there
 perform_par-find_part-found-requires-clause-there t c =
-    let l = c.args.plan.now in
+    let l = c.args.env.now.plan.now in
     let env = env_of c.args.env.now in
     let es = c.args.fs.now in
     let o = c.args.o in
@@ -187,7 +187,7 @@ perform_par-find_part-found-requires-clause-there t c =
 
 pub perform_par-perform_one-requires : goal.perform_par-perform_one-requires
 perform_par-perform_one-requires t c =
-    let l = c.args.plan.now in
+    let l = c.args.env.now.plan.now in
     let env = env_of c.args.env.now in
     let es = c.args.fs.now in
     let o = c.args.o in
@@ -208,7 +208,7 @@ perform_par-perform_one-requires t c =
 
 pub perform_par-returns-clause-kept : goal.perform_par-returns-clause-kept
 perform_par-returns-clause-kept t c =
-    let l = c.args.plan.now in
+    let l = c.args.env.now.plan.now in
     let env = env_of c.args.env.now in
     let es = c.args.fs.now in
     let o = c.args.o in
@@ -228,7 +228,7 @@ perform_par-returns-clause-kept t c =
 
 pub perform_par-tally-requires-clause-ready : goal.perform_par-tally-requires-clause-ready
 perform_par-tally-requires-clause-ready t c =
-    let l = c.args.plan.now in
+    let l = c.args.env.now.plan.now in
     let env = env_of c.args.env.now in
     let es = c.args.fs.now in
     let o = c.args.o in
@@ -256,7 +256,7 @@ perform_par-tally-requires-clause-ready t c =
 
 pub perform_par-tally-requires-clause-number : goal.perform_par-tally-requires-clause-number
 perform_par-tally-requires-clause-number t c =
-    let l = c.args.plan.now in
+    let l = c.args.env.now.plan.now in
     let env = env_of c.args.env.now in
     let es = c.args.fs.now in
     let o = c.args.o in
@@ -284,7 +284,7 @@ perform_par-tally-requires-clause-number t c =
 
 pub perform_par-tally-requires-clause-few : goal.perform_par-tally-requires-clause-few
 perform_par-tally-requires-clause-few t c =
-    let l = c.args.plan.now in
+    let l = c.args.env.now.plan.now in
     let env = env_of c.args.env.now in
     let es = c.args.fs.now in
     let o = c.args.o in
@@ -311,7 +311,7 @@ perform_par-tally-requires-clause-few t c =
 
 pub perform_par-tally-requires-clause-room : goal.perform_par-tally-requires-clause-room
 perform_par-tally-requires-clause-room t c =
-    let l = c.args.plan.now in
+    let l = c.args.env.now.plan.now in
     let env = env_of c.args.env.now in
     let es = c.args.fs.now in
     let o = c.args.o in
@@ -341,7 +341,7 @@ perform_par-tally-requires-clause-room t c =
 
 pub perform_par-returns-clause-stepped : goal.perform_par-returns-clause-stepped
 perform_par-returns-clause-stepped t c =
-    let l = c.args.plan.now in
+    let l = c.args.env.now.plan.now in
     let env = env_of c.args.env.now in
     let es = c.args.fs.now in
     let o = c.args.o in
@@ -373,7 +373,7 @@ perform_par-returns-clause-stepped t c =
 
 pub perform_loop-returns-clause-stepped : goal.perform_loop-returns-clause-stepped
 perform_loop-returns-clause-stepped t c =
-    let l = c.args.plan.now in
+    let l = c.args.env.now.plan.now in
     let env = env_of c.args.env.now in
     let es = c.args.fs.now in
     let o = c.args.o in
@@ -388,7 +388,7 @@ perform_loop-returns-clause-stepped t c =
 
 pub perform_within-returns-clause-stepped : goal.perform_within-returns-clause-stepped
 perform_within-returns-clause-stepped t c =
-    let l = c.args.plan.now in
+    let l = c.args.env.now.plan.now in
     let env = env_of c.args.env.now in
     let es = c.args.fs.now in
     let o = c.args.o in
@@ -405,7 +405,7 @@ perform_within-returns-clause-stepped t c =
 
 pub perform_spread-find_child-found-requires-clause-fits : goal.perform_spread-find_child-found-requires-clause-fits
 perform_spread-find_child-found-requires-clause-fits t c =
-    let l = c.args.plan.now in
+    let l = c.args.env.now.plan.now in
     let env = env_of c.args.env.now in
     let es = c.args.fs.now in
     let o = c.args.o in
@@ -424,7 +424,7 @@ perform_spread-find_child-found-requires-clause-fits t c =
 
 pub perform_spread-find_child-found-requires-clause-there : goal.perform_spread-find_child-found-requires-clause-there
 perform_spread-find_child-found-requires-clause-there t c =
-    let l = c.args.plan.now in
+    let l = c.args.env.now.plan.now in
     let env = env_of c.args.env.now in
     let es = c.args.fs.now in
     let o = c.args.o in
@@ -444,7 +444,7 @@ perform_spread-find_child-found-requires-clause-there t c =
 
 pub perform_spread-perform-requires : goal.perform_spread-perform-requires
 perform_spread-perform-requires t c =
-    let l = c.args.plan.now in
+    let l = c.args.env.now.plan.now in
     let env = env_of c.args.env.now in
     let es = c.args.fs.now in
     let o = c.args.o in
@@ -476,7 +476,7 @@ perform_spread-perform-requires t c =
 
 pub perform_spread-next_at-requires-clause-fits : goal.perform_spread-next_at-requires-clause-fits
 perform_spread-next_at-requires-clause-fits t c =
-    let l = c.args.plan.now in
+    let l = c.args.env.now.plan.now in
     let env = env_of c.args.env.now in
     let es = c.args.fs.now in
     let o = c.args.o in
@@ -506,7 +506,7 @@ perform_spread-next_at-requires-clause-fits t c =
 
 pub perform_spread-tally-requires-clause-ready : goal.perform_spread-tally-requires-clause-ready
 perform_spread-tally-requires-clause-ready t c =
-    let l = c.args.plan.now in
+    let l = c.args.env.now.plan.now in
     let env = env_of c.args.env.now in
     let es = c.args.fs.now in
     let o = c.args.o in
@@ -542,7 +542,7 @@ perform_spread-tally-requires-clause-ready t c =
 
 pub perform_spread-tally-requires-clause-number : goal.perform_spread-tally-requires-clause-number
 perform_spread-tally-requires-clause-number t c =
-    let l = c.args.plan.now in
+    let l = c.args.env.now.plan.now in
     let env = env_of c.args.env.now in
     let es = c.args.fs.now in
     let o = c.args.o in
@@ -578,7 +578,7 @@ perform_spread-tally-requires-clause-number t c =
 
 pub perform_spread-tally-requires-clause-few : goal.perform_spread-tally-requires-clause-few
 perform_spread-tally-requires-clause-few t c =
-    let l = c.args.plan.now in
+    let l = c.args.env.now.plan.now in
     let env = env_of c.args.env.now in
     let es = c.args.fs.now in
     let o = c.args.o in
@@ -613,7 +613,7 @@ perform_spread-tally-requires-clause-few t c =
 
 pub perform_spread-tally-requires-clause-room : goal.perform_spread-tally-requires-clause-room
 perform_spread-tally-requires-clause-room t c =
-    let l = c.args.plan.now in
+    let l = c.args.env.now.plan.now in
     let env = env_of c.args.env.now in
     let es = c.args.fs.now in
     let o = c.args.o in
@@ -659,7 +659,7 @@ perform_spread-tally-requires-clause-room t c =
 
 pub perform_spread-returns-clause-kept : goal.perform_spread-returns-clause-kept
 perform_spread-returns-clause-kept t c =
-    let l = c.args.plan.now in
+    let l = c.args.env.now.plan.now in
     let env = env_of c.args.env.now in
     let es = c.args.fs.now in
     let o = c.args.o in
@@ -691,7 +691,7 @@ perform_spread-returns-clause-kept t c =
 
 pub perform_spread-returns-clause-stepped : goal.perform_spread-returns-clause-stepped
 perform_spread-returns-clause-stepped t c =
-    let l = c.args.plan.now in
+    let l = c.args.env.now.plan.now in
     let env = env_of c.args.env.now in
     let es = c.args.fs.now in
     let o = c.args.o in
