@@ -16,6 +16,7 @@ use crate::event::Event;
 use crate::find::event_of;
 use crate::frame::Frame;
 use crate::frames::{cover, frame_at};
+use crate::part::Part;
 use crate::perform::perform;
 use crate::sizes::{Sizes, fan_of, measure};
 use sq_ir::Plan;
@@ -82,13 +83,7 @@ fn begin_all(plan: &Plan, alloc: Global) -> Result<Begun, AllocError>
     let Some(count) = sizes.frames.checked_add(1) else {
         return Err(AllocError);
     };
-    let nothing = Frame {
-        at: 0,
-        turn: 0,
-        ready: 0,
-        done: true,
-    };
-    let mut frames = vec![in alloc; nothing; count as usize]?;
+    let mut frames = vec![in alloc; Frame::over(0, 0); count as usize]?;
     begin_in(plan, &sizes, frames.as_mut_slice());
     Ok(Begun { sizes, frames })
 }
@@ -106,7 +101,11 @@ fn begin_in(plan: &Plan, sizes: &Sizes, fs: &mut [Frame])
         turns: &top,
         nodes: &nodes,
     };
-    begin(&plan.draft.term, sizes, &env, fs, 1, 0);
+    let part = Part {
+        term: &plan.draft.term,
+        sizes,
+    };
+    begin(part, &env, fs, 1, 0);
     cover(fs, 0, 0);
 }
 
@@ -123,13 +122,17 @@ fn event_in(plan: &Plan, sizes: &Sizes, fs: &[Frame], k: u64) -> Event
         turns: &top,
         nodes: &nodes,
     };
+    let part = Part {
+        term: &plan.draft.term,
+        sizes,
+    };
     let mut event = Event::Fill {
         to: Spot { node: 0, at: 0 },
         elem: Elem::Byte,
         count: 0,
         value: 0,
     };
-    event_of(&plan.draft.term, sizes, &env, fs, 1, k, &mut event);
+    event_of(part, &env, fs, 1, k, &mut event);
     event
 }
 
@@ -146,7 +149,11 @@ fn perform_in(plan: &Plan, sizes: &Sizes, fs: &mut [Frame], k: u64, trapped: boo
         turns: &top,
         nodes: &nodes,
     };
-    perform(&plan.draft.term, sizes, &env, fs, 1, k, trapped);
+    let part = Part {
+        term: &plan.draft.term,
+        sizes,
+    };
+    perform(part, &env, fs, 1, k, trapped);
     cover(fs, 0, 0);
 }
 

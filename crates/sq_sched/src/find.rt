@@ -5,12 +5,14 @@ ghost use Rattle.sq_ir.specs.Tree.{ready, event_at};
 ghost use Rattle.sq_sched.specs.Words.{env_of};
 ghost use Rattle.sq_sched.specs.Seen.{seen};
 ghost use Rattle.sq_sched.specs.Shapes.{frame_in, sum_of, rest_of, IsRight};
-ghost use Rattle.sq_sched.specs.Forms.{made, frames, greatest, total, stop, fan, inside, frames_at, sizes_of, items_of, before, seq_form, par_form, loop_form, spread_form, case_form, within_form, InPart, InItems};
+ghost use Rattle.sq_sched.specs.Forms.{made, frames, greatest, total, stop, fan, inside, frames_at, items_of, before, seq_form, par_form, loop_form, spread_form, case_form, within_form, InPart, InItems};
+ghost use Rattle.sq_sched.specs.Parts.{IsSized, AreSized, form_at};
 
 use crate::env::{Chain, Env, child_node, children_of, count_of};
 use crate::event::{Event, tell};
 use crate::frame::Frame;
 use crate::frames::{Within, arm_for, frame_at, frames_of};
+use crate::part::{Part, Parts};
 use crate::sizes::Sizes;
 use sq_ir::{Num, Term};
 use sq_text::SpreadRule;
@@ -62,143 +64,73 @@ pub(crate) fn find_child(children: u32, width: u64, fs: &[Frame], o: usize, k: u
 /// Tells the k-th ready event from left to right.
 #[cycle(reads)]
 pub(crate) fn event_of(
-    t: &Term,
-    s: &Sizes,
+    part: Part<'_>,
     env: &Env<'_>,
     fs: &[Frame],
     o: usize,
     k: u64,
     told: &mut Event,
 )
-    requires sizes { s.now ≡ (made env.now.plan.now t.now).sizes }
-    requires fits { o + frames s.now ≤ length fs.now }
-    requires right { IsRight ((made env.now.plan.now t.now).form (env_of env.now)) (frame_in fs.now) o }
-    requires there { k < ready (rest_of ((made env.now.plan.now t.now).form (env_of env.now)) (frame_in fs.now) o) }
-    ensures { event_at (rest_of ((made env.now.plan.now t.now).form (env_of env.now)) (frame_in fs.now) o) k ≡ Some (seen told.new) }
+    requires sizes { IsSized env.now part }
+    requires fits { o + frames part.sizes.now ≤ length fs.now }
+    requires right { IsRight (form_at env.now part) (frame_in fs.now) o }
+    requires there { k < ready (rest_of (form_at env.now part) (frame_in fs.now) o) }
+    ensures { event_at (rest_of (form_at env.now part.entry) (frame_in fs.now) o) k ≡ Some (seen told.new) }
 {
-    match t {
+    match part.term {
         Term::Skip => unreachable!(),
         Term::Act(action) => tell(action, env, told),
-        Term::Seq(parts) => event_seq(parts.as_slice(), s.parts.as_slice(), env, fs, o, k, told),
-        Term::Par(parts) => event_par(parts.as_slice(), s.parts.as_slice(), env, fs, o, k, told),
-        Term::Loop { count, body } => event_loop(
-            body.get(),
-            &s.parts.as_slice()[0],
-            count,
-            env,
-            fs,
-            o,
-            k,
-            told,
-        ),
-        Term::Spread { count, rule, body } => {
-            event_spread(
-                body.get(),
-                &s.parts.as_slice()[0],
-                count,
-                *rule,
-                env,
-                fs,
-                o,
-                k,
-                told,
-            )
+        Term::Seq(parts) => event_seq(part.parts(parts.as_slice()), env, fs, o, k, told),
+        Term::Par(parts) => event_par(part.parts(parts.as_slice()), env, fs, o, k, told),
+        Term::Loop { count, body } => {
+            event_loop(part.body(body.get()), count, env, fs, o, k, told)
         }
-        Term::Case { pick, arms } => event_case(
-            arms.as_slice(),
-            s.parts.as_slice(),
-            pick,
-            env,
-            fs,
-            o,
-            k,
-            told,
-        ),
+        Term::Spread { count, rule, body } => {
+            event_spread(part.body(body.get()), count, *rule, env, fs, o, k, told)
+        }
+        Term::Case { pick, arms } => {
+            event_case(part.parts(arms.as_slice()), pick, env, fs, o, k, told)
+        }
         Term::Within {
             child,
             buffers,
             body,
         } => {
-            let size = &s.parts.as_slice()[0];
-            event_within(
-                body.get(),
-                size,
-                child,
-                buffers.as_slice(),
-                env,
-                fs,
-                o,
-                k,
-                told,
-            )
+            let body = part.body(body.get());
+            event_within(body, child, buffers.as_slice(), env, fs, o, k, told)
         }
     }
 }
 
 // Tells the k-th ready event of a sequence.
 #[cycle(reads)]
-fn event_seq(
-    parts: &[Term],
-    sizes: &[Sizes],
-    env: &Env<'_>,
-    fs: &[Frame],
-    o: usize,
-    k: u64,
-    told: &mut Event,
-)
-    requires sizes { sizes.now ≡ sizes_of env.now.plan.now parts.now }
-    requires fits { o + stop (1 + greatest sizes.now) ≤ length fs.now }
-    requires right { IsRight (seq_form env.now.plan.now parts.now (env_of env.now)) (frame_in fs.now) o }
-    requires there { k < ready (rest_of (seq_form env.now.plan.now parts.now (env_of env.now)) (frame_in fs.now) o) }
-    ensures { event_at (rest_of (seq_form env.now.plan.now parts.now (env_of env.now)) (frame_in fs.now) o) k ≡ Some (seen told.new) }
+fn event_seq(parts: Parts<'_>, env: &Env<'_>, fs: &[Frame], o: usize, k: u64, told: &mut Event)
+    requires sizes { AreSized env.now parts }
+    requires fits { o + stop (1 + greatest parts.sizes.now) ≤ length fs.now }
+    requires right { IsRight (seq_form env.now.plan.now parts.terms.now (env_of env.now)) (frame_in fs.now) o }
+    requires there { k < ready (rest_of (seq_form env.now.plan.now parts.terms.now (env_of env.now)) (frame_in fs.now) o) }
+    ensures { event_at (rest_of (seq_form env.now.plan.now parts.entry.terms.now (env_of env.now)) (frame_in fs.now) o) k ≡ Some (seen told.new) }
 {
-    event_one(
-        parts,
-        sizes,
-        frame_at(fs, o).at as usize,
-        env,
-        fs,
-        o + 1,
-        k,
-        told,
-    )
+    event_one(parts, frame_at(fs, o).at as usize, env, fs, o + 1, k, told)
 }
 
 // Tells the k-th ready event of parts beside one another.
 #[cycle(reads)]
-fn event_par(
-    parts: &[Term],
-    sizes: &[Sizes],
-    env: &Env<'_>,
-    fs: &[Frame],
-    o: usize,
-    k: u64,
-    told: &mut Event,
-)
-    requires sizes { sizes.now ≡ sizes_of env.now.plan.now parts.now }
-    requires fits { o + stop (1 + total sizes.now) ≤ length fs.now }
-    requires right { IsRight (par_form env.now.plan.now parts.now (env_of env.now)) (frame_in fs.now) o }
-    requires there { k < ready (rest_of (par_form env.now.plan.now parts.now (env_of env.now)) (frame_in fs.now) o) }
-    ensures { event_at (rest_of (par_form env.now.plan.now parts.now (env_of env.now)) (frame_in fs.now) o) k ≡ Some (seen told.new) }
+fn event_par(parts: Parts<'_>, env: &Env<'_>, fs: &[Frame], o: usize, k: u64, told: &mut Event)
+    requires sizes { AreSized env.now parts }
+    requires fits { o + stop (1 + total parts.sizes.now) ≤ length fs.now }
+    requires right { IsRight (par_form env.now.plan.now parts.terms.now (env_of env.now)) (frame_in fs.now) o }
+    requires there { k < ready (rest_of (par_form env.now.plan.now parts.terms.now (env_of env.now)) (frame_in fs.now) o) }
+    ensures { event_at (rest_of (par_form env.now.plan.now parts.entry.terms.now (env_of env.now)) (frame_in fs.now) o) k ≡ Some (seen told.new) }
 {
-    let found = find_part(sizes, fs, o, k);
-    event_one(
-        parts,
-        sizes,
-        found.part,
-        env,
-        fs,
-        found.place,
-        found.event,
-        told,
-    )
+    let found = find_part(parts.sizes, fs, o, k);
+    event_one(parts, found.part, env, fs, found.place, found.event, told)
 }
 
 // Tells the k-th ready event of a case.
 #[cycle(reads)]
 fn event_case(
-    arms: &[Term],
-    sizes: &[Sizes],
+    arms: Parts<'_>,
     pick: &Num,
     env: &Env<'_>,
     fs: &[Frame],
@@ -206,68 +138,61 @@ fn event_case(
     k: u64,
     told: &mut Event,
 )
-    requires sizes { sizes.now ≡ sizes_of env.now.plan.now arms.now }
-    requires fits { o + stop (1 + greatest sizes.now) ≤ length fs.now }
-    requires right { IsRight (case_form env.now.plan.now pick.now arms.now (env_of env.now)) (frame_in fs.now) o }
-    requires there { k < ready (rest_of (case_form env.now.plan.now pick.now arms.now (env_of env.now)) (frame_in fs.now) o) }
-    ensures { event_at (rest_of (case_form env.now.plan.now pick.now arms.now (env_of env.now)) (frame_in fs.now) o) k ≡ Some (seen told.new) }
+    requires sizes { AreSized env.now arms }
+    requires fits { o + stop (1 + greatest arms.sizes.now) ≤ length fs.now }
+    requires right { IsRight (case_form env.now.plan.now pick.now arms.terms.now (env_of env.now)) (frame_in fs.now) o }
+    requires there { k < ready (rest_of (case_form env.now.plan.now pick.now arms.terms.now (env_of env.now)) (frame_in fs.now) o) }
+    ensures { event_at (rest_of (case_form env.now.plan.now pick.now arms.entry.terms.now (env_of env.now)) (frame_in fs.now) o) k ≡ Some (seen told.new) }
 {
-    let i = arm_for(pick, env, arms.len());
-    event_one(arms, sizes, i, env, fs, o + 1, k, told)
+    let i = arm_for(pick, env, arms.terms.len());
+    event_one(arms, i, env, fs, o + 1, k, told)
 }
 
 // Tells the k-th ready event of the i-th of some parts.
 #[cycle(reads)]
 fn event_one(
-    parts: &[Term],
-    sizes: &[Sizes],
+    parts: Parts<'_>,
     i: usize,
     env: &Env<'_>,
     fs: &[Frame],
-    p: usize,
+    o: usize,
     k: u64,
     told: &mut Event,
 )
-    requires sizes { sizes.now ≡ sizes_of env.now.plan.now parts.now }
-    requires part { i < length parts.now }
-    requires fits { p + frames_at sizes.now i ≤ length fs.now }
-    requires right { IsRight (items_of env.now.plan.now parts.now (env_of env.now) i) (frame_in fs.now) p }
-    requires there { k < ready (rest_of (items_of env.now.plan.now parts.now (env_of env.now) i) (frame_in fs.now) p) }
-    ensures { event_at (rest_of (items_of env.now.plan.now parts.now (env_of env.now) i) (frame_in fs.now) p) k ≡ Some (seen told.new) }
+    requires sizes { AreSized env.now parts }
+    requires part { i < length parts.terms.now }
+    requires fits { o + frames_at parts.sizes.now i ≤ length fs.now }
+    requires right { IsRight (items_of env.now.plan.now parts.terms.now (env_of env.now) i) (frame_in fs.now) o }
+    requires there { k < ready (rest_of (items_of env.now.plan.now parts.terms.now (env_of env.now) i) (frame_in fs.now) o) }
+    ensures { event_at (rest_of (items_of env.now.plan.now parts.entry.terms.now (env_of env.now) i) (frame_in fs.now) o) k ≡ Some (seen told.new) }
 {
-    let part = &parts[i];
-    let size = &sizes[i];
-    event_of(part, size, env, fs, p, k, told)
+    event_of(parts.part(i), env, fs, o, k, told)
 }
 
 // Tells the k-th ready event of the body of a scope.
 #[cycle(reads)]
 fn event_inside(
-    body: &Term,
-    size: &Sizes,
+    body: Part<'_>,
     child: &Option<Num>,
     env: &Env<'_>,
     fs: &[Frame],
-    p: usize,
+    o: usize,
     k: u64,
     told: &mut Event,
 )
-    requires sizes { size.now ≡ (made env.now.plan.now body.now).sizes }
-    requires fits { p + frames size.now ≤ length fs.now }
-    requires right { IsRight ((made env.now.plan.now body.now).form (inside env.now.plan.now child.now (env_of env.now))) (frame_in fs.now) p }
-    requires there { k < ready (rest_of ((made env.now.plan.now body.now).form (inside env.now.plan.now child.now (env_of env.now))) (frame_in fs.now) p) }
-    ensures { event_at (rest_of ((made env.now.plan.now body.now).form (inside env.now.plan.now child.now (env_of env.now))) (frame_in fs.now) p) k ≡ Some (seen told.new) }
+    requires sizes { IsSized env.now body }
+    requires fits { o + frames body.sizes.now ≤ length fs.now }
+    requires right { IsRight ((made env.now.plan.now body.term.now).form (inside env.now.plan.now child.now (env_of env.now))) (frame_in fs.now) o }
+    requires there { k < ready (rest_of ((made env.now.plan.now body.term.now).form (inside env.now.plan.now child.now (env_of env.now))) (frame_in fs.now) o) }
+    ensures { event_at (rest_of ((made env.now.plan.now body.entry.term.now).form (inside env.now.plan.now child.now (env_of env.now))) (frame_in fs.now) o) k ≡ Some (seen told.new) }
 {
     match child {
-        None => event_of(body, size, env, fs, p, k, told),
+        None => event_of(body, env, fs, o, k, told),
         Some(c) => {
             let c = count_of(c, env);
-            let nodes = Chain::Link(child_node(env, c), env.nodes);
-            let inner = Env {
-                nodes: &nodes,
-                ..*env
-            };
-            event_of(body, size, &inner, fs, p, k, told)
+            let n = Chain::Link(child_node(env, c), env.nodes);
+            let inner = Env { nodes: &n, ..*env };
+            event_of(body, &inner, fs, o, k, told)
         }
     }
 }
@@ -275,8 +200,7 @@ fn event_inside(
 // Tells the k-th ready event of a loop.
 #[cycle(reads)]
 fn event_loop(
-    body: &Term,
-    size: &Sizes,
+    body: Part<'_>,
     count: &Num,
     env: &Env<'_>,
     fs: &[Frame],
@@ -284,25 +208,21 @@ fn event_loop(
     k: u64,
     told: &mut Event,
 )
-    requires sizes { size.now ≡ (made env.now.plan.now body.now).sizes }
-    requires fits { o + stop (1 + frames size.now) ≤ length fs.now }
-    requires right { IsRight (loop_form env.now.plan.now count.now body.now (env_of env.now)) (frame_in fs.now) o }
-    requires there { k < ready (rest_of (loop_form env.now.plan.now count.now body.now (env_of env.now)) (frame_in fs.now) o) }
-    ensures { event_at (rest_of (loop_form env.now.plan.now count.now body.now (env_of env.now)) (frame_in fs.now) o) k ≡ Some (seen told.new) }
+    requires sizes { IsSized env.now body }
+    requires fits { o + stop (1 + frames body.sizes.now) ≤ length fs.now }
+    requires right { IsRight (loop_form env.now.plan.now count.now body.term.now (env_of env.now)) (frame_in fs.now) o }
+    requires there { k < ready (rest_of (loop_form env.now.plan.now count.now body.term.now (env_of env.now)) (frame_in fs.now) o) }
+    ensures { event_at (rest_of (loop_form env.now.plan.now count.now body.entry.term.now (env_of env.now)) (frame_in fs.now) o) k ≡ Some (seen told.new) }
 {
-    let turns = Chain::Link(frame_at(fs, o).at, env.turns);
-    let inner = Env {
-        turns: &turns,
-        ..*env
-    };
-    event_of(body, size, &inner, fs, o + 1, k, told)
+    let t = Chain::Link(frame_at(fs, o).at, env.turns);
+    let inner = Env { turns: &t, ..*env };
+    event_of(body, &inner, fs, o + 1, k, told)
 }
 
 // Tells the k-th ready event of a spread.
 #[cycle(reads)]
 fn event_spread(
-    body: &Term,
-    size: &Sizes,
+    body: Part<'_>,
     count: &Num,
     rule: SpreadRule,
     env: &Env<'_>,
@@ -311,26 +231,22 @@ fn event_spread(
     k: u64,
     told: &mut Event,
 )
-    requires sizes { size.now ≡ (made env.now.plan.now body.now).sizes }
-    requires fits { o + stop (1 + stop (frames size.now * fan env.now.plan.now.nodes)) ≤ length fs.now }
-    requires right { IsRight (spread_form env.now.plan.now count.now rule body.now (env_of env.now)) (frame_in fs.now) o }
-    requires there { k < ready (rest_of (spread_form env.now.plan.now count.now rule body.now (env_of env.now)) (frame_in fs.now) o) }
-    ensures { event_at (rest_of (spread_form env.now.plan.now count.now rule body.now (env_of env.now)) (frame_in fs.now) o) k ≡ Some (seen told.new) }
+    requires sizes { IsSized env.now body }
+    requires fits { o + stop (1 + stop (frames body.sizes.now * fan env.now.plan.now.nodes)) ≤ length fs.now }
+    requires right { IsRight (spread_form env.now.plan.now count.now rule body.term.now (env_of env.now)) (frame_in fs.now) o }
+    requires there { k < ready (rest_of (spread_form env.now.plan.now count.now rule body.term.now (env_of env.now)) (frame_in fs.now) o) }
+    ensures { event_at (rest_of (spread_form env.now.plan.now count.now rule body.entry.term.now (env_of env.now)) (frame_in fs.now) o) k ≡ Some (seen told.new) }
 {
-    let found = find_child(children_of(env), size.frames, fs, o, k);
-    let turns = Chain::Link(frame_at(fs, found.place).turn, env.turns);
-    let inner = Env {
-        turns: &turns,
-        ..*env
-    };
-    event_of(body, size, &inner, fs, found.place, found.event, told)
+    let found = find_child(children_of(env), body.sizes.frames, fs, o, k);
+    let t = Chain::Link(frame_at(fs, found.place).turn, env.turns);
+    let inner = Env { turns: &t, ..*env };
+    event_of(body, &inner, fs, found.place, found.event, told)
 }
 
 // Tells the k-th ready event of a scope.
 #[cycle(reads)]
 fn event_within(
-    body: &Term,
-    size: &Sizes,
+    body: Part<'_>,
     child: &Option<Num>,
     buffers: &[u32],
     env: &Env<'_>,
@@ -339,11 +255,11 @@ fn event_within(
     k: u64,
     told: &mut Event,
 )
-    requires sizes { size.now ≡ (made env.now.plan.now body.now).sizes }
-    requires fits { o + stop (1 + frames size.now) ≤ length fs.now }
-    requires right { IsRight (within_form env.now.plan.now child.now buffers.now body.now (env_of env.now)) (frame_in fs.now) o }
-    requires there { k < ready (rest_of (within_form env.now.plan.now child.now buffers.now body.now (env_of env.now)) (frame_in fs.now) o) }
-    ensures { event_at (rest_of (within_form env.now.plan.now child.now buffers.now body.now (env_of env.now)) (frame_in fs.now) o) k ≡ Some (seen told.new) }
+    requires sizes { IsSized env.now body }
+    requires fits { o + stop (1 + frames body.sizes.now) ≤ length fs.now }
+    requires right { IsRight (within_form env.now.plan.now child.now buffers.now body.term.now (env_of env.now)) (frame_in fs.now) o }
+    requires there { k < ready (rest_of (within_form env.now.plan.now child.now buffers.now body.term.now (env_of env.now)) (frame_in fs.now) o) }
+    ensures { event_at (rest_of (within_form env.now.plan.now child.now buffers.now body.entry.term.now (env_of env.now)) (frame_in fs.now) o) k ≡ Some (seen told.new) }
 {
-    event_inside(body, size, child, env, fs, o + 1, k, told)
+    event_inside(body, child, env, fs, o + 1, k, told)
 }

@@ -1,6 +1,6 @@
 //! Frames as the parts of a list: reading, writing and counting them.
 
-ghost use Rattle.std.specs.Prelude.{◌≡◌, ◌+◌, ◌-◌, ◌*◌, ◌/◌, ◌^◌, if◌then◌else◌, ◌<◌, ◌≤◌, nat_lt, min, max, length, slice_set};
+ghost use Rattle.std.specs.Prelude.{◌≡◌, ◌+◌, ◌-◌, ◌*◌, ◌/◌, ◌^◌, if◌then◌else◌, ◌<◌, ◌≤◌, nat_lt, min, max, length, slice_set, nat_eq};
 ghost use Rattle.sq_sched.specs.Words.{env_of, nat_part, value, count, children_at};
 ghost use Rattle.sq_sched.specs.Shapes.{frame_in, live};
 ghost use Rattle.sq_sched.specs.Forms.{frames_at, has_arm, settled, covered, tallied};
@@ -44,12 +44,7 @@ pub(crate) fn settle(fs: &mut [Frame], o: usize, t: u64, n: u64, turn: u64)
         };
         return;
     }
-    fs[o] = Frame {
-        at: t,
-        turn,
-        ready: 0,
-        done: true,
-    };
+    fs[o] = Frame::over(t, turn);
 }
 
 /// Writes the frame of a scope.
@@ -126,6 +121,20 @@ pub(crate) fn frames_of(sizes: &[Sizes], i: usize) -> u64
 pub(crate) struct Counts {
     pub(crate) ready: u64,
     pub(crate) live: u64,
+}
+
+impl Counts {
+    /// The frame of parts beside one another.
+    pub(crate) fn frame(self, turn: u64) -> Frame
+        ensures { result ≡ record { at = self.live; turn = turn; ready = self.ready; done = nat_eq self.live 0 } }
+    {
+        Frame {
+            at: self.live,
+            turn,
+            ready: self.ready,
+            done: self.live == 0,
+        }
+    }
 }
 
 /// Where a ready event stands among parts beside one another: the part, its first frame, and the event's number there.

@@ -24,9 +24,9 @@ event_one-event_of-requires t c =
     let l = c.args.env.now.plan.now in
     let env = env_of c.args.env.now in
     let fs = frame_in c.args.fs.now in
-    let m = most_at the_size c.args.parts.now c.args.i c.index-parts-i.result c.requires.part c.index-parts-i.is in
-    let it = one_item l c.args.parts.now c.args.i c.index-parts-i.result env c.requires.part c.index-parts-i.is in
-    (omega (arith, m), (one_sizes l c.args.parts.now c.args.sizes.now c.args.i c.index-sizes-i.result c.index-parts-i.result c.requires.sizes c.requires.part c.index-sizes-i.is c.index-parts-i.is, (one_fits l c.args.parts.now c.args.sizes.now c.args.i c.args.p (length c.args.fs.now) c.index-sizes-i.result c.requires.sizes c.requires.part c.index-sizes-i.is c.requires.fits, (subst (λ x. IsRight x fs c.args.p) it c.requires.right, subst (λ x. c.args.k < ready (rest_of x fs c.args.p)) it c.requires.there))))
+    let m = most_at the_size c.args.parts.terms.now c.args.i c.part.result.term.now c.requires.part c.part.ensures.term in
+    let it = one_item l c.args.parts.terms.now c.args.i c.part.result.term.now env c.requires.part c.part.ensures.term in
+    (omega (arith, m), (one_sizes l c.args.parts.terms.now c.args.parts.sizes.now c.args.i c.part.result.sizes.now c.part.result.term.now c.requires.sizes c.requires.part c.part.ensures.sizes c.part.ensures.term, (one_fits l c.args.parts.terms.now c.args.parts.sizes.now c.args.i c.args.o (length c.args.fs.now) c.part.result.sizes.now c.requires.sizes c.requires.part c.part.ensures.sizes c.requires.fits, (subst (λ x. IsRight x fs c.args.o) it c.requires.right, subst (λ x. c.args.k < ready (rest_of x fs c.args.o)) it c.requires.there))))
 
 pub event_seq-event_one-requires : goal.event_seq-event_one-requires
 event_seq-event_one-requires t c =
@@ -35,11 +35,11 @@ event_seq-event_one-requires t c =
     let fs = frame_in c.args.fs.now in
     let o = c.args.o in
     let k = c.args.k in
-    let x = seq_into l env o k c.args.parts.now fs c.requires.right c.requires.there in
+    let x = seq_into l env o k c.args.parts.terms.now fs c.requires.right c.requires.there in
     let ei = ap (λ f. f.at) (sym c.frame_at.ensures) in
     let i = c.frame_at.result.at in
-    let lt = subst (λ i. i < length c.args.parts.now) ei x.0 in
-    let r = one_room c.args.sizes.now i (omega arith) in
+    let lt = subst (λ i. i < length c.args.parts.terms.now) ei x.0 in
+    let r = one_room c.args.parts.sizes.now i (omega arith) in
     let fit = c.requires.fits in (
       search rules,
       (
@@ -49,8 +49,8 @@ event_seq-event_one-requires t c =
           (
             omega (arith, r, fit),
             (
-              subst (λ i. IsRight (items_of l c.args.parts.now env i) fs (o + 1)) ei x.1.right,
-              subst (λ i. k < ready (rest_of (items_of l c.args.parts.now env i) fs (o + 1))) ei x.1.there,
+              subst (λ i. IsRight (items_of l c.args.parts.terms.now env i) fs (o + 1)) ei x.1.right,
+              subst (λ i. k < ready (rest_of (items_of l c.args.parts.terms.now env i) fs (o + 1))) ei x.1.there,
             ),
           ),
         ),
@@ -59,7 +59,7 @@ event_seq-event_one-requires t c =
 
 pub event_par-find_part-found-requires-clause-fits : goal.event_par-find_part-found-requires-clause-fits
 event_par-find_part-found-requires-clause-fits t c =
-    let r = par_room c.args.env.now.plan.now c.args.parts.now c.args.sizes.now c.requires.sizes (omega arith) in
+    let r = par_room c.args.env.now.plan.now c.args.parts.terms.now c.args.parts.sizes.now c.requires.sizes (omega arith) in
     let f = c.requires.fits in
     omega (arith, r, f)
 
@@ -70,9 +70,9 @@ event_par-find_part-found-requires-clause-there t c =
     let fs = frame_in c.args.fs.now in
     let o = c.args.o in
     let k = c.args.k in
-    let h = par_ready l env o k c.args.parts.now fs c.requires.right c.requires.there in
-    let n = sizes_length l c.args.parts.now in
-    let h2 = subst (λ m. k < sum_of m (λ i. (fs (o + (1 + before (sizes_of l c.args.parts.now) i))).ready) 0) (sym n) h in
+    let h = par_ready l env o k c.args.parts.terms.now fs c.requires.right c.requires.there in
+    let n = sizes_length l c.args.parts.terms.now in
+    let h2 = subst (λ m. k < sum_of m (λ i. (fs (o + (1 + before (sizes_of l c.args.parts.terms.now) i))).ready) 0) (sym n) h in
     subst (λ ss. k < sum_of (length ss) (λ i. (fs (o + (1 + before ss i))).ready) 0) (sym c.requires.sizes) h2
 
 pub event_par-event_one-requires : goal.event_par-event_one-requires
@@ -82,14 +82,14 @@ event_par-event_one-requires t c =
     let fs = frame_in c.args.fs.now in
     let o = c.args.o in
     let k = c.args.k in
-    let ts = c.args.parts.now in
+    let ts = c.args.parts.terms.now in
     let f = subst (λ ss. InItems ss fs o k c.find_part-found.result.part c.find_part-found.result.event) c.requires.sizes c.find_part-found.ensures.found in
     let x = par_into l env o k ts fs c.find_part-found.result.part c.find_part-found.result.event c.requires.right f in
     let pl = c.find_part-found.ensures.place ∙ ap (λ ss. o + (1 + before ss c.find_part-found.result.part)) c.requires.sizes in
     let item = items_of l ts env c.find_part-found.result.part in
     let right = subst (λ p. IsRight item fs p) (sym pl) x.1.right in
     let there = subst (λ p. c.find_part-found.result.event < ready (rest_of item fs p)) (sym pl) x.1.there in
-    let fit = part_room l ts c.args.sizes.now c.find_part-found.result.part c.requires.sizes x.0 (omega arith) in
+    let fit = part_room l ts c.args.parts.sizes.now c.find_part-found.result.part c.requires.sizes x.0 (omega arith) in
     let r = c.requires.fits in
     let pl2 = c.find_part-found.ensures.place in
     (search rules, (c.requires.sizes, (x.0, (omega (arith, fit, r, pl2), (right, there)))))
@@ -101,7 +101,7 @@ event_par-returns t c =
     let fs = frame_in c.args.fs.now in
     let o = c.args.o in
     let k = c.args.k in
-    let ts = c.args.parts.now in
+    let ts = c.args.parts.terms.now in
     let f = subst (λ ss. InItems ss fs o k c.find_part-found.result.part c.find_part-found.result.event) c.requires.sizes c.find_part-found.ensures.found in
     let x = par_into l env o k ts fs c.find_part-found.result.part c.find_part-found.result.event c.requires.right f in
     let pl = c.find_part-found.ensures.place ∙ ap (λ ss. o + (1 + before ss c.find_part-found.result.part)) c.requires.sizes in
@@ -118,9 +118,9 @@ event_case-event_one-requires t c =
     let fs = frame_in c.args.fs.now in
     let o = c.args.o in
     let k = c.args.k in
-    let ts = c.args.arms.now in
+    let ts = c.args.arms.terms.now in
     let x = case_into l env o k c.args.pick.now ts c.arm_for-i.result fs c.arm_for-i.ensures c.requires.right c.requires.there in
-    let r = one_room c.args.sizes.now c.arm_for-i.result (omega arith) in
+    let r = one_room c.args.arms.sizes.now c.arm_for-i.result (omega arith) in
     let fit = c.requires.fits in
     (search rules, (c.requires.sizes, (x.0, (omega (arith, r, fit), (x.1.right, x.1.there)))))
 
@@ -131,9 +131,9 @@ event_case-returns t c =
     let fs = frame_in c.args.fs.now in
     let o = c.args.o in
     let k = c.args.k in
-    let ts = c.args.arms.now in
+    let ts = c.args.arms.terms.now in
     let x = case_into l env o k c.args.pick.now ts c.arm_for-i.result fs c.arm_for-i.ensures c.requires.right c.requires.there in
-    let r = one_room c.args.sizes.now c.arm_for-i.result (omega arith) in
+    let r = one_room c.args.arms.sizes.now c.arm_for-i.result (omega arith) in
     let fit = c.requires.fits in
     x.1.event ∙ c.event_one.ensures
 
@@ -144,10 +144,10 @@ event_spread-find_child-found-requires-clause-fits t c =
     let es = c.args.fs.now in
     let o = c.args.o in
     let k = c.args.k in
-    let b = c.args.body.now in
+    let b = c.args.body.term.now in
     let n = c.args.count.now in
     let rule = c.args.rule in
-    let v = frames c.args.size.now in
+    let v = frames c.args.body.sizes.now in
     let ec = c.children_of.ensures in
     let ev = ap frames c.requires.sizes in
     let le = fan-at l l.nodes (node_here env) in
@@ -163,10 +163,10 @@ event_spread-find_child-found-requires-clause-there t c =
     let es = c.args.fs.now in
     let o = c.args.o in
     let k = c.args.k in
-    let b = c.args.body.now in
+    let b = c.args.body.term.now in
     let n = c.args.count.now in
     let rule = c.args.rule in
-    let v = frames c.args.size.now in
+    let v = frames c.args.body.sizes.now in
     let ec = c.children_of.ensures in
     let ev = ap frames c.requires.sizes in
     let le = fan-at l l.nodes (node_here env) in
@@ -183,10 +183,10 @@ event_spread-event_of-requires t c =
     let es = c.args.fs.now in
     let o = c.args.o in
     let k = c.args.k in
-    let b = c.args.body.now in
+    let b = c.args.body.term.now in
     let n = c.args.count.now in
     let rule = c.args.rule in
-    let v = frames c.args.size.now in
+    let v = frames c.args.body.sizes.now in
     let ec = c.children_of.ensures in
     let ev = ap frames c.requires.sizes in
     let le = fan-at l l.nodes (node_here env) in
@@ -215,10 +215,10 @@ event_spread-returns t c =
     let es = c.args.fs.now in
     let o = c.args.o in
     let k = c.args.k in
-    let b = c.args.body.now in
+    let b = c.args.body.term.now in
     let n = c.args.count.now in
     let rule = c.args.rule in
-    let v = frames c.args.size.now in
+    let v = frames c.args.body.sizes.now in
     let ec = c.children_of.ensures in
     let ev = ap frames c.requires.sizes in
     let le = fan-at l l.nodes (node_here env) in

@@ -1,4 +1,4 @@
-use Rattle.std.proofs.Common.{rules, ◌≡◌, ◌+◌, ◌*◌, ◌<◌, ◌≤◌, length, sym, ap, ◌∙◌, subst, arith, true, false, inl}
+use Rattle.std.proofs.Common.{rules, ◌≡◌, ◌+◌, ◌*◌, ◌<◌, ◌≤◌, length, sym, ap, ◌∙◌, subst, arith, inl}
 use Rattle.std.specs.Prelude.{slice_set}
 use Rattle.sq_ir.specs.Tree.{ready}
 use Rattle.sq_ir.specs.declared.term.Term.TheVariants as tm
@@ -9,9 +9,9 @@ use Rattle.sq_sched.proofs.Made.{fan-at}
 use Rattle.sq_sched.specs.Words.{env_of, node_here, children_at}
 use Rattle.sq_sched.specs.Shapes.{frame_in, sum_of, rest_of, IsRight, IsKept, HasStepped, live}
 use Rattle.sq_sched.specs.Forms.{InPart, InItems, fan, before, made, frames, greatest, total, stop, most_frames, items_of, turns_of, sizes_of, frames_at, tallied}
+use Rattle.sq_sched.specs.Parts.{form_at, ended}
 use Rattle.sq_sched.proofs.Depths.{most_at}
 use Rattle.sq_ir.proofs.term.Term.TheLaws.{the_size}
-use Rattle.sq_sched.proofs.Steps.{frame}
 use Rattle.sq_sched.proofs.Begins.{child_room, one_sizes, one_fits, one_item, one_frames, sizes_length, made-pos, set_kept, wider, frames_most}
 use Rattle.sq_sched.proofs.Performs.{spread_steps, spread_moved, spread_few, spread_room, spread_ready, spread_into, spread_counts, place_of, loop_small, within_small, act_steps, seq_steps, loop_steps, within_steps, case_steps, par_steps, par_counts, seq_into, par_into, case_into, one_room, par_room, par_ready, part_room, stop_whole, par_set_kept, stepped_size, before_small}
 use Rattle.sq_sched.proofs.perform.+performs.Goals as goal
@@ -21,16 +21,16 @@ perform_one-perform-requires t c =
     let l = c.args.env.now.plan.now in
     let env = env_of c.args.env.now in
     let fs = frame_in c.args.fs.now in
-    let m = most_at the_size c.args.parts.now c.args.i c.index-parts-i.result c.requires.part c.index-parts-i.is in
-    let it = one_item l c.args.parts.now c.args.i c.index-parts-i.result env c.requires.part c.index-parts-i.is in
-    (omega (arith, m), (one_sizes l c.args.parts.now c.args.sizes.now c.args.i c.index-sizes-i.result c.index-parts-i.result c.requires.sizes c.requires.part c.index-sizes-i.is c.index-parts-i.is, (one_fits l c.args.parts.now c.args.sizes.now c.args.i c.args.p (length c.args.fs.now) c.index-sizes-i.result c.requires.sizes c.requires.part c.index-sizes-i.is c.requires.fits, (subst (λ x. IsRight x fs c.args.p) it c.requires.right, subst (λ x. c.args.k < ready (rest_of x fs c.args.p)) it c.requires.there))))
+    let m = most_at the_size c.args.parts.terms.now c.args.i c.part.result.term.now c.requires.part c.part.ensures.term in
+    let it = one_item l c.args.parts.terms.now c.args.i c.part.result.term.now env c.requires.part c.part.ensures.term in
+    (omega (arith, m), (one_sizes l c.args.parts.terms.now c.args.parts.sizes.now c.args.i c.part.result.sizes.now c.part.result.term.now c.requires.sizes c.requires.part c.part.ensures.sizes c.part.ensures.term, (one_fits l c.args.parts.terms.now c.args.parts.sizes.now c.args.i c.args.o (length c.args.fs.now) c.part.result.sizes.now c.requires.sizes c.requires.part c.part.ensures.sizes c.requires.fits, (subst (λ x. IsRight x fs c.args.o) it c.requires.right, subst (λ x. c.args.k < ready (rest_of x fs c.args.o)) it c.requires.there))))
 
 pub perform_one-returns-clause-kept : goal.perform_one-returns-clause-kept
 perform_one-returns-clause-kept t c =
-    let n = ap length c.requires.sizes ∙ sizes_length c.args.env.now.plan.now c.args.parts.now in
+    let n = ap length c.requires.sizes ∙ sizes_length c.args.env.now.plan.now c.args.parts.terms.now in
     let th = c.requires.part in
-    let e = one_frames c.args.sizes.now c.args.i c.index-sizes-i.result (omega (arith, n, th)) c.index-sizes-i.is in
-    subst (λ w. IsKept c.args.fs.now c.perform.new.fs c.args.p w) e c.perform.ensures.kept
+    let e = one_frames c.args.parts.sizes.now c.args.i c.part.result.sizes.now (omega (arith, n, th)) c.part.ensures.sizes in
+    subst (λ w. IsKept c.args.fs.now c.perform.new.fs c.args.o w) e c.perform.ensures.kept
 
 pub perform_seq-perform_one-requires : goal.perform_seq-perform_one-requires
 perform_seq-perform_one-requires t c =
@@ -39,11 +39,11 @@ perform_seq-perform_one-requires t c =
     let fs = frame_in c.args.fs.now in
     let o = c.args.o in
     let k = c.args.k in
-    let x = seq_into l env o k c.args.parts.now fs c.requires.right c.requires.there in
+    let x = seq_into l env o k c.args.parts.terms.now fs c.requires.right c.requires.there in
     let ei = ap (λ f. f.at) (sym c.frame_at-whole.ensures) in
     let i = c.frame_at-whole.result.at in
-    let lt = subst (λ i. i < length c.args.parts.now) ei x.0 in
-    let r = one_room c.args.sizes.now i (omega arith) in
+    let lt = subst (λ i. i < length c.args.parts.terms.now) ei x.0 in
+    let r = one_room c.args.parts.sizes.now i (omega arith) in
     let fit = c.requires.fits in (
       search rules,
       (
@@ -53,8 +53,8 @@ perform_seq-perform_one-requires t c =
           (
             omega (arith, r, fit),
             (
-              subst (λ i. IsRight (items_of l c.args.parts.now env i) fs (o + 1)) ei x.1.right,
-              subst (λ i. k < ready (rest_of (items_of l c.args.parts.now env i) fs (o + 1))) ei x.1.there,
+              subst (λ i. IsRight (items_of l c.args.parts.terms.now env i) fs (o + 1)) ei x.1.right,
+              subst (λ i. k < ready (rest_of (items_of l c.args.parts.terms.now env i) fs (o + 1))) ei x.1.there,
             ),
           ),
         ),
@@ -63,15 +63,15 @@ perform_seq-perform_one-requires t c =
 
 pub perform_seq-next_part-next-requires-clause-part : goal.perform_seq-next_part-next-requires-clause-part
 perform_seq-next_part-next-requires-clause-part t c =
-    let x = seq_into c.args.env.now.plan.now (env_of c.args.env.now) c.args.o c.args.k c.args.parts.now (frame_in c.args.fs.now) c.requires.right c.requires.there in
-    subst (λ i. i < length c.args.parts.now) (ap (λ f. f.at) (sym c.frame_at-whole.ensures)) x.0
+    let x = seq_into c.args.env.now.plan.now (env_of c.args.env.now) c.args.o c.args.k c.args.parts.terms.now (frame_in c.args.fs.now) c.requires.right c.requires.there in
+    subst (λ i. i < length c.args.parts.terms.now) (ap (λ f. f.at) (sym c.frame_at-whole.ensures)) x.0
 
 pub perform_seq-returns-clause-kept : goal.perform_seq-returns-clause-kept
 perform_seq-returns-clause-kept t c =
     let i = c.frame_at-whole.result.at in
-    let g = greatest c.args.sizes.now in
-    let r = one_room c.args.sizes.now i (omega arith) in
-    let k1 = wider c.args.fs.now c.perform_one.new.fs (c.args.o + 1) (frames_at c.args.sizes.now i) g (frames_most c.args.sizes.now i) c.perform_one.ensures.kept in
+    let g = greatest c.args.parts.sizes.now in
+    let r = one_room c.args.parts.sizes.now i (omega arith) in
+    let k1 = wider c.args.fs.now c.perform_one.new.fs (c.args.o + 1) (frames_at c.args.parts.sizes.now i) g (frames_most c.args.parts.sizes.now i) c.perform_one.ensures.kept in
     let s = stop_whole g (omega arith) in
     let k2 : IsKept c.args.fs.now c.next_part-next.new.fs (c.args.o + 1) g = λ j side. c.next_part-next.ensures.kept j side ∙ k1 j side in
     subst (λ gs. IsKept c.args.fs.now gs c.args.o (stop (1 + g))) (sym c.settle.ensures) (set_kept c.args.fs.now c.next_part-next.new.fs c.args.o (stop (1 + g)) g _ (omega (arith, r)) (omega (arith, s)) k2)
@@ -80,45 +80,28 @@ pub perform_seq-returns-clause-stepped : goal.perform_seq-returns-clause-stepped
 perform_seq-returns-clause-stepped t c =
     let l = c.args.env.now.plan.now in
     let env = env_of c.args.env.now in
-    let ts = c.args.parts.now in
-    let r = one_room c.args.sizes.now 0 (omega arith) in
-    let small0 : stop (1 + greatest c.args.sizes.now) < most_frames = omega arith in
+    let ts = c.args.parts.terms.now in
+    let r = one_room c.args.parts.sizes.now 0 (omega arith) in
+    let small0 : stop (1 + greatest c.args.parts.sizes.now) < most_frames = omega arith in
     let small = subst (λ ss. stop (1 + greatest ss) < most_frames) c.requires.sizes small0 in
     let fit = c.requires.fits in
     let lo : c.args.o < length c.next_part-next.new.fs = omega (arith, r, fit) in
     subst (λ gs. HasStepped ((made l (tm.Seq ts)).form env) (frame_in c.args.fs.now) (frame_in gs) c.args.o c.args.k c.args.trapped) (sym c.settle.ensures) (seq_steps l env ts c.args.fs.now c.perform_one.new.fs c.next_part-next.new.fs c.args.o c.args.k c.frame_at-whole.result.at c.next_part-next.result c.frame_at-whole.result.turn c.args.trapped lo small (ap (λ f. f.at) c.frame_at-whole.ensures) c.requires.right c.requires.there c.perform_one.ensures.stepped c.next_part-next.ensures.goes)
 
-pub perform-returns-then-trapped-clause-stepped : goal.perform-returns-then-trapped-clause-stepped
-perform-returns-then-trapped-clause-stepped t c =
+pub perform-returns-in-Act-clause-stepped : goal.perform-returns-in-Act-clause-stepped
+perform-returns-in-Act-clause-stepped t c =
     let l = c.args.env.now.plan.now in
     let env = env_of c.args.env.now in
     let es = c.args.fs.now in
     let o = c.args.o in
     let k = c.args.k in
-    let a = c.in-Act.field-0 in
-    let pos = subst (λ x. 0 < frames x) (sym c.requires.sizes) (made-pos l c.args.t.now) in
+    let v = c.args.trapped in
+    let pos = subst (λ x. 0 < frames x) (sym c.requires.sizes) (made-pos l c.args.part.term.now) in
     let fit = c.requires.fits in
     let lo : o < length es = omega (arith, pos, fit) in
     let there = subst (λ x. k < ready (rest_of ((made l x).form env) (frame_in es) o)) c.in-Act.is c.requires.there in
-    let tv : c.args.trapped ≡ true = c.if-trapped.true in
-    let x = act_steps l env a es es o k c.frame_at-turn.result.turn true lo there in
-    subst (λ v. HasStepped ((made l c.args.t.now).form env) (frame_in es) (frame_in (slice_set es o (frame 2 c.frame_at-turn.result.turn 0 false))) o k v) (sym tv) (subst (λ z. HasStepped ((made l z).form env) (frame_in es) (frame_in (slice_set es o (frame 2 c.frame_at-turn.result.turn 0 false))) o k true) (sym c.in-Act.is) x)
-
-pub perform-returns-else-trapped-clause-stepped : goal.perform-returns-else-trapped-clause-stepped
-perform-returns-else-trapped-clause-stepped t c =
-    let l = c.args.env.now.plan.now in
-    let env = env_of c.args.env.now in
-    let es = c.args.fs.now in
-    let o = c.args.o in
-    let k = c.args.k in
-    let a = c.in-Act.field-0 in
-    let pos = subst (λ x. 0 < frames x) (sym c.requires.sizes) (made-pos l c.args.t.now) in
-    let fit = c.requires.fits in
-    let lo : o < length es = omega (arith, pos, fit) in
-    let there = subst (λ x. k < ready (rest_of ((made l x).form env) (frame_in es) o)) c.in-Act.is c.requires.there in
-    let tv : c.args.trapped ≡ false = c.if-trapped.false in
-    let x = act_steps l env a es es o k c.frame_at-turn.result.turn false lo there in
-    subst (λ v. HasStepped ((made l c.args.t.now).form env) (frame_in es) (frame_in (slice_set es o (frame 1 c.frame_at-turn.result.turn 0 true))) o k v) (sym tv) (subst (λ z. HasStepped ((made l z).form env) (frame_in es) (frame_in (slice_set es o (frame 1 c.frame_at-turn.result.turn 0 true))) o k false) (sym c.in-Act.is) x)
+    let x = act_steps l env c.in-Act.field-0 es es o k (frame_in es o).turn v lo there in
+    subst (λ gs. HasStepped (form_at c.args.env.now c.args.part) (frame_in es) (frame_in gs) o k v) (sym c.end_act.ensures) (subst (λ z. HasStepped ((made l z).form env) (frame_in es) (frame_in (slice_set es o (ended es o v))) o k v) (sym c.in-Act.is) x)
 
 pub perform_case-perform_one-requires : goal.perform_case-perform_one-requires
 perform_case-perform_one-requires t c =
@@ -127,10 +110,10 @@ perform_case-perform_one-requires t c =
     let es = c.args.fs.now in
     let o = c.args.o in
     let k = c.args.k in
-    let ts = c.args.arms.now in
+    let ts = c.args.arms.terms.now in
     let i = c.arm_for-i.result in
     let x = case_into l env o k c.args.pick.now ts i (frame_in es) c.arm_for-i.ensures c.requires.right c.requires.there in
-    let r = one_room c.args.sizes.now i (omega arith) in
+    let r = one_room c.args.arms.sizes.now i (omega arith) in
     let fit = c.requires.fits in
     (search rules, (c.requires.sizes, (x.0, (omega (arith, r, fit), (x.1.right, x.1.there)))))
 
@@ -141,13 +124,13 @@ perform_case-returns-clause-kept t c =
     let es = c.args.fs.now in
     let o = c.args.o in
     let k = c.args.k in
-    let ts = c.args.arms.now in
+    let ts = c.args.arms.terms.now in
     let i = c.arm_for-i.result in
     let x = case_into l env o k c.args.pick.now ts i (frame_in es) c.arm_for-i.ensures c.requires.right c.requires.there in
-    let r = one_room c.args.sizes.now i (omega arith) in
+    let r = one_room c.args.arms.sizes.now i (omega arith) in
     let fit = c.requires.fits in
     let fs = c.perform_one.new.fs in
-    subst (λ gs. IsKept es gs o (stop (1 + greatest c.args.sizes.now))) (sym c.settle.ensures) (set_kept es fs o (stop (1 + greatest c.args.sizes.now)) (frames_at c.args.sizes.now i) _ (omega (arith, r)) (omega (arith, r)) c.perform_one.ensures.kept)
+    subst (λ gs. IsKept es gs o (stop (1 + greatest c.args.arms.sizes.now))) (sym c.settle.ensures) (set_kept es fs o (stop (1 + greatest c.args.arms.sizes.now)) (frames_at c.args.arms.sizes.now i) _ (omega (arith, r)) (omega (arith, r)) c.perform_one.ensures.kept)
 
 pub perform_case-returns-clause-stepped : goal.perform_case-returns-clause-stepped
 perform_case-returns-clause-stepped t c =
@@ -156,20 +139,20 @@ perform_case-returns-clause-stepped t c =
     let es = c.args.fs.now in
     let o = c.args.o in
     let k = c.args.k in
-    let ts = c.args.arms.now in
+    let ts = c.args.arms.terms.now in
     let i = c.arm_for-i.result in
     let x = case_into l env o k c.args.pick.now ts i (frame_in es) c.arm_for-i.ensures c.requires.right c.requires.there in
-    let r = one_room c.args.sizes.now i (omega arith) in
+    let r = one_room c.args.arms.sizes.now i (omega arith) in
     let fit = c.requires.fits in
     let fs = c.perform_one.new.fs in
-    let small0 : stop (1 + greatest c.args.sizes.now) < most_frames = omega arith in
+    let small0 : stop (1 + greatest c.args.arms.sizes.now) < most_frames = omega arith in
     let small = subst (λ ss. stop (1 + greatest ss) < most_frames) c.requires.sizes small0 in
     let lo : o < length fs = omega (arith, r, fit) in
     subst (λ gs. HasStepped ((made l (tm.Case c.args.pick.now ts)).form env) (frame_in es) (frame_in gs) o k c.args.trapped) (sym c.settle.ensures) (case_steps l env c.args.pick.now ts es fs o k i c.frame_at-turn.result.turn c.args.trapped lo small c.arm_for-i.ensures c.requires.right c.requires.there c.perform_one.ensures.stepped)
 
 pub perform_par-find_part-found-requires-clause-fits : goal.perform_par-find_part-found-requires-clause-fits
 perform_par-find_part-found-requires-clause-fits t c =
-    let r = par_room c.args.env.now.plan.now c.args.parts.now c.args.sizes.now c.requires.sizes (omega arith) in
+    let r = par_room c.args.env.now.plan.now c.args.parts.terms.now c.args.parts.sizes.now c.requires.sizes (omega arith) in
     let f = c.requires.fits in
     omega (arith, r, f)
 
@@ -180,9 +163,9 @@ perform_par-find_part-found-requires-clause-there t c =
     let es = c.args.fs.now in
     let o = c.args.o in
     let k = c.args.k in
-    let h = par_ready l env o k c.args.parts.now (frame_in es) c.requires.right c.requires.there in
-    let n = sizes_length l c.args.parts.now in
-    let h2 = subst (λ m. k < sum_of m (λ i. (frame_in es (o + (1 + before (sizes_of l c.args.parts.now) i))).ready) 0) (sym n) h in
+    let h = par_ready l env o k c.args.parts.terms.now (frame_in es) c.requires.right c.requires.there in
+    let n = sizes_length l c.args.parts.terms.now in
+    let h2 = subst (λ m. k < sum_of m (λ i. (frame_in es (o + (1 + before (sizes_of l c.args.parts.terms.now) i))).ready) 0) (sym n) h in
     subst (λ ss. k < sum_of (length ss) (λ i. (frame_in es (o + (1 + before ss i))).ready) 0) (sym c.requires.sizes) h2
 
 pub perform_par-perform_one-requires : goal.perform_par-perform_one-requires
@@ -192,14 +175,14 @@ perform_par-perform_one-requires t c =
     let es = c.args.fs.now in
     let o = c.args.o in
     let k = c.args.k in
-    let ts = c.args.parts.now in
+    let ts = c.args.parts.terms.now in
     let part = c.find_part-found.result.part in
     let event = c.find_part-found.result.event in
     let f = subst (λ ss. InItems ss (frame_in es) o k part event) c.requires.sizes c.find_part-found.ensures.found in
     let x = par_into l env o k ts (frame_in es) part event c.requires.right f in
     let pl = c.find_part-found.ensures.place ∙ ap (λ ss. o + (1 + before ss part)) c.requires.sizes in
     let item = items_of l ts env part in
-    let fit = part_room l ts c.args.sizes.now part c.requires.sizes x.0 (omega arith) in
+    let fit = part_room l ts c.args.parts.sizes.now part c.requires.sizes x.0 (omega arith) in
     let r = c.requires.fits in
     let pl2 = c.find_part-found.ensures.place in
     let right = subst (λ p. IsRight item (frame_in es) p) (sym pl) x.1.right in
@@ -213,18 +196,18 @@ perform_par-returns-clause-kept t c =
     let es = c.args.fs.now in
     let o = c.args.o in
     let k = c.args.k in
-    let ts = c.args.parts.now in
+    let ts = c.args.parts.terms.now in
     let part = c.find_part-found.result.part in
     let event = c.find_part-found.result.event in
     let f = subst (λ ss. InItems ss (frame_in es) o k part event) c.requires.sizes c.find_part-found.ensures.found in
     let x = par_into l env o k ts (frame_in es) part event c.requires.right f in
     let pl = c.find_part-found.ensures.place ∙ ap (λ ss. o + (1 + before ss part)) c.requires.sizes in
     let item = items_of l ts env part in
-    let fit = part_room l ts c.args.sizes.now part c.requires.sizes x.0 (omega arith) in
+    let fit = part_room l ts c.args.parts.sizes.now part c.requires.sizes x.0 (omega arith) in
     let r = c.requires.fits in
     let pl2 = c.find_part-found.ensures.place in
     let k1 = c.perform_one.ensures.kept in
-    subst (λ gs. IsKept es gs o (stop (1 + total c.args.sizes.now))) (sym c.tally.ensures) (par_set_kept es c.perform_one.new.fs o c.find_part-found.result.place (stop (1 + total c.args.sizes.now)) (frames_at c.args.sizes.now part) _ (omega (arith, fit, pl2)) (omega (arith, fit, pl2)) k1)
+    subst (λ gs. IsKept es gs o (stop (1 + total c.args.parts.sizes.now))) (sym c.tally.ensures) (par_set_kept es c.perform_one.new.fs o c.find_part-found.result.place (stop (1 + total c.args.parts.sizes.now)) (frames_at c.args.parts.sizes.now part) _ (omega (arith, fit, pl2)) (omega (arith, fit, pl2)) k1)
 
 pub perform_par-tally-requires-clause-ready : goal.perform_par-tally-requires-clause-ready
 perform_par-tally-requires-clause-ready t c =
@@ -233,17 +216,17 @@ perform_par-tally-requires-clause-ready t c =
     let es = c.args.fs.now in
     let o = c.args.o in
     let k = c.args.k in
-    let ts = c.args.parts.now in
+    let ts = c.args.parts.terms.now in
     let part = c.find_part-found.result.part in
     let event = c.find_part-found.result.event in
     let f = subst (λ ss. InItems ss (frame_in es) o k part event) c.requires.sizes c.find_part-found.ensures.found in
     let x = par_into l env o k ts (frame_in es) part event c.requires.right f in
     let pl = c.find_part-found.ensures.place ∙ ap (λ ss. o + (1 + before ss part)) c.requires.sizes in
     let item = items_of l ts env part in
-    let fit = part_room l ts c.args.sizes.now part c.requires.sizes x.0 (omega arith) in
+    let fit = part_room l ts c.args.parts.sizes.now part c.requires.sizes x.0 (omega arith) in
     let r = c.requires.fits in
     let pl2 = c.find_part-found.ensures.place in
-    let small0 : stop (1 + total c.args.sizes.now) < most_frames = omega arith in
+    let small0 : stop (1 + total c.args.parts.sizes.now) < most_frames = omega arith in
     let small = subst (λ ss. stop (1 + total ss) < most_frames) c.requires.sizes small0 in
     let q = par_counts l env ts (frame_in es) o part c.requires.right small x.0 in
     let fs = c.perform_one.new.fs in
@@ -261,17 +244,17 @@ perform_par-tally-requires-clause-number t c =
     let es = c.args.fs.now in
     let o = c.args.o in
     let k = c.args.k in
-    let ts = c.args.parts.now in
+    let ts = c.args.parts.terms.now in
     let part = c.find_part-found.result.part in
     let event = c.find_part-found.result.event in
     let f = subst (λ ss. InItems ss (frame_in es) o k part event) c.requires.sizes c.find_part-found.ensures.found in
     let x = par_into l env o k ts (frame_in es) part event c.requires.right f in
     let pl = c.find_part-found.ensures.place ∙ ap (λ ss. o + (1 + before ss part)) c.requires.sizes in
     let item = items_of l ts env part in
-    let fit = part_room l ts c.args.sizes.now part c.requires.sizes x.0 (omega arith) in
+    let fit = part_room l ts c.args.parts.sizes.now part c.requires.sizes x.0 (omega arith) in
     let r = c.requires.fits in
     let pl2 = c.find_part-found.ensures.place in
-    let small0 : stop (1 + total c.args.sizes.now) < most_frames = omega arith in
+    let small0 : stop (1 + total c.args.parts.sizes.now) < most_frames = omega arith in
     let small = subst (λ ss. stop (1 + total ss) < most_frames) c.requires.sizes small0 in
     let q = par_counts l env ts (frame_in es) o part c.requires.right small x.0 in
     let fs = c.perform_one.new.fs in
@@ -289,17 +272,17 @@ perform_par-tally-requires-clause-few t c =
     let es = c.args.fs.now in
     let o = c.args.o in
     let k = c.args.k in
-    let ts = c.args.parts.now in
+    let ts = c.args.parts.terms.now in
     let part = c.find_part-found.result.part in
     let event = c.find_part-found.result.event in
     let f = subst (λ ss. InItems ss (frame_in es) o k part event) c.requires.sizes c.find_part-found.ensures.found in
     let x = par_into l env o k ts (frame_in es) part event c.requires.right f in
     let pl = c.find_part-found.ensures.place ∙ ap (λ ss. o + (1 + before ss part)) c.requires.sizes in
     let item = items_of l ts env part in
-    let fit = part_room l ts c.args.sizes.now part c.requires.sizes x.0 (omega arith) in
+    let fit = part_room l ts c.args.parts.sizes.now part c.requires.sizes x.0 (omega arith) in
     let r = c.requires.fits in
     let pl2 = c.find_part-found.ensures.place in
-    let small0 : stop (1 + total c.args.sizes.now) < most_frames = omega arith in
+    let small0 : stop (1 + total c.args.parts.sizes.now) < most_frames = omega arith in
     let small = subst (λ ss. stop (1 + total ss) < most_frames) c.requires.sizes small0 in
     let q = par_counts l env ts (frame_in es) o part c.requires.right small x.0 in
     let fs = c.perform_one.new.fs in
@@ -316,17 +299,17 @@ perform_par-tally-requires-clause-room t c =
     let es = c.args.fs.now in
     let o = c.args.o in
     let k = c.args.k in
-    let ts = c.args.parts.now in
+    let ts = c.args.parts.terms.now in
     let part = c.find_part-found.result.part in
     let event = c.find_part-found.result.event in
     let f = subst (λ ss. InItems ss (frame_in es) o k part event) c.requires.sizes c.find_part-found.ensures.found in
     let x = par_into l env o k ts (frame_in es) part event c.requires.right f in
     let pl = c.find_part-found.ensures.place ∙ ap (λ ss. o + (1 + before ss part)) c.requires.sizes in
     let item = items_of l ts env part in
-    let fit = part_room l ts c.args.sizes.now part c.requires.sizes x.0 (omega arith) in
+    let fit = part_room l ts c.args.parts.sizes.now part c.requires.sizes x.0 (omega arith) in
     let r = c.requires.fits in
     let pl2 = c.find_part-found.ensures.place in
-    let small0 : stop (1 + total c.args.sizes.now) < most_frames = omega arith in
+    let small0 : stop (1 + total c.args.parts.sizes.now) < most_frames = omega arith in
     let small = subst (λ ss. stop (1 + total ss) < most_frames) c.requires.sizes small0 in
     let q = par_counts l env ts (frame_in es) o part c.requires.right small x.0 in
     let fs = c.perform_one.new.fs in
@@ -346,17 +329,17 @@ perform_par-returns-clause-stepped t c =
     let es = c.args.fs.now in
     let o = c.args.o in
     let k = c.args.k in
-    let ts = c.args.parts.now in
+    let ts = c.args.parts.terms.now in
     let part = c.find_part-found.result.part in
     let event = c.find_part-found.result.event in
     let f = subst (λ ss. InItems ss (frame_in es) o k part event) c.requires.sizes c.find_part-found.ensures.found in
     let x = par_into l env o k ts (frame_in es) part event c.requires.right f in
     let pl = c.find_part-found.ensures.place ∙ ap (λ ss. o + (1 + before ss part)) c.requires.sizes in
     let item = items_of l ts env part in
-    let fit = part_room l ts c.args.sizes.now part c.requires.sizes x.0 (omega arith) in
+    let fit = part_room l ts c.args.parts.sizes.now part c.requires.sizes x.0 (omega arith) in
     let r = c.requires.fits in
     let pl2 = c.find_part-found.ensures.place in
-    let small0 : stop (1 + total c.args.sizes.now) < most_frames = omega arith in
+    let small0 : stop (1 + total c.args.parts.sizes.now) < most_frames = omega arith in
     let small = subst (λ ss. stop (1 + total ss) < most_frames) c.requires.sizes small0 in
     let q = par_counts l env ts (frame_in es) o part c.requires.right small x.0 in
     let fs = c.perform_one.new.fs in
@@ -366,7 +349,7 @@ perform_par-returns-clause-stepped t c =
     let lo : o < length fs = omega (arith, fit, r) in
     let s1 = subst (λ p. HasStepped item (frame_in es) (frame_in fs) p event c.args.trapped) pl c.perform_one.ensures.stepped in
     let t1 = subst (λ p. (frame_in fs p).turn ≡ (frame_in es p).turn) pl c.perform_one.ensures.turn in
-    let k1 = subst (λ ss. IsKept es fs place (frames_at ss part)) c.requires.sizes (subst (λ p. IsKept es fs p (frames_at c.args.sizes.now part)) pl c.perform_one.ensures.kept) in
+    let k1 = subst (λ ss. IsKept es fs place (frames_at ss part)) c.requires.sizes (subst (λ p. IsKept es fs p (frames_at c.args.parts.sizes.now part)) pl c.perform_one.ensures.kept) in
     let y = par_steps l env ts es fs o k part event c.args.trapped lo small c.requires.right f x.0 s1 t1 k1 in
     let e = c.tally.ensures ∙ ap (λ p. slice_set fs o (tallied fs o p c.frame_at-before.result)) pl ∙ ap (λ b. slice_set fs o (tallied fs o place b)) bz in
     subst (λ gs. HasStepped ((made l (tm.Par ts)).form env) (frame_in es) (frame_in gs) o k c.args.trapped) (sym e) y
@@ -381,10 +364,10 @@ perform_loop-returns-clause-stepped t c =
     let hs = c.next_turn-next.new.fs in
     let fit = c.requires.fits in
     let lo : o < length hs = omega (arith, fit) in
-    let small0 : stop (1 + frames c.args.size.now) < most_frames = omega arith in
-    let small = loop_small l c.args.count.now c.args.body.now (subst (λ z. stop (1 + frames z) < most_frames) c.requires.sizes small0) in
-    let x = loop_steps l env c.args.count.now c.args.body.now es fs hs o c.args.k c.count_of-n.result c.frame_at-whole.result.at c.next_turn-next.result c.frame_at-whole.result.turn c.args.trapped lo small c.count_of-n.ensures (ap (λ f. f.at) c.frame_at-whole.ensures) c.requires.right c.requires.there c.perform.ensures.stepped c.next_turn-next.ensures.goes in
-    subst (λ gs. HasStepped ((made l (tm.Loop c.args.count.now c.args.body.now)).form env) (frame_in es) (frame_in gs) o c.args.k c.args.trapped) (sym c.settle.ensures) x
+    let small0 : stop (1 + frames c.args.body.sizes.now) < most_frames = omega arith in
+    let small = loop_small l c.args.count.now c.args.body.term.now (subst (λ z. stop (1 + frames z) < most_frames) c.requires.sizes small0) in
+    let x = loop_steps l env c.args.count.now c.args.body.term.now es fs hs o c.args.k c.count_of-n.result c.frame_at-whole.result.at c.next_turn-next.result c.frame_at-whole.result.turn c.args.trapped lo small c.count_of-n.ensures (ap (λ f. f.at) c.frame_at-whole.ensures) c.requires.right c.requires.there c.perform.ensures.stepped c.next_turn-next.ensures.goes in
+    subst (λ gs. HasStepped ((made l (tm.Loop c.args.count.now c.args.body.term.now)).form env) (frame_in es) (frame_in gs) o c.args.k c.args.trapped) (sym c.settle.ensures) x
 
 pub perform_within-returns-clause-stepped : goal.perform_within-returns-clause-stepped
 perform_within-returns-clause-stepped t c =
@@ -397,8 +380,8 @@ perform_within-returns-clause-stepped t c =
     let lo : o < length fs = omega (arith, fit) in
     let child = c.args.child.now in
     let bs = c.args.buffers.now in
-    let b = c.args.body.now in
-    let small0 : stop (1 + frames c.args.size.now) < most_frames = omega arith in
+    let b = c.args.body.term.now in
+    let small0 : stop (1 + frames c.args.body.sizes.now) < most_frames = omega arith in
     let small = within_small l child bs b (subst (λ z. stop (1 + frames z) < most_frames) c.requires.sizes small0) in
     let x = within_steps l env child bs b es fs o c.args.k c.frame_at-turn.result.turn c.args.trapped lo small c.requires.right c.requires.there c.perform_inside.ensures.stepped in
     subst (λ gs. HasStepped ((made l (tm.Within child bs b)).form env) (frame_in es) (frame_in gs) o c.args.k c.args.trapped) (sym c.cover.ensures) x
@@ -410,10 +393,10 @@ perform_spread-find_child-found-requires-clause-fits t c =
     let es = c.args.fs.now in
     let o = c.args.o in
     let k = c.args.k in
-    let b = c.args.body.now in
+    let b = c.args.body.term.now in
     let n = c.args.count.now in
     let rule = c.args.rule in
-    let v = frames c.args.size.now in
+    let v = frames c.args.body.sizes.now in
     let ec = ap (λ (y : Spread). y.children) c.spread_of-spread.ensures in
     let ev = ap frames c.requires.sizes in
     let le = fan-at l l.nodes (node_here env) in
@@ -429,10 +412,10 @@ perform_spread-find_child-found-requires-clause-there t c =
     let es = c.args.fs.now in
     let o = c.args.o in
     let k = c.args.k in
-    let b = c.args.body.now in
+    let b = c.args.body.term.now in
     let n = c.args.count.now in
     let rule = c.args.rule in
-    let v = frames c.args.size.now in
+    let v = frames c.args.body.sizes.now in
     let ec = ap (λ (y : Spread). y.children) c.spread_of-spread.ensures in
     let ev = ap frames c.requires.sizes in
     let le = fan-at l l.nodes (node_here env) in
@@ -449,10 +432,10 @@ perform_spread-perform-requires t c =
     let es = c.args.fs.now in
     let o = c.args.o in
     let k = c.args.k in
-    let b = c.args.body.now in
+    let b = c.args.body.term.now in
     let n = c.args.count.now in
     let rule = c.args.rule in
-    let v = frames c.args.size.now in
+    let v = frames c.args.body.sizes.now in
     let ec = ap (λ (y : Spread). y.children) c.spread_of-spread.ensures in
     let ev = ap frames c.requires.sizes in
     let le = fan-at l l.nodes (node_here env) in
@@ -481,10 +464,10 @@ perform_spread-next_at-requires-clause-fits t c =
     let es = c.args.fs.now in
     let o = c.args.o in
     let k = c.args.k in
-    let b = c.args.body.now in
+    let b = c.args.body.term.now in
     let n = c.args.count.now in
     let rule = c.args.rule in
-    let v = frames c.args.size.now in
+    let v = frames c.args.body.sizes.now in
     let ec = ap (λ (y : Spread). y.children) c.spread_of-spread.ensures in
     let ev = ap frames c.requires.sizes in
     let le = fan-at l l.nodes (node_here env) in
@@ -511,10 +494,10 @@ perform_spread-tally-requires-clause-ready t c =
     let es = c.args.fs.now in
     let o = c.args.o in
     let k = c.args.k in
-    let b = c.args.body.now in
+    let b = c.args.body.term.now in
     let n = c.args.count.now in
     let rule = c.args.rule in
-    let v = frames c.args.size.now in
+    let v = frames c.args.body.sizes.now in
     let ec = ap (λ (y : Spread). y.children) c.spread_of-spread.ensures in
     let ev = ap frames c.requires.sizes in
     let le = fan-at l l.nodes (node_here env) in
@@ -547,10 +530,10 @@ perform_spread-tally-requires-clause-number t c =
     let es = c.args.fs.now in
     let o = c.args.o in
     let k = c.args.k in
-    let b = c.args.body.now in
+    let b = c.args.body.term.now in
     let n = c.args.count.now in
     let rule = c.args.rule in
-    let v = frames c.args.size.now in
+    let v = frames c.args.body.sizes.now in
     let ec = ap (λ (y : Spread). y.children) c.spread_of-spread.ensures in
     let ev = ap frames c.requires.sizes in
     let le = fan-at l l.nodes (node_here env) in
@@ -583,10 +566,10 @@ perform_spread-tally-requires-clause-few t c =
     let es = c.args.fs.now in
     let o = c.args.o in
     let k = c.args.k in
-    let b = c.args.body.now in
+    let b = c.args.body.term.now in
     let n = c.args.count.now in
     let rule = c.args.rule in
-    let v = frames c.args.size.now in
+    let v = frames c.args.body.sizes.now in
     let ec = ap (λ (y : Spread). y.children) c.spread_of-spread.ensures in
     let ev = ap frames c.requires.sizes in
     let le = fan-at l l.nodes (node_here env) in
@@ -618,10 +601,10 @@ perform_spread-tally-requires-clause-room t c =
     let es = c.args.fs.now in
     let o = c.args.o in
     let k = c.args.k in
-    let b = c.args.body.now in
+    let b = c.args.body.term.now in
     let n = c.args.count.now in
     let rule = c.args.rule in
-    let v = frames c.args.size.now in
+    let v = frames c.args.body.sizes.now in
     let ec = ap (λ (y : Spread). y.children) c.spread_of-spread.ensures in
     let ev = ap frames c.requires.sizes in
     let le = fan-at l l.nodes (node_here env) in
@@ -664,10 +647,10 @@ perform_spread-returns-clause-kept t c =
     let es = c.args.fs.now in
     let o = c.args.o in
     let k = c.args.k in
-    let b = c.args.body.now in
+    let b = c.args.body.term.now in
     let n = c.args.count.now in
     let rule = c.args.rule in
-    let v = frames c.args.size.now in
+    let v = frames c.args.body.sizes.now in
     let ec = ap (λ (y : Spread). y.children) c.spread_of-spread.ensures in
     let ev = ap frames c.requires.sizes in
     let le = fan-at l l.nodes (node_here env) in
@@ -696,10 +679,10 @@ perform_spread-returns-clause-stepped t c =
     let es = c.args.fs.now in
     let o = c.args.o in
     let k = c.args.k in
-    let b = c.args.body.now in
+    let b = c.args.body.term.now in
     let n = c.args.count.now in
     let rule = c.args.rule in
-    let v = frames c.args.size.now in
+    let v = frames c.args.body.sizes.now in
     let ec = ap (λ (y : Spread). y.children) c.spread_of-spread.ensures in
     let ev = ap frames c.requires.sizes in
     let le = fan-at l l.nodes (node_here env) in
