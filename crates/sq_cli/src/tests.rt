@@ -26,8 +26,14 @@ struct Case<'a> {
 const FILES: &[(&str, &[u8])] = &[
     ("P1.sq", PROGRAM),
     ("canonical.sq", CANONICAL),
-    ("ends.sq", b"void task a::inner(in int A[N]) {\n  mappar (int i ="),
-    ("writes.sq", b"void task t::leaf(in int A[N]) {\n  A[0] = 1;\n}\n"),
+    (
+        "ends.sq",
+        b"void task a::inner(in int A[N]) {\n  mappar (int i =",
+    ),
+    (
+        "writes.sq",
+        b"void task t::leaf(in int A[N]) {\n  A[0] = 1;\n}\n",
+    ),
     (
         "two.sq",
         b"void task twice::inner(in int A[N], out int B[N]) {\n  tunable int U;\n  blkset Ab = rchop(A, U);\n  blkset Bb = rchop(B, U);\n  mappar (int i = 0 to (N + U - 1) / U) {\n    twice(Ab[i], Bb[i]);\n  }\n}\nvoid task twice::leaf(in int A[N], out int B[N]) {\n  for (int i = 0; i < N; i++) B[i] = A[i] + A[i];\n}\n",
@@ -36,9 +42,18 @@ const FILES: &[(&str, &[u8])] = &[
         "minus.sq",
         b"void task t::leaf(in int A[N], out int B[N]) { for (int i = 0; i < N; i++) B[i] = A[i] - A[i] - A[i]; }",
     ),
-    ("3.map", b"mapping 1; entry top(N = 3); instance top = twice::leaf @ host { }"),
-    ("1.map", b"mapping 1; entry top(N = 1); instance top = twice::leaf @ host { }"),
-    ("minus.map", b"mapping 1; entry top(N = 3); instance top = t::leaf @ host { }"),
+    (
+        "3.map",
+        b"mapping 1; entry top(N = 3); instance top = twice::leaf @ host { }",
+    ),
+    (
+        "1.map",
+        b"mapping 1; entry top(N = 1); instance top = twice::leaf @ host { }",
+    ),
+    (
+        "minus.map",
+        b"mapping 1; entry top(N = 3); instance top = t::leaf @ host { }",
+    ),
     (
         "tens.sq",
         b"void task tens::inner(in int A[N], out int B[N]) {\n  blkset Ab = rchop(A, 1);\n  blkset Bb = rchop(B, 1);\n  mappar (int i = 0 to N) {\n    tens(Ab[i], Bb[i]);\n  }\n}\nvoid task tens::leaf(in int A[N], out int B[N]) {\n  for (int i = 0; i < N; i++) B[i] = 10 / A[i];\n}\n",
@@ -63,8 +78,14 @@ const FILES: &[(&str, &[u8])] = &[
         "tens.map",
         b"mapping 1; entry top(N = 4); instance top = tens::inner @ host { call tens -> low; } instance low = tens::leaf @ core { }",
     ),
-    ("two.mach", b"machine 1; level host { capacity 64; } children 2; level core { capacity 32; }"),
-    ("fan.mach", b"machine 1; level host { capacity 64; } children 0; level core { capacity 32; }"),
+    (
+        "two.mach",
+        b"machine 1; level host { capacity 64; } children 2; level core { capacity 32; }",
+    ),
+    (
+        "fan.mach",
+        b"machine 1; level host { capacity 64; } children 0; level core { capacity 32; }",
+    ),
     ("8.txt", b"array A int [8]\n1 2 3 4 5 6 7 8\n"),
     ("tens.txt", b"array A int [4]\n1 0 2 0\n"),
     ("32.mach", b"machine 1; level host { capacity 32; }"),
