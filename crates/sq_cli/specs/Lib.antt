@@ -10,6 +10,7 @@ pub mod Outcome
 pub mod Outputs
 pub mod Phases
 pub mod Picking
+pub mod Pieces
 pub mod Placing
 pub mod Programs
 pub mod Races

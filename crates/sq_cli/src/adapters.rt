@@ -1,5 +1,5 @@
 //! The real files and streams. They tell nothing of what they hold, and count their failures.
-ghost use Rattle.std.specs.Prelude.{◌≡◌, ◌<◌, ◌≤◌, length, None, IfOk, Ok, vec_len};
+ghost use Rattle.std.specs.Prelude.{◌≡◌, ◌<◌, ◌≤◌, ℕ, [], nat_lt, length, None, IfOk, OnOk, Ok, string_bytes, vec_len};
 
 use sq_port::{Failed, FileEnd, Files, Sink};
 use std::alloc::{AllocError, Global};
@@ -22,7 +22,9 @@ pub struct DiskFiles<'a, R: rt::Files> {
 
 impl<'a, R: rt::Files> DiskFiles<'a, R> {
     /// It takes all of its memory here.
-    pub fn new(alloc: Global, disk: &'a R) -> Result<Self, AllocError> {
+    pub fn new(alloc: Global, disk: &'a R) -> Result<Self, AllocError>
+        ensures { IfOk result (λ d. (d.faults ≡ 0) × (d.misses ≡ 0)) }
+    {
         Ok(DiskFiles {
             reader: DiskReader::new(alloc, disk)?,
             faults: 0,
@@ -66,7 +68,11 @@ struct DiskReader<'a, R: rt::Files> {
 }
 
 impl<'a, R: rt::Files> DiskReader<'a, R> {
-    fn new(alloc: Global, disk: &'a R) -> Result<Self, AllocError> {
+    ghost use Rattle.sq_cli.specs.Pieces.{held_from, IsCopied};
+
+    fn new(alloc: Global, disk: &'a R) -> Result<Self, AllocError>
+        ensures { IfOk result (λ d. (at : ℕ) → held_from d.piece at ≡ []) }
+    {
         Ok(DiskReader {
             disk,
             opened: None,
@@ -77,7 +83,8 @@ impl<'a, R: rt::Files> DiskReader<'a, R> {
     }
 
     fn read_at(&mut self, name: &str, at: u64, into: &mut [u8]) -> Result<usize, FileEnd>
-        ensures { IfOk result (λ n. n ≤ length into.new) }
+        ensures copied { IfOk result (λ n. IsCopied self.new.piece at n into.old into.new) }
+        ensures fits { IfOk result (λ n. n ≤ length into.new) }
     {
         match self.open(name) {
             Ok(()) => self.read(at, into),
@@ -86,7 +93,10 @@ impl<'a, R: rt::Files> DiskReader<'a, R> {
     }
 
     // Opens the file of that name, where it isn't the one that is open.
-    fn open(&mut self, name: &str) -> Result<(), FileEnd> {
+    fn open(&mut self, name: &str) -> Result<(), FileEnd>
+        ensures named { OnOk result (string_bytes self.new.name ≡ name.now) }
+        ensures fresh { OnOk result ((string_bytes self.old.name ≡ name.now → ⊥) → (at : ℕ) → held_from self.new.piece at ≡ []) }
+    {
         if self.opened.is_some() && self.name.as_str() == name {
             return Ok(());
         }
@@ -112,7 +122,8 @@ impl<'a, R: rt::Files> DiskReader<'a, R> {
 
     // Reads from that place of the open file on.
     fn read(&mut self, at: u64, into: &mut [u8]) -> Result<usize, FileEnd>
-        ensures { IfOk result (λ n. n ≤ length into.new) }
+        ensures copied { IfOk result (λ n. IsCopied self.new.piece at n into.old into.new) }
+        ensures fits { IfOk result (λ n. n ≤ length into.new) }
     {
         if self.piece.holds(at) {
             return Ok(self.piece.copy(at, into));
@@ -142,7 +153,11 @@ struct Piece {
 }
 
 impl Piece {
-    fn new(alloc: Global) -> Result<Piece, AllocError> {
+    ghost use Rattle.sq_cli.specs.Pieces.{held_from, IsCopied};
+
+    fn new(alloc: Global) -> Result<Piece, AllocError>
+        ensures { IfOk result (λ p. (at : ℕ) → held_from p at ≡ []) }
+    {
         Ok(Piece {
             room: vec![in alloc; 0; PIECE]?,
             len: 0,
@@ -150,17 +165,23 @@ impl Piece {
         })
     }
 
-    fn forget(&mut self) {
+    fn forget(&mut self)
+        ensures { (at : ℕ) → held_from self.new at ≡ [] }
+    {
         self.len = 0;
     }
 
-    fn holds(&self, at: u64) -> bool {
+    // Whether it holds the byte at that place.
+    fn holds(&self, at: u64) -> bool
+        ensures { result ≡ nat_lt 0 (length (held_from self.now at)) }
+    {
         at >= self.start && at - self.start < self.len as u64
     }
 
     // As many bytes from that place on as it holds, and as there is room for.
     fn copy(&self, at: u64, into: &mut [u8]) -> usize
-        ensures { result ≤ length into.new }
+        ensures copied { IsCopied self.now at result into.old into.new }
+        ensures fits { result ≤ length into.new }
     {
         if at < self.start || at - self.start >= self.len as u64 {
             return 0;
@@ -175,7 +196,9 @@ impl Piece {
     // Reads from where the file stands, which is that place, and says how many bytes it holds then.
     // Not inlined: LLVM was seen to drop a caller's test of the count for 0.
     #[inline(never)]
-    fn fill<F: Read>(&mut self, file: &mut F, at: u64) -> Result<usize, FileEnd> {
+    fn fill<F: Read>(&mut self, file: &mut F, at: u64) -> Result<usize, FileEnd>
+        ensures { IfOk result (λ n. length (held_from self.new at) ≡ n) }
+    {
         self.len = 0;
         match file.read(&mut self.room) {
             Ok(count) => {
@@ -204,7 +227,9 @@ pub struct StreamSink<W: Write + Drop> {
 }
 
 impl<W: Write + Drop> StreamSink<W> {
-    pub fn new(stream: W) -> Self {
+    pub fn new(stream: W) -> Self
+        ensures { result.faults ≡ 0 }
+    {
         StreamSink { stream, faults: 0 }
     }
 }
