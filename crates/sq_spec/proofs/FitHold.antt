@@ -52,13 +52,13 @@ use Rattle.sq_spec.proofs.RanHold.{forms_ran}
 use Rattle.sq_spec.proofs.ServedHold.{all_at, variant_same, calls_are_served}
 use Rattle.sq_spec.proofs.Shapes.{Agrees, none_agrees, suits_fit, have_shape}
 
-some_same : {A : Type 0} (x y : A) → Some x ≡ Some y → x ≡ y
+pub some_same : {A : Type 0} (x y : A) → Some x ≡ Some y → x ≡ y
 some_same x y h = cc h
 
-is_equal : (m n : ℕ) → (m == n) ≡ true → m ≡ n
+pub is_equal : (m n : ℕ) → (m == n) ≡ true → m ≡ n
 is_equal m n h = grind (arith, nat_tests)
 
-both : (a b : Bool) → (a && b) ≡ true → (a ≡ true) × (b ≡ true)
+pub both : (a b : Bool) → (a && b) ≡ true → (a ≡ true) × (b ≡ true)
 both true b h = (refl, h)
 both false b h = absurd (cc h)
 
@@ -225,12 +225,12 @@ module _ (kind : VariantKind) (task : Bytes) where
   found_at (v ∷ rest) i k h = found_by v rest i k (same_kind v.kind kind) (same_name task v.task) refl (found_at rest (suc i) k) h
 
 -- a variant that runs is one of the program's, of this task
-record OfProgram (vs : List Variant) (task : Bytes) (v : Variant) : Type 0 where
-  index : ℕ
-  there : slice_get vs index ≡ Some v
-  task_ : task ≡ v.task
+pub record OfProgram (vs : List Variant) (task : Bytes) (v : Variant) : Type 0 where
+  pub index : ℕ
+  pub there : slice_get vs index ≡ Some v
+  pub task_ : task ≡ v.task
 
-of_program : (vs : List Variant) (task : Bytes) (kind : VariantKind) (v : Variant) → variant_of vs task kind ≡ Some v → OfProgram vs task v
+pub of_program : (vs : List Variant) (task : Bytes) (kind : VariantKind) (v : Variant) → variant_of vs task kind ≡ Some v → OfProgram vs task v
 of_program vs task kind v h = by (first_of_kind kind 0 vs task) refl h
   where
     by : (o : Option ℕ) → first_of_kind kind 0 vs task ≡ o → at_index vs o ≡ Some v → OfProgram vs task v
@@ -262,10 +262,12 @@ three true true false h = absurd (cc h)
 three true false c h = absurd (cc h)
 three false b c h = absurd (cc h)
 
--- as many parameters as the task's first variant, and a sound body
-record Parts (tasks : List Variant) (v : Variant) : Type 0 where
-  counts : typed.agrees (count_of (params_of_task tasks v.task)) (length v.params) ≡ true
-  body_ : typed.is_sound_body tasks v.body (decls_known v.decls (params_known v.params [])) ≡ true
+-- as many parameters as the task's first variant, of its types, and sound declarations and a sound body
+pub record Parts (tasks : List Variant) (v : Variant) : Type 0 where
+  pub counts : typed.agrees (count_of (params_of_task tasks v.task)) (length v.params) ≡ true
+  pub params_ : typed.are_sound_params (params_of_task tasks v.task) 0 v.params [] ≡ true
+  pub decls_ : typed.are_sound_decls (length v.params) v.decls (params_known v.params []) ≡ true
+  pub body_ : typed.is_sound_body tasks v.body (decls_known v.decls (params_known v.params [])) ≡ true
 
 parts_of : (tasks : List Variant) (v : Variant) (again : Bool) → typed.is_sound_variant tasks again v ≡ true → Parts tasks v
 parts_of tasks v again h =
@@ -274,7 +276,9 @@ parts_of tasks v again h =
     let ds = typed.are_sound_decls (length v.params) v.decls known in
     let bs = typed.is_sound_body tasks v.body (decls_known v.decls known) in
     let t = three (not again) (typed.agrees (count_of (params_of_task tasks v.task)) (length v.params)) (ps && (ds && bs)) h in
-    record { counts = t.1; body_ = (both ds bs (both ps (ds && bs) t.2).1).1 }
+    let q = both ps (ds && bs) t.2 in
+    let u = both ds bs q.1 in
+    record { counts = t.1; params_ = q.0; decls_ = u.0; body_ = u.1 }
 
 -- ---- calls with as many arguments as there are parameters
 
@@ -335,7 +339,7 @@ module _ (tasks : List Variant) where
   counted_body (body.Leaf list) known h = tt
 
 -- the first variant's parameters are as many as a call's arguments, and as any other variant's parameters
-same_count : (args params : ℕ) (o : Option (List Param)) → typed.has_count args o ≡ true → typed.agrees (count_of o) params ≡ true → args ≡ params
+pub same_count : (args params : ℕ) (o : Option (List Param)) → typed.has_count args o ≡ true → typed.agrees (count_of o) params ≡ true → args ≡ params
 same_count args params None h g = absurd (cc h)
 same_count args params (Some ps) h g = let a : length ps ≡ args = is_equal (length ps) args h in let b : length ps ≡ params = is_equal (length ps) params g in sym a ∙ b
 
@@ -353,7 +357,7 @@ many_extents (x ∷ xs) = ap suc (many_extents xs)
 
 module _ (program : Program) (levels : List Level) (mapping : Mapping) (faultless : typed.is_sound program ≡ true) (sound : Sound program levels mapping) where
   -- a variant of the program is sound
-  variant_parts : (task : Bytes) (kind : VariantKind) (v : Variant) → variant_of program.tasks task kind ≡ Some v → Parts program.tasks v
+  pub variant_parts : (task : Bytes) (kind : VariantKind) (v : Variant) → variant_of program.tasks task kind ≡ Some v → Parts program.tasks v
   variant_parts task kind v h =
       let o = of_program program.tasks task kind v h in
       let q = sound_at program.tasks program.tasks [] faultless o.index v o.there in

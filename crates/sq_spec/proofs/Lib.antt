@@ -20,10 +20,12 @@ pub mod RanHold
 pub mod Exact
 pub mod Shapes
 pub mod InsideHold
+pub mod Sorted
 pub mod NeedsHold
 pub mod ServedHold
 pub mod FitHold
 pub mod NamedHold
+pub mod TypedHold
 pub mod Tallies
 pub mod LevelsHold
 pub mod AnswerHold
@@ -35,6 +37,11 @@ pub mod BegunLists
 pub mod ReachedHold
 pub mod Rows
 pub mod TablesMean
+pub mod FilledHold
+pub mod TableRowsHold
+pub mod SumsHold
+pub mod ReachedFactsHold
+pub mod OnesHold
 pub mod Numbered
 pub mod NumberedForms
 pub mod WhatRuns

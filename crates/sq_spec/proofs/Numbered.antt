@@ -1,5 +1,5 @@
 -- Where callees are known by their numbers, the statements of a form do the same, one iteration after another.
-use Rattle.std.proofs.Common.{◌≡◌, ℕ, zero, suc, ◌+◌, ◌<◌, List, [], ◌∷◌, map, slice_get, Option, Some, None, Ok, refl, sym, ap, ◌∙◌, subst, arith}
+use Rattle.std.proofs.Common.{◌≡◌, ℕ, zero, suc, ◌+◌, ◌<◌, nat_eq, Bool, ◌||◌, List, [], ◌∷◌, map, slice_get, Option, Some, None, Ok, refl, sym, ap, ap₂, ◌∙◌, subst, arith}
 use mathlib.Core.Path.{fun_ext}
 use Rattle.sq_num.specs.declared.Elem.{Elem}
 use Rattle.sq_text.specs.declared.place.Place.{Place}
@@ -28,30 +28,74 @@ use Rattle.sq_spec.specs.Resolving.{start}
 use Rattle.sq_spec.specs.Reached.{calls_in}
 use Rattle.sq_spec.specs.Begun.{number_or, manner_of}
 use Rattle.sq_spec.specs.Work.{Work, Then}
-use Rattle.sq_spec.specs.Meaning.{Outcome, and_then, entered, returned}
-use Rattle.sq_spec.specs.InTurn.{gathering, serial}
+use Rattle.sq_spec.specs.Meaning.{Outcome, and_then, entered, returned, any_below, writes, touches}
+use Rattle.sq_spec.specs.InTurn.{AreApart, none_aside, its_array, IsRaceFree, gathering, serial}
 use Rattle.sq_spec.specs.Works as works
 use Rattle.sq_spec.specs.Works.{Share, map_work, call_work, stmts_work}
 use Rattle.sq_spec.proofs.OpenedStmt.{portion_call, portion_map}
+use Rattle.sq_spec.proofs.Rows.{below_same}
 use Rattle.sq_spec.proofs.Serial.{in_turn_same}
 
--- works that do the same where all iterations follow one another
+-- works that do the same where all iterations follow one another, with accesses of the same elements; where the first
+-- has no race, the second has none
 pub record RunAlike (w v : Work) : Type 0 where
   pub at : (s : Arrays) → serial w s ≡ serial v s
+  pub written : (n : ℕ) (cs : List ℕ) → writes w n cs ≡ writes v n cs
+  pub touched : (n : ℕ) (cs : List ℕ) → touches w n cs ≡ touches v n cs
+  pub free : IsRaceFree w → IsRaceFree v
+
+pub run_itself : (w : Work) → RunAlike w w
+run_itself w = record { at = λ s. refl; written = λ n cs. refl; touched = λ n cs. refl; free = λ h. h }
 
 then_alike : (a b c d : Work) → RunAlike a b → RunAlike c d → RunAlike (Then a c) (Then b d)
-then_alike a b c d first second =
-    record { at = λ s. ap (λ (o : Outcome). and_then o (serial c)) (first.at s) ∙ ap (and_then (serial b s)) (fun_ext second.at) }
+then_alike a b c d first second = record {
+  at = λ s. ap (λ (o : Outcome). and_then o (serial c)) (first.at s) ∙ ap (and_then (serial b s)) (fun_ext second.at);
+  written = λ n cs. ap₂ (λ x y. x || y) (first.written n cs) (second.written n cs);
+  touched = λ n cs. ap₂ (λ x y. x || y) (first.touched n cs) (second.touched n cs);
+  free = λ h. (first.free h.0, second.free h.1);
+}
 
 pub between : {w x v y : Work} → w ≡ x → v ≡ y → RunAlike x y → RunAlike w v
-between left right h = record { at = λ s. ap (λ (w : Work). serial w s) left ∙ (h.at s ∙ sym (ap (λ (w : Work). serial w s) right)) }
+between left right h = record {
+  at = λ s. ap (λ (w : Work). serial w s) left ∙ (h.at s ∙ sym (ap (λ (w : Work). serial w s) right));
+  written = λ n cs. ap (λ (w : Work). writes w n cs) left ∙ (h.written n cs ∙ sym (ap (λ (w : Work). writes w n cs) right));
+  touched = λ n cs. ap (λ (w : Work). touches w n cs) left ∙ (h.touched n cs ∙ sym (ap (λ (w : Work). touches w n cs) right));
+  free = λ f. subst IsRaceFree (sym right) (h.free (subst IsRaceFree left f));
+}
 
-map_alike : (m : Manner) (place : Place) (count : ℕ) (w v : ℕ → Work) → ((t : ℕ) → t < count → RunAlike (w t) (v t))
-    → RunAlike (map_work m place count w) (map_work m place count v)
-map_alike manner.InTurn place count w v h = record { at = in_turn_same count (λ t. serial (w t)) (λ t. serial (v t)) (λ t lt. fun_ext (h t lt).at) }
-map_alike manner.AtOnce place count w v h = record { at = in_turn_same count (λ t. serial (w t)) (λ t. serial (v t)) (λ t lt. fun_ext (h t lt).at) }
-map_alike (manner.Gathering r) place count w v h =
-    record { at = in_turn_same count (λ t. gathering r (serial (w t))) (λ t. gathering r (serial (v t))) (λ t lt. ap (gathering r) (fun_ext (h t lt).at)) }
+module _ (count : ℕ) (w v : ℕ → Work) (h : (t : ℕ) → t < count → RunAlike (w t) (v t)) where
+  written_below : (n : ℕ) (cs : List ℕ) → any_below count (λ t. writes (w t) n cs) ≡ any_below count (λ t. writes (v t) n cs)
+  written_below n cs = below_same count (λ t. writes (w t) n cs) (λ t. writes (v t) n cs) (λ t lt. (h t lt).written n cs)
+
+  touched_below : (n : ℕ) (cs : List ℕ) → any_below count (λ t. touches (w t) n cs) ≡ any_below count (λ t. touches (v t) n cs)
+  touched_below n cs = below_same count (λ t. touches (w t) n cs) (λ t. touches (v t) n cs) (λ t lt. (h t lt).touched n cs)
+
+  still_apart : (aside : ℕ → Bool) → AreApart count w aside → AreApart count v aside
+  still_apart aside f = record {
+    at = λ a b n cs la lb ne out wr to. f.at a b n cs la lb ne out ((h a la).written n cs ∙ wr) ((h b lb).touched n cs ∙ to);
+  }
+
+  map_alike : (m : Manner) (place : Place) → RunAlike (map_work m place count w) (map_work m place count v)
+  map_alike manner.InTurn place = record {
+    at = in_turn_same count (λ t. serial (w t)) (λ t. serial (v t)) (λ t lt. fun_ext (h t lt).at);
+    written = written_below;
+    touched = touched_below;
+    free = λ f t lt. (h t lt).free (f t lt);
+  }
+  map_alike manner.AtOnce place = record {
+    at = in_turn_same count (λ t. serial (w t)) (λ t. serial (v t)) (λ t lt. fun_ext (h t lt).at);
+    written = written_below;
+    touched = touched_below;
+    free = λ f. (still_apart none_aside f.0, λ t lt. (h t lt).free (f.1 t lt));
+  }
+  map_alike (manner.Gathering r) place = record {
+    at = in_turn_same count (λ t. gathering r (serial (w t))) (λ t. gathering r (serial (v t))) (λ t lt. ap (gathering r) (fun_ext (h t lt).at));
+    written = λ n cs. below_same count (λ t. nat_eq n r.array || writes (w t) n cs) (λ t. nat_eq n r.array || writes (v t) n cs)
+        (λ t lt. ap (λ x. nat_eq n r.array || x) ((h t lt).written n cs));
+    touched = λ n cs. below_same count (λ t. nat_eq n r.array || touches (w t) n cs) (λ t. nat_eq n r.array || touches (v t) n cs)
+        (λ t lt. ap (λ x. nat_eq n r.array || x) ((h t lt).touched n cs));
+    free = λ f. (still_apart (its_array r) f.0, λ t lt. (h t lt).free (f.1 t lt));
+  }
 
 -- by: the work of a form by its number
 module _ (forms : Forms) (callee : ℕ → Found → Work) (by : ℕ → Work) where
@@ -168,7 +212,7 @@ module _ (forms : Forms) (callee : ℕ → Found → Work) (by : ℕ → Work) w
     all_serve : (xs : List Known) (names : Names) (spot : Spot) (numbers : Numbers) (later : List Step)
         → AllSuit (all_of (map portion (stmts xs)) frame names spot numbers later)
         → RunAlike (works.all_of (map wide (stmts xs)) other names spot numbers) (works.all_of (map narrow (stmts xs)) frame names spot numbers)
-    all_serve [] names spot numbers later h = record { at = λ s. refl }
+    all_serve [] names spot numbers later h = run_itself _
     all_serve (x ∷ xs) names spot numbers later h =
         let behind = x.1.behind names spot numbers _ h in
         let rest : RunAlike (works.all_of (map wide (stmts xs)) other names (after_calls spot (portion x.0).calls) numbers)
@@ -187,13 +231,16 @@ module _ (forms : Forms) (callee : ℕ → Found → Work) (by : ℕ → Work) w
     call_serves : (names : Names) (spot : Spot) (numbers : Numbers) (c : CallStmt) (o : Option Callee) (later : List Step)
         → AllSuit (served_steps frame names spot numbers c o later)
         → RunAlike (call_work forms callee elems other names spot numbers c o) (call_work forms by_number elems frame names spot numbers c o)
-    call_serves names spot numbers c None later h = record { at = λ s. refl }
+    call_serves names spot numbers c None later h = run_itself _
     call_serves names spot numbers c (Some its) later h =
         let xs = arguments names numbers spot.reduced its.params 0 c.args in
         let reached = args_behind spot.outer names numbers spot.reduced its.params 0 c.args (reached_steps frame its spot c xs later) h in
         record {
           at = λ s. ap (λ (o : Outcome). and_then o (λ inner. Ok (returned 0 xs inner s)))
               ((reached.0 (called other its spot c xs).form refl refl).at (entered xs s));
+          written = λ n cs. refl;
+          touched = λ n cs. refl;
+          free = (reached.0 (called other its spot c xs).form refl refl).free;
         }
 
     map_behind : (p : Place) (kind : MapKind) (rs : List Range) (xs : List Known) (names : Names) (spot : Spot) (numbers : Numbers)
@@ -210,12 +257,12 @@ module _ (forms : Forms) (callee : ℕ → Found → Work) (by : ℕ → Work) w
         ((works.stmt_step forms by_number elems (Stmt-F.Map p kind rs (map narrow (stmts xs)))).work frame names spot numbers)
     map_serves p kind rs xs names spot numbers later h =
         let ns = bounds rs numbers names.lists in
-        map_alike (manner_of elems names kind) p (times_of ns) _ _ (λ t lt.
+        map_alike (times_of ns) _ _ (λ t lt.
         let part = iteration_steps (outermost spot.outer p) (within spot p kind) rs (all_of (map portion (stmts xs))) (value_or [] ns) frame names numbers in
         let found = each_at 0 (times_of ns) part (λ i more g. all_behind xs names (within spot p kind i) (in_iteration rs (value_or [] ns) i numbers) more g) later
         (opens_behind spot.outer _ h) t lt in
         let e : 0 + t ≡ t = omega arith in
-        all_serve xs names (within spot p kind t) (in_iteration rs (value_or [] ns) t numbers) found.0 (subst (λ k. AllSuit (part k found.0)) e found.1))
+        all_serve xs names (within spot p kind t) (in_iteration rs (value_or [] ns) t numbers) found.0 (subst (λ k. AllSuit (part k found.0)) e found.1)) (manner_of elems names kind) p
 
     fits_step : (y : Stmt-F Known) → Fits (roll-Stmt (map-Stmt Known Stmt (λ q. q.0) y))
     fits_step (Stmt-F.Call c) = subst Fits (sym (s.rolls-Call c)) (record {

@@ -69,7 +69,7 @@ past_call s t c l h = by (number_of s.forms c.key) h
 
 -- ---- arguments
 
-past_use : (s t : State) (outer : Option Place) (l : List Step) → run s (used outer l) ≡ Ok t → (u : State) × (run u l ≡ Ok t)
+pub past_use : (s t : State) (outer : Option Place) (l : List Step) → run s (used outer l) ≡ Ok t → (u : State) × (run u l ≡ Ok t)
 past_use s t None l h = (s, h)
 past_use s t (Some place) l h = past_count s t place l h
 
@@ -168,10 +168,24 @@ abbrev pub Fine : (Called → Type 0) → List Step → Type 0
 Fine P l = (s t : State) → run s l ≡ Ok t → Everywhere P l
 
 module _ (frame : Frame) (names : Names) (text : List Call) where
-  call_passed : (spot : Spot) (numbers : Numbers) (c : Call) (callee : Callee) (l : List Step) → InText text c → callee_of frame c.task ≡ Some callee
-      → Fine (IsReached frame names text) l
-      → Fine (IsReached frame names text) (args_steps spot.outer names numbers spot.reduced callee.params 0 c.args (reached_steps frame callee spot c (arguments names numbers spot.reduced callee.params 0 c.args) l))
-  call_passed spot numbers c callee l m e later s t h =
+  -- a call that is reached so, with these arguments
+  pub record Reaches (spot : Spot) (numbers : Numbers) (c : Call) (callee : Callee) (xs : List Argument) : Type 0 where
+    pub reached : IsReached frame names text (called frame callee spot c xs)
+    pub stmt : reached.call ≡ c
+    pub spot_ : reached.spot ≡ spot
+    pub args : reached.arguments ≡ xs
+    pub callee_ : reached.callee ≡ callee
+
+  -- where its steps go through, and what is left behind it
+  pub record Behind (spot : Spot) (numbers : Numbers) (c : Call) (callee : Callee) (xs : List Argument) (l : List Step) (t : State) : Type 0 where
+    pub reaches : Reaches spot numbers c callee xs
+    pub state : State
+    pub ran : run state l ≡ Ok t
+
+  pub call_reached : (spot : Spot) (numbers : Numbers) (c : Call) (callee : Callee) (l : List Step) → InText text c → callee_of frame c.task ≡ Some callee
+      → (s t : State) → run s (args_steps spot.outer names numbers spot.reduced callee.params 0 c.args (reached_steps frame callee spot c (arguments names numbers spot.reduced callee.params 0 c.args) l)) ≡ Ok t
+      → Behind spot numbers c callee (arguments names numbers spot.reduced callee.params 0 c.args) l t
+  call_reached spot numbers c callee l m e s t h =
       let xs = arguments names numbers spot.reduced callee.params 0 c.args in
       let made = called frame callee spot c xs in
       let shape = shape_from 0 [] callee.params xs in
@@ -185,22 +199,40 @@ module _ (frame : Frame) (names : Names) (text : List Call) where
       let r = past_test a.0 t (depth_fault frame spot c) after_depth q.1 in
       let u = past_call a.0 t made l r.1 in
       let many = as_many spot.outer names numbers spot.reduced callee.params 0 c.args xs a.2 in
-      let reached : IsReached frame names text made = record {
-        call = c;
-        position = m.position;
-        among = m.among;
-        spot = spot;
-        numbers = numbers;
-        callee = callee;
-        serves = e;
-        arguments = xs;
-        examined = a.2;
-        shape = no_fault code.Shape c.args shape (λ i g. let k = shape_below 0 [] callee.params xs i g in omega (arith, k, many)) p.0;
-        alias = no_fault code.Alias c.args alias (λ i g. let k = alias_below 0 [] xs i g in omega (arith, k, many)) q.0;
-        depth = not_chosen (is_too_deep frame spot) (fault_named code.LimitDepth c.place c.task) r.0;
-        is = refl;
-      } in
-      args_everywhere spot.outer names numbers spot.reduced callee.params (IsReached frame names text) 0 c.args (reached_steps frame callee spot c xs l) (reached, later u.0 t u.1)
+      record {
+        reaches = record {
+          reached = record {
+            call = c;
+            position = m.position;
+            among = m.among;
+            spot = spot;
+            numbers = numbers;
+            callee = callee;
+            serves = e;
+            arguments = xs;
+            examined = a.2;
+            shape = no_fault code.Shape c.args shape (λ i g. let k = shape_below 0 [] callee.params xs i g in omega (arith, k, many)) p.0;
+            alias = no_fault code.Alias c.args alias (λ i g. let k = alias_below 0 [] xs i g in omega (arith, k, many)) q.0;
+            depth = not_chosen (is_too_deep frame spot) (fault_named code.LimitDepth c.place c.task) r.0;
+            is = refl;
+          };
+          stmt = refl;
+          spot_ = refl;
+          args = refl;
+          callee_ = refl;
+        };
+        state = u.0;
+        ran = u.1;
+      }
+
+  call_passed : (spot : Spot) (numbers : Numbers) (c : Call) (callee : Callee) (l : List Step) → InText text c → callee_of frame c.task ≡ Some callee
+      → Fine (IsReached frame names text) l
+      → Fine (IsReached frame names text) (args_steps spot.outer names numbers spot.reduced callee.params 0 c.args (reached_steps frame callee spot c (arguments names numbers spot.reduced callee.params 0 c.args) l))
+  call_passed spot numbers c callee l m e later s t h =
+      let xs = arguments names numbers spot.reduced callee.params 0 c.args in
+      let b = call_reached spot numbers c callee l m e s t h in
+      args_everywhere spot.outer names numbers spot.reduced callee.params (IsReached frame names text) 0 c.args (reached_steps frame callee spot c xs l)
+      (b.reaches.reached, later b.state t b.ran)
 
   fine_kept : Kept frame names (InText text) (Fine (IsReached frame names text))
   fine_kept = record {

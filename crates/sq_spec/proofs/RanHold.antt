@@ -217,16 +217,16 @@ callee_by_key frame names text c e h k (inr own) =
 
 -- ---- a form that was walked
 
-abbrev begun_state : Forms → State
+abbrev pub begun_state : Forms → State
 begun_state forms = record { left = 0; forms = forms; uses = [] }
 
 -- its declarations and its statements went through
-record Opened (frame : Frame) (x : Instance) (v : Variant) (forms : Forms) (start : Scope) (done : Outcome) : Type 0 where
-  scope : Scope
-  declared : all_declared x.tunings start v.decls ≡ Ok scope
-  state : State
-  ran : run (begun_state forms) (body_steps v.body frame scope) ≡ Ok state
-  is : done ≡ ended scope state
+pub record Opened (frame : Frame) (x : Instance) (v : Variant) (forms : Forms) (start : Scope) (done : Outcome) : Type 0 where
+  pub scope : Scope
+  pub declared : all_declared x.tunings start v.decls ≡ Ok scope
+  pub state : State
+  pub ran : run (begun_state forms) (body_steps v.body frame scope) ≡ Ok state
+  pub is : done ≡ ended scope state
 
 module _ (frame : Frame) (x : Instance) (v : Variant) (forms : Forms) (start : Scope) (done : Outcome) where
   by_run : (scope : Scope) → all_declared x.tunings start v.decls ≡ Ok scope → (r : Value State) → run (begun_state forms) (body_steps v.body frame scope) ≡ r
@@ -244,7 +244,7 @@ module _ (frame : Frame) (x : Instance) (v : Variant) (forms : Forms) (start : S
   opened h = by_decls (all_declared x.tunings start v.decls) refl h
 
 module _ (variants : List Variant) (instances : List Instance) (k : ℕ) (f : Found) (forms : Forms) (x : Instance) (v : Variant) (start : Scope) (done : Outcome) where
-  walk_opened : slice_get instances f.instance ≡ Some x → variant_of variants x.task x.kind ≡ Some v → params_from empty_scope v.params 0 f.extents ≡ Some start
+  pub walk_opened : slice_get instances f.instance ≡ Some x → variant_of variants x.task x.kind ≡ Some v → params_from empty_scope v.params 0 f.extents ≡ Some start
       → walked variants instances k f forms ≡ Ok done → Opened (frame_in variants instances x k f) x v forms start done
   walk_opened there runs binds h =
       let a : walked_by variants instances x k f forms (variant_of variants x.task x.kind) ≡ Ok done = subst (λ (o : Option Instance). walked_in variants instances k f forms o ≡ Ok done) there h in

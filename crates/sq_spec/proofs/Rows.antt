@@ -6,8 +6,8 @@ use Rattle.sq_leaf.specs.Source.{Arrays}
 use Rattle.sq_spec.specs.declared.begun.Reduction.{Reduction}
 use Rattle.sq_spec.specs.Begun.{over}
 use Rattle.sq_spec.specs.Work.{Work, Then, Each, AtOnce, Gathers}
-use Rattle.sq_spec.specs.Meaning.{Outcome, and_then, numbered, any_below, writes, apart, taken, cleared, gathered, meaning}
-use Rattle.sq_spec.specs.InTurn.{gathering, serial}
+use Rattle.sq_spec.specs.Meaning.{Outcome, and_then, numbered, any_below, writes, touches, apart, taken, cleared, gathered, meaning}
+use Rattle.sq_spec.specs.InTurn.{AreApart, none_aside, its_array, IsRaceFree, gathering, serial}
 use Rattle.sq_spec.proofs.Serial.{in_turn_same}
 
 -- the iterations of a map in the k times before
@@ -18,14 +18,16 @@ begun_before (suc k) (n ∷ counts) = n + begun_before k counts
 
 -- ---- works that mean the same
 
--- and do the same where all iterations follow one another
+-- and do the same where all iterations follow one another; where the second has no race, the first has none
 pub record Alike (w v : Work) : Type 0 where
   pub means : meaning w ≡ meaning v
   pub written : writes w ≡ writes v
+  pub touched : touches w ≡ touches v
   pub runs : serial w ≡ serial v
+  pub free : IsRaceFree v → IsRaceFree w
 
 pub alike_itself : (w : Work) → Alike w w
-alike_itself w = record { means = refl; written = refl; runs = refl }
+alike_itself w = record { means = refl; written = refl; touched = refl; runs = refl; free = λ h. h }
 
 pub alike_then : (a b c d : Work) → Alike a b → Alike c d → Alike (Then a c) (Then b d)
 alike_then a b c d first second = record {
@@ -33,10 +35,13 @@ alike_then a b c d first second = record {
       ∙ ap (and_then (meaning b s)) second.means);
   written = fun_ext (λ n. fun_ext (λ cs. ap₂ (λ x y. x || y) (ap (λ (f : ℕ → List ℕ → Bool). f n cs) first.written)
       (ap (λ (f : ℕ → List ℕ → Bool). f n cs) second.written)));
+  touched = fun_ext (λ n. fun_ext (λ cs. ap₂ (λ x y. x || y) (ap (λ (f : ℕ → List ℕ → Bool). f n cs) first.touched)
+      (ap (λ (f : ℕ → List ℕ → Bool). f n cs) second.touched)));
+  free = λ h. (first.free h.0, second.free h.1);
   runs = fun_ext (λ s. ap (λ (o : Outcome). and_then o (serial c)) (ap (λ (f : Arrays → Outcome). f s) first.runs) ∙ ap (and_then (serial b s)) second.runs);
 }
 
-below_same : (count : ℕ) (f g : ℕ → Bool) → ((t : ℕ) → t < count → f t ≡ g t) → any_below count f ≡ any_below count g
+pub below_same : (count : ℕ) (f g : ℕ → Bool) → ((t : ℕ) → t < count → f t ≡ g t) → any_below count f ≡ any_below count g
 below_same zero f g h = refl
 below_same (suc count) f g h = ap₂ (λ x y. x || y) (h count (omega arith)) (below_same count f g (λ t lt. h t (omega (arith, lt))))
 
@@ -54,8 +59,19 @@ module _ (count : ℕ) (w v : ℕ → Work) (alike : (t : ℕ) → t < count →
   some_written : (n : ℕ) (cs : List ℕ) → any_below count (λ t. writes (w t) n cs) ≡ any_below count (λ t. writes (v t) n cs)
   some_written n cs = below_same count (λ t. writes (w t) n cs) (λ t. writes (v t) n cs) (λ t lt. ap (λ (f : ℕ → List ℕ → Bool). f n cs) (alike t lt).written)
 
+  some_touched : (n : ℕ) (cs : List ℕ) → any_below count (λ t. touches (w t) n cs) ≡ any_below count (λ t. touches (v t) n cs)
+  some_touched n cs = below_same count (λ t. touches (w t) n cs) (λ t. touches (v t) n cs) (λ t lt. ap (λ (f : ℕ → List ℕ → Bool). f n cs) (alike t lt).touched)
+
+  still_apart : (aside : ℕ → Bool) → AreApart count v aside → AreApart count w aside
+  still_apart aside h = record {
+    at = λ a b n cs la lb ne out wr to.
+        h.at a b n cs la lb ne out (sym (ap (λ (f : ℕ → List ℕ → Bool). f n cs) (alike a la).written) ∙ wr) (sym (ap (λ (f : ℕ → List ℕ → Bool). f n cs) (alike b lb).touched) ∙ to);
+  }
+
   pub alike_each : Alike (Each count w) (Each count v)
   alike_each = record {
+    touched = fun_ext (λ n. fun_ext (λ cs. some_touched n cs));
+    free = λ h t lt. (alike t lt).free (h t lt);
     means = fun_ext (in_turn_same count (λ t. meaning (w t)) (λ t. meaning (v t)) (λ t lt. (alike t lt).means));
     written = fun_ext (λ n. fun_ext (λ cs. some_written n cs));
     runs = fun_ext (in_turn_same count (λ t. serial (w t)) (λ t. serial (v t)) (λ t lt. (alike t lt).runs));
@@ -63,6 +79,8 @@ module _ (count : ℕ) (w v : ℕ → Work) (alike : (t : ℕ) → t < count →
 
   pub alike_at_once : (place : Place) → Alike (AtOnce place count w) (AtOnce place count v)
   alike_at_once place = record {
+    touched = fun_ext (λ n. fun_ext (λ cs. some_touched n cs));
+    free = λ h. (still_apart none_aside h.0, λ t lt. (alike t lt).free (h.1 t lt));
     means = fun_ext (λ s. apart_same count (λ t. taken (writes (w t))) (λ t. taken (writes (v t))) (λ t. meaning (w t) s) (λ t. meaning (v t) s)
         (λ t lt. ap taken (alike t lt).written) (λ t lt. ap (λ (f : Arrays → Outcome). f s) (alike t lt).means) s);
     written = fun_ext (λ n. fun_ext (λ cs. some_written n cs));
@@ -71,6 +89,9 @@ module _ (count : ℕ) (w v : ℕ → Work) (alike : (t : ℕ) → t < count →
 
   pub alike_gathers : (r : Reduction) (place : Place) → Alike (Gathers r place count w) (Gathers r place count v)
   alike_gathers r place = record {
+    touched = fun_ext (λ n. fun_ext (λ cs. below_same count (λ t. nat_eq n r.array || touches (w t) n cs) (λ t. nat_eq n r.array || touches (v t) n cs)
+        (λ t lt. ap (λ (f : ℕ → List ℕ → Bool). nat_eq n r.array || f n cs) (alike t lt).touched)));
+    free = λ h. (still_apart (its_array r) h.0, λ t lt. (alike t lt).free (h.1 t lt));
     means = fun_ext (λ s. apart_same count (λ t. gathered r (writes (w t))) (λ t. gathered r (writes (v t))) (λ t. meaning (w t) (cleared r s))
         (λ t. meaning (v t) (cleared r s)) (λ t lt. ap (gathered r) (alike t lt).written)
         (λ t lt. ap (λ (f : Arrays → Outcome). f (cleared r s)) (alike t lt).means) s);

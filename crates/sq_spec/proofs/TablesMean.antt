@@ -37,13 +37,13 @@ use Rattle.sq_spec.proofs.Rows.{begun_before, Alike, alike_itself, alike_then, a
 
 -- ---- one map more
 
-abbrev turn : List Range → Lists → Numbers → ℕ → Numbers
+abbrev pub turn : List Range → Lists → Numbers → ℕ → Numbers
 turn ranges lists e t = in_iteration ranges (value_or [] (bounds ranges e lists)) t e
 
-abbrev turns_of : List Range → Lists → Numbers → List Numbers
+abbrev pub turns_of : List Range → Lists → Numbers → List Numbers
 turns_of ranges lists e = singles (count_at ranges lists e) (turn ranges lists e)
 
-moments_deeper : (nest : List (List Range)) (ranges : List Range) (lists : Lists) (numbers : Numbers)
+pub moments_deeper : (nest : List (List Range)) (ranges : List Range) (lists : Lists) (numbers : Numbers)
     → moments (nest ++ ranges ∷ []) lists numbers ≡ flat_map (turns_of ranges lists) (moments nest lists numbers)
 moments_deeper [] ranges lists numbers = sym (append-nil (turns_of ranges lists numbers))
 moments_deeper (r ∷ nest) ranges lists numbers =
@@ -69,7 +69,7 @@ start_is n f [] k e at = cc
 start_is n f (x ∷ times) zero e at = omega arith
 start_is n f (x ∷ times) (suc k) e at = start_is (n + f x) f times k e at ∙ omega arith
 
-first_start : {A : Type 0} (f : A → ℕ) (times : List A) (k : ℕ) (e : A) → slice_get times k ≡ Some e → get_or (starts_from 0 (map f times)) k 0 ≡ begun_before k (map f times)
+pub first_start : {A : Type 0} (f : A → ℕ) (times : List A) (k : ℕ) (e : A) → slice_get times k ≡ Some e → get_or (starts_from 0 (map f times)) k 0 ≡ begun_before k (map f times)
 first_start f times k e at = start_is 0 f times k e at ∙ omega arith
 
 -- ---- the equations of the folds

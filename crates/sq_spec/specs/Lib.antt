@@ -13,6 +13,7 @@ pub mod Needs
 pub mod Reached
 pub mod Insides
 pub mod Served
+pub mod Typed
 pub mod Named
 pub mod Work
 pub mod Meaning
@@ -21,6 +22,11 @@ pub mod InTurn
 pub mod Examples
 pub mod Begun
 pub mod BegunWork
+pub mod Filled
+pub mod TableRows
+pub mod Summing
+pub mod ReachedFacts
+pub mod Ones
 pub mod Bodies
 pub mod Walked
 pub mod Entry

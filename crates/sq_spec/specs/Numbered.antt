@@ -26,3 +26,8 @@ entry_call variants mapping forms = called_entry variants mapping forms (slice_g
 abbrev pub TablesMeanProgram : Type 0
 TablesMeanProgram = (r : Resolved) → IsRaceFree (work_of r.typed.now.tasks r.mapping.now r.found.entries) → (s : Arrays)
     → flat r.typed.now r.mapping.now s ≡ serial (entry_call r.typed.now.tasks r.mapping.now r.found.entries) s
+
+-- And where the program has no race, its forms have none by their tables.
+abbrev pub TablesAreRaceFree : Type 0
+TablesAreRaceFree = (r : Resolved) → IsRaceFree (work_of r.typed.now.tasks r.mapping.now r.found.entries)
+    → IsRaceFree (entry_call r.typed.now.tasks r.mapping.now r.found.entries)

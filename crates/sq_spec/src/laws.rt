@@ -5,7 +5,13 @@ ghost use Rattle.sq_spec.specs.Entry.{EntryIsFirst};
 ghost use Rattle.sq_spec.specs.Insides.{ArgumentsLieInside, AccessesLieInside};
 ghost use Rattle.sq_spec.specs.Named.{DeclaredNamesStand, VariablesStand, StandingNamesServe};
 ghost use Rattle.sq_spec.specs.Needs.{NeedIsOne, NoFormNoNeed, EntryIsAtRoot, FormsRunAtTheirLevel, CallsAreThoseReached};
+ghost use Rattle.sq_spec.specs.Filled.{ServedAreFull, TablesAreFull};
+ghost use Rattle.sq_spec.specs.Summing.{SumsAreWhole};
+ghost use Rattle.sq_spec.specs.TableRows.{RowsAreReached};
+ghost use Rattle.sq_spec.specs.ReachedFacts.{ReachedLieInside, FlagsAreOfText};
+ghost use Rattle.sq_spec.specs.Ones.{ReductionsAreOfOne};
 ghost use Rattle.sq_spec.specs.Served.{CallsAreServed, FormsFit, FormsRun};
+ghost use Rattle.sq_spec.specs.Typed.{ArgumentsHaveTypes, WritesArePermitted};
 ghost use Rattle.sq_spec.specs.Reached.{CallsAreReached, UsesAreInOrder, AsManyForms, FormsAreFound, FormsCallersFirst, FormsRan};
 
 /// The walk stops at the first of its steps that is at fault.
@@ -131,4 +137,41 @@ pub fn needs_are_sound()
     ensures root { EntryIsAtRoot }
     ensures levels { FormsRunAtTheirLevel }
     ensures calls { CallsAreThoseReached }
+{}
+
+/// Under a program without a fault each argument of a reached call has the element type and the mode of its parameter,
+/// and those that are written are of arrays that may be written.
+pub fn arguments_are_typed()
+    ensures types { ArgumentsHaveTypes }
+    ensures writes { WritesArePermitted }
+{}
+
+/// Each call of a form's tables has a row for each time that it is begun.
+pub fn tables_are_filled()
+    ensures served { ServedAreFull }
+    ensures forms { TablesAreFull }
+{}
+
+/// Each row of a form's tables is a call that the walk reached, with its arguments, and the form that it names is the
+/// callee.
+#[tactic(auto, using(crate::proofs::TableRowsHold::rows_are_reached))]
+pub fn rows_are_calls()
+    ensures { RowsAreReached }
+{}
+
+/// The call of a `mapreduce` has the array that is reduced into as one argument, whole and for an `inout` parameter, and
+/// no other argument is what is reduced into.
+pub fn sums_are_of_whole_arrays()
+    ensures { SumsAreWhole }
+{}
+
+/// Each argument of a reached call lies inside its array, and the text says which of them are what is reduced into.
+pub fn reached_calls_fit()
+    ensures inside { ReachedLieInside }
+    ensures flags { FlagsAreOfText }
+{}
+
+/// Each `mapreduce` of a form's tables has one call as its body.
+pub fn reductions_have_one_call()
+    ensures { ReductionsAreOfOne }
 {}

@@ -2,7 +2,7 @@
 
 ghost use Rattle.sq_spec.specs.InTurn.{ChangesWritten, DependsOnTouched, RaceFreeIsSerial};
 ghost use Rattle.sq_spec.specs.BegunWork.{TablesMeanStatements};
-ghost use Rattle.sq_spec.specs.Numbered.{TablesMeanProgram};
+ghost use Rattle.sq_spec.specs.Numbered.{TablesMeanProgram, TablesAreRaceFree};
 ghost use Rattle.sq_spec.specs.Examples.{MovesDiffer, SumsCombine, TrapsHavePaths};
 
 /// A work changes only what it writes.
@@ -45,4 +45,10 @@ pub fn tables_mean_the_statements()
 #[tactic(auto, using(crate::proofs::NumberedForms::tables_mean_program))]
 pub fn tables_mean_the_program()
     ensures { TablesMeanProgram }
+{}
+
+/// Where a program has no race, its forms have none by their tables.
+#[tactic(auto, using(crate::proofs::NumberedForms::tables_are_race_free))]
+pub fn tables_are_free_of_races()
+    ensures { TablesAreRaceFree }
 {}
