@@ -8,35 +8,35 @@ use Rattle.sq_ast.specs.declared.program.Variant.{Variant}
 use Rattle.sq_mapfile.specs.declared.mapping.Instance.{Instance}
 use Rattle.sq_mapfile.specs.declared.mapping.Mapping.{Mapping}
 use Rattle.sq_leaf.specs.Source.{Arrays}
-use Rattle.sq_spec.specs.declared.form.Found.{Found}
-use Rattle.sq_spec.specs.Faults.{Value}
-use Rattle.sq_spec.specs.Steps.{Forms, Key, Called, key_number}
-use Rattle.sq_spec.specs.Tables.{variant_of}
-use Rattle.sq_spec.specs.Stmts.{stmts_steps}
-use Rattle.sq_spec.specs.Decls.{Scope, empty_scope, params_from, all_declared}
-use Rattle.sq_spec.specs.Resolving.{Resolving, resolved, frame_in, start, entry_params}
-use Rattle.sq_spec.specs.Reached.{calls_in, form_number, or_zero, CalleeIs, Ran, steps_of}
-use Rattle.sq_spec.specs.Begun.{number_or, elems_of}
+use Rattle.sq_forms.specs.declared.form.Found.{Found}
+use Rattle.sq_forms.specs.Faults.{Value}
+use Rattle.sq_forms.specs.Steps.{Forms, Key, Called, key_number}
+use Rattle.sq_forms.specs.Tables.{variant_of}
+use Rattle.sq_forms.specs.Stmts.{stmts_steps}
+use Rattle.sq_forms.specs.Decls.{Scope, empty_scope, params_from, all_declared}
+use Rattle.sq_forms.specs.Resolving.{Resolving, resolution, frame_in, start, entry_params}
+use Rattle.sq_form_laws.specs.Reached.{calls_in, form_number, or_zero, CalleeIs, Ran, steps_of}
+use Rattle.sq_spec.specs.Statements.{number_or, elems_of}
 use Rattle.sq_spec.specs.declared.body.FormBody.{FormBody}
 use Rattle.sq_spec.specs.Bodies.{no_body, declared_body, scope_body, variant_body, instance_body, found_body, body_of, running, body_work, numbered_work}
-use Rattle.sq_spec.specs.Meaning.{Outcome, and_then, entered, returned, meaning}
-use Rattle.sq_spec.specs.InTurn.{IsRaceFree, serial}
+use Rattle.sq_work.specs.Meaning.{Outcome, and_then, at_entry, at_return, meaning}
+use Rattle.sq_work.specs.InTurn.{IsRaceFree, serial}
 use Rattle.sq_spec.specs.Works as works
 use Rattle.sq_spec.specs.Works.{shapes_of, stmts_work, form_work, declared_work, scope_work, variant_work, instance_work, entry_work, entry_arguments, work_of, found_in, flat}
 use Rattle.sq_spec.specs.declared.resolved.Resolved.{Resolved}
-use Rattle.sq_spec.specs.contracts.form.Found as row
+use Rattle.sq_forms.specs.contracts.form.Found as row
 use Rattle.sq_spec.specs.Walked.{IsWalked}
 use Rattle.sq_spec.specs.Numbered.{called_entry, entry_call, TablesMeanProgram, TablesAreRaceFree}
-use Rattle.sq_spec.proofs.RanHold.{forms_ran}
+use Rattle.sq_form_laws.proofs.RanHold.{forms_ran}
 use Rattle.sq_spec.proofs.TablesMean.{list_agrees}
-use Rattle.sq_spec.proofs.Serial.{race_free_is_serial}
+use Rattle.sq_work.proofs.Serial.{race_free_is_serial}
 use Rattle.sq_spec.proofs.Numbered.{RunAlike, run_itself, between, Suits, suit_each, list_serves}
 
 same_number : (o : Option ℕ) → number_or o ≡ or_zero o
 same_number None = refl
 same_number (Some n) = refl
 
-module _ (variants : List Variant) (mapping : Mapping) (r : Resolving) (through : resolved variants mapping ≡ Ok r) where
+module _ (variants : List Variant) (mapping : Mapping) (r : Resolving) (through : resolution variants mapping ≡ Ok r) where
   abbrev bodies : ℕ → FormBody
   bodies = body_of variants mapping.instances r.found
 
@@ -69,17 +69,17 @@ module _ (variants : List Variant) (mapping : Mapping) (r : Resolving) (through 
         let callees : (i : ℕ) (c : Called) → slice_get (calls_in (stmts_steps list frame scope.names start scope.numbers [])) i ≡ Some c
         → CalleeIs r.found c (form_number r.found c.key) =
         λ i c at. ran.callees i c (subst (λ (z : Scope). slice_get (calls_in (steps_of variants mapping.instances x v k e.1 z)) i ≡ Some c) (sym same)
-        (subst (λ (t : Text). slice_get (calls_in (Rattle.sq_spec.specs.Resolving.body_steps t frame scope)) i ≡ Some c) (sym b) at)) in
+        (subst (λ (t : Text). slice_get (calls_in (Rattle.sq_forms.specs.Resolving.body_steps t frame scope)) i ≡ Some c) (sym b) at)) in
         let served = list_serves r.found (form_work variants mapping.instances r.found n) (numbered_work bodies n) (elems_of v scope) frame f.maps f.depth list
         scope.names scope.numbers
         (suit_each r.found (form_work variants mapping.instances r.found n) (numbered_work bodies n) (stmts_steps list frame scope.names start scope.numbers [])
         (λ i c at. callee_suits n agree c (callees i c at))) in
-        let tabled = list_agrees r.found frame scope.names (elems_of v scope) scope.numbers (numbered_work bodies n) list in
+        let table_of = list_agrees r.found frame scope.names (elems_of v scope) scope.numbers (numbered_work bodies n) list in
         record {
-          at = λ s. served.at s ∙ sym (ap (λ (run : Arrays → Outcome). run s) tabled.runs);
-          written = λ i cs. served.written i cs ∙ sym (ap (λ (f : ℕ → List ℕ → Bool). f i cs) tabled.written);
-          touched = λ i cs. served.touched i cs ∙ sym (ap (λ (f : ℕ → List ℕ → Bool). f i cs) tabled.touched);
-          free = λ h. tabled.free (served.free h);
+          at = λ s. served.at s ∙ sym (ap (λ (run : Arrays → Outcome). run s) table_of.runs);
+          written = λ i cs. served.written i cs ∙ sym (ap (λ (f : ℕ → List ℕ → Bool). f i cs) table_of.written);
+          touched = λ i cs. served.touched i cs ∙ sym (ap (λ (f : ℕ → List ℕ → Bool). f i cs) table_of.touched);
+          free = λ h. table_of.free (served.free h);
         }
 
     at_declared : (x : Instance) (v : Variant) (begun : Scope) → slice_get mapping.instances e.1.instance ≡ Some x → variant_of variants x.task x.kind ≡ Some v
@@ -119,14 +119,14 @@ module _ (variants : List Variant) (mapping : Mapping) (r : Resolving) (through 
       (at_instance n (forms_agree n) k e there f (slice_get mapping.instances e.1.instance) refl)
 
 -- the entry
-module _ (variants : List Variant) (mapping : Mapping) (r : Resolving) (through : resolved variants mapping ≡ Ok r) where
+module _ (variants : List Variant) (mapping : Mapping) (r : Resolving) (through : resolution variants mapping ≡ Ok r) where
   entry_agrees : (o : Option (Key × Found)) → slice_get r.found 0 ≡ o → RunAlike (entry_work variants mapping r.found o) (called_entry variants mapping r.found o)
   entry_agrees None o = run_itself _
   entry_agrees (Some e) o =
       let args = entry_arguments (entry_params variants (slice_get mapping.instances mapping.entry)) 0 e.1.extents in
       record {
-        at = λ s. ap (λ (x : Outcome). and_then x (λ inner. Ok (returned 0 args inner s)))
-            ((forms_agree variants mapping r through (length r.found) 0 e o e.1 refl refl).at (entered args s));
+        at = λ s. ap (λ (x : Outcome). and_then x (λ inner. Ok (at_return 0 args inner s)))
+            ((forms_agree variants mapping r through (length r.found) 0 e o e.1 refl refl).at (at_entry args s));
         written = λ n cs. refl;
         touched = λ n cs. refl;
         free = (forms_agree variants mapping r through (length r.found) 0 e o e.1 refl refl).free;
@@ -141,7 +141,7 @@ module _ (variants : List Variant) (mapping : Mapping) (r : Resolving) (through 
 
 -- of a program that was resolved
 module _ (r : Resolved) where
-  through_it : (w : IsWalked r.typed.now r.machine.now.levels r.mapping.now r.found.entries r.forms r.uses) → resolved r.typed.now.tasks r.mapping.now
+  through_it : (w : IsWalked r.typed.now r.machine.now.levels r.mapping.now r.found.entries r.forms r.uses) → resolution r.typed.now.tasks r.mapping.now
       ≡ Ok (record { found = r.found.entries; forms = r.forms; uses = r.uses })
   through_it w = w.through
 
@@ -149,7 +149,7 @@ module _ (r : Resolved) where
   Means found = IsRaceFree (work_of r.typed.now.tasks r.mapping.now found) → (s : Arrays)
       → flat r.typed.now r.mapping.now s ≡ serial (entry_call r.typed.now.tasks r.mapping.now found) s
 
-  found_by : (o : Value Resolving) → resolved r.typed.now.tasks r.mapping.now ≡ o → Means r.found.entries
+  found_by : (o : Value Resolving) → resolution r.typed.now.tasks r.mapping.now ≡ o → Means r.found.entries
   found_by (Err f) e = absurd (∥∥₁_elim r.walked (λ x y. absurd x) (λ w. let z : Err f ≡ Ok (record { found = r.found.entries; forms = r.forms; uses = r.uses }) =
       sym e ∙ through_it w in cc z))
   found_by (Ok its) e =
@@ -161,7 +161,7 @@ module _ (r : Resolved) where
   abbrev Free : Forms → Type 0
   Free found = IsRaceFree (work_of r.typed.now.tasks r.mapping.now found) → IsRaceFree (entry_call r.typed.now.tasks r.mapping.now found)
 
-  free_by : (o : Value Resolving) → resolved r.typed.now.tasks r.mapping.now ≡ o → Free r.found.entries
+  free_by : (o : Value Resolving) → resolution r.typed.now.tasks r.mapping.now ≡ o → Free r.found.entries
   free_by (Err f) e = absurd (∥∥₁_elim r.walked (λ x y. absurd x) (λ w. let z : Err f ≡ Ok (record { found = r.found.entries; forms = r.forms; uses = r.uses }) =
       sym e ∙ through_it w in cc z))
   free_by (Ok its) e =
@@ -170,7 +170,7 @@ module _ (r : Resolved) where
       subst Free same (tables_free r.typed.now.tasks r.mapping.now its e)
 
 pub tables_are_race_free : TablesAreRaceFree
-tables_are_race_free r = free_by r (resolved r.typed.now.tasks r.mapping.now) refl
+tables_are_race_free r = free_by r (resolution r.typed.now.tasks r.mapping.now) refl
 
 pub tables_mean_program : TablesMeanProgram
-tables_mean_program r = found_by r (resolved r.typed.now.tasks r.mapping.now) refl
+tables_mean_program r = found_by r (resolution r.typed.now.tasks r.mapping.now) refl

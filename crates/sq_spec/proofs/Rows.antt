@@ -3,12 +3,12 @@ use Rattle.std.proofs.Common.{◌≡◌, ℕ, zero, suc, ◌+◌, ◌<◌, nat_e
 use mathlib.Core.Path.{fun_ext}
 use Rattle.sq_text.specs.declared.place.Place.{Place}
 use Rattle.sq_leaf.specs.Source.{Arrays}
-use Rattle.sq_spec.specs.declared.begun.Reduction.{Reduction}
-use Rattle.sq_spec.specs.Begun.{over}
-use Rattle.sq_spec.specs.Work.{Work, Then, Each, AtOnce, Gathers}
-use Rattle.sq_spec.specs.Meaning.{Outcome, and_then, numbered, any_below, writes, touches, apart, taken, cleared, gathered, meaning}
-use Rattle.sq_spec.specs.InTurn.{AreApart, none_aside, its_array, IsRaceFree, gathering, serial}
-use Rattle.sq_spec.proofs.Serial.{in_turn_same}
+use Rattle.sq_work.specs.declared.reduction.Reduction.{Reduction}
+use Rattle.sq_spec.specs.Statements.{over}
+use Rattle.sq_work.specs.Work.{Work, Then, Each, AtOnce, Gathers}
+use Rattle.sq_work.specs.Meaning.{Outcome, and_then, with_turn, any_below, writes, touches, apart, with_writes, with_identity, with_reduced, meaning}
+use Rattle.sq_work.specs.InTurn.{AreApart, none_aside, its_array, IsRaceFree, gathering, serial}
+use Rattle.sq_work.proofs.Serial.{in_turn_same}
 
 -- the iterations of a map in the k times before
 abbrev pub begun_before : ℕ → List ℕ → ℕ
@@ -49,10 +49,10 @@ apart_same : (count : ℕ) (join link : ℕ → Arrays → Arrays → Arrays) (f
     → ((t : ℕ) → t < count → f t ≡ g t) → (s : Arrays) → apart count join f s ≡ apart count link g s
 apart_same zero join link f g j h s = refl
 apart_same (suc count) join link f g j h s =
-    ap (λ (o : Outcome). and_then o (λ below. and_then (numbered count (f count)) (λ own. Ok (join count own below))))
+    ap (λ (o : Outcome). and_then o (λ below. and_then (with_turn count (f count)) (λ own. Ok (join count own below))))
     (apart_same count join link f g (λ t lt. j t (omega (arith, lt))) (λ t lt. h t (omega (arith, lt))) s)
-    ∙ (ap (λ (o : Outcome). and_then (apart count link g s) (λ below. and_then (numbered count o) (λ own. Ok (join count own below)))) (h count (omega arith))
-    ∙ ap (λ (l : Arrays → Arrays → Arrays). and_then (apart count link g s) (λ below. and_then (numbered count (g count)) (λ own. Ok (l own below))))
+    ∙ (ap (λ (o : Outcome). and_then (apart count link g s) (λ below. and_then (with_turn count o) (λ own. Ok (join count own below)))) (h count (omega arith))
+    ∙ ap (λ (l : Arrays → Arrays → Arrays). and_then (apart count link g s) (λ below. and_then (with_turn count (g count)) (λ own. Ok (l own below))))
     (j count (omega arith)))
 
 module _ (count : ℕ) (w v : ℕ → Work) (alike : (t : ℕ) → t < count → Alike (w t) (v t)) where
@@ -81,8 +81,8 @@ module _ (count : ℕ) (w v : ℕ → Work) (alike : (t : ℕ) → t < count →
   alike_at_once place = record {
     touched = fun_ext (λ n. fun_ext (λ cs. some_touched n cs));
     free = λ h. (still_apart none_aside h.0, λ t lt. (alike t lt).free (h.1 t lt));
-    means = fun_ext (λ s. apart_same count (λ t. taken (writes (w t))) (λ t. taken (writes (v t))) (λ t. meaning (w t) s) (λ t. meaning (v t) s)
-        (λ t lt. ap taken (alike t lt).written) (λ t lt. ap (λ (f : Arrays → Outcome). f s) (alike t lt).means) s);
+    means = fun_ext (λ s. apart_same count (λ t. with_writes (writes (w t))) (λ t. with_writes (writes (v t))) (λ t. meaning (w t) s) (λ t. meaning (v t) s)
+        (λ t lt. ap with_writes (alike t lt).written) (λ t lt. ap (λ (f : Arrays → Outcome). f s) (alike t lt).means) s);
     written = fun_ext (λ n. fun_ext (λ cs. some_written n cs));
     runs = fun_ext (in_turn_same count (λ t. serial (w t)) (λ t. serial (v t)) (λ t lt. (alike t lt).runs));
   }
@@ -92,9 +92,9 @@ module _ (count : ℕ) (w v : ℕ → Work) (alike : (t : ℕ) → t < count →
     touched = fun_ext (λ n. fun_ext (λ cs. below_same count (λ t. nat_eq n r.array || touches (w t) n cs) (λ t. nat_eq n r.array || touches (v t) n cs)
         (λ t lt. ap (λ (f : ℕ → List ℕ → Bool). nat_eq n r.array || f n cs) (alike t lt).touched)));
     free = λ h. (still_apart (its_array r) h.0, λ t lt. (alike t lt).free (h.1 t lt));
-    means = fun_ext (λ s. apart_same count (λ t. gathered r (writes (w t))) (λ t. gathered r (writes (v t))) (λ t. meaning (w t) (cleared r s))
-        (λ t. meaning (v t) (cleared r s)) (λ t lt. ap (gathered r) (alike t lt).written)
-        (λ t lt. ap (λ (f : Arrays → Outcome). f (cleared r s)) (alike t lt).means) s);
+    means = fun_ext (λ s. apart_same count (λ t. with_reduced r (writes (w t))) (λ t. with_reduced r (writes (v t))) (λ t. meaning (w t) (with_identity r s))
+        (λ t. meaning (v t) (with_identity r s)) (λ t lt. ap (with_reduced r) (alike t lt).written)
+        (λ t lt. ap (λ (f : Arrays → Outcome). f (with_identity r s)) (alike t lt).means) s);
     written = fun_ext (λ n. fun_ext (λ cs. below_same count (λ t. nat_eq n r.array || writes (w t) n cs) (λ t. nat_eq n r.array || writes (v t) n cs)
         (λ t lt. ap (λ (f : ℕ → List ℕ → Bool). nat_eq n r.array || f n cs) (alike t lt).written)));
     runs = fun_ext (in_turn_same count (λ t. gathering r (serial (w t))) (λ t. gathering r (serial (v t))) (λ t lt. ap (gathering r) (alike t lt).runs));
