@@ -101,7 +101,7 @@ is_reduced (Some name) a = same_name name (out-ArgUse a).name
 abbrev pub argument : Names → Numbers → Option Bytes → Option Param → ArgUse → Value Argument
 argument names numbers reduced param a =
     and_then (block names numbers a)
-        (λ b. Ok (record { mode = mode_of param; is_reduced = is_reduced reduced a; array = b.array; rect = b.rect }))
+    (λ b. Ok (record { mode = mode_of param; is_reduced = is_reduced reduced a; array = b.array; rect = b.rect }))
 
 -- those that are not at fault
 abbrev pub with_value : {A : Type 0} → Value A → List A → List A
@@ -124,4 +124,4 @@ abbrev pub args_steps : Option Place → Names → Numbers → Option Bytes → 
 args_steps outer names numbers reduced params i [] later = later
 args_steps outer names numbers reduced params i (a ∷ rest) later =
     use_step outer (Tests (fault_in (argument names numbers reduced (slice_get params i) a))
-        ∷ args_steps outer names numbers reduced params (i + 1) rest later)
+    ∷ args_steps outer names numbers reduced params (i + 1) rest later)

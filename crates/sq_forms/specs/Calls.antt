@@ -138,8 +138,16 @@ form_of frame callee site xs = record {
 abbrev pub uses_from : CallSite → ℕ → ℕ → List Argument → List Use
 uses_from site callee i [] = []
 uses_from site callee i (x ∷ xs) =
-    record { call = site.call; arg = i; iterations = site.iterations; array = x.array; rect = x.rect; mode =
-        x.mode; callee = callee } ∷ uses_from site callee (i + 1) xs
+    record {
+      call = site.call;
+      arg = i;
+      iterations = site.iterations;
+      array = x.array;
+      rect = x.rect;
+      mode =
+          x.mode;
+      callee = callee;
+    } ∷ uses_from site callee (i + 1) xs
 
 -- ---- the call
 

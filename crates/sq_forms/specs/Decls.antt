@@ -87,8 +87,12 @@ local_at s place elem name (Some dims) = Ok (record {
 abbrev pub with_blocks : Scope → Place → Bytes → ℕ → Chop → Value Scope
 with_blocks s place name array chop =
     if is_err (judged chop) then Err (fault_named code.BadChop place name) else Ok (record {
-      names = record { lists = s.names.lists; arrays = s.names.arrays; blocks =
-          with_first s.names.blocks name (record { array = array; chop = chop }) };
+      names = record {
+        lists = s.names.lists;
+        arrays = s.names.arrays;
+        blocks =
+            with_first s.names.blocks name (record { array = array; chop = chop });
+      };
       numbers = s.numbers;
       arrays = s.arrays;
       locals = s.locals;
@@ -105,11 +109,20 @@ array_of s name = lookup (same_name name) s.names.arrays
 
 abbrev pub after_decl : List Tuning → Scope → Decl → Value Scope
 after_decl tunings s (decl.Tunable place name) =
-    Ok (record { names = s.names; numbers = with_number s.numbers name (number_in (setting_of tunings name)); arrays =
-    s.arrays; locals = s.locals })
+    Ok (record {
+      names = s.names;
+      numbers = with_number s.numbers name (number_in (setting_of tunings name));
+      arrays =
+          s.arrays;
+      locals = s.locals;
+    })
 after_decl tunings s (decl.List place name) = Ok (record {
-  names = record { lists = with_list s.names.lists name (list_in (setting_of tunings name)); arrays =
-      s.names.arrays; blocks = s.names.blocks };
+  names = record {
+    lists = with_list s.names.lists name (list_in (setting_of tunings name));
+    arrays =
+        s.names.arrays;
+    blocks = s.names.blocks;
+  };
   numbers = s.numbers;
   arrays = s.arrays;
   locals = s.locals;
@@ -121,7 +134,7 @@ after_decl tunings s (decl.Rchop place name array sizes) =
     (λ ns. with_chop s place name (λ extents. Regular extents ns) (array_of s array.name))
 after_decl tunings s (decl.Ichop place name array starts ends) =
     with_chop s place name (λ extents. Irregular extents (list_of s.names.lists starts.name)
-        (list_of s.names.lists ends.name)) (array_of s array.name)
+    (list_of s.names.lists ends.name)) (array_of s array.name)
 
 -- in text order
 abbrev pub all_declared : List Tuning → Scope → List Decl → Value Scope

@@ -31,8 +31,16 @@ use Rattle.sq_forms.specs.Decls.{Scope, empty_scope, params_from, all_declared, 
 
 abbrev pub frame_in : List Variant → List Instance → Instance → ℕ → Found → Frame
 frame_in variants instances x k f =
-    record { variants = variants; instances = instances; routes = x.routes; form = k; level = x.level; maps =
-    f.maps; depth = f.depth }
+    record {
+      variants = variants;
+      instances = instances;
+      routes = x.routes;
+      form = k;
+      level = x.level;
+      maps =
+          f.maps;
+      depth = f.depth;
+    }
 
 abbrev pub start : CallSite
 start = record { call = 0; outer = None; reduced = None; iterations = [] }
@@ -55,8 +63,8 @@ outcome_of scope s = record { forms = s.forms; locals = scope.locals; uses = s.u
 abbrev pub walked_at : Frame → Instance → Variant → Forms → Scope → Value Outcome
 walked_at frame x v forms scope =
     and_then (all_declared x.tunings scope v.decls)
-        (λ s. and_then (run (record { left = 0; forms = forms; uses = [] }) (body_steps v.body frame s))
-        (λ t. Ok (outcome_of s t)))
+    (λ s. and_then (run (record { left = 0; forms = forms; uses = [] }) (body_steps v.body frame s))
+    (λ t. Ok (outcome_of s t)))
 
 abbrev pub no_walk : Forms → Outcome
 no_walk forms = record { forms = forms; locals = []; uses = [] }
@@ -90,8 +98,15 @@ pub record Resolving : Type 0 where
   pub uses : List (List Use)
 
 abbrev pub with_locals : Found → List LocalArray → Form
-with_locals f locals = record { instance = f.instance; level = f.level; extents = f.extents; in_place =
-    f.in_place; caller = f.caller; locals = locals }
+with_locals f locals = record {
+  instance = f.instance;
+  level = f.level;
+  extents = f.extents;
+  in_place =
+      f.in_place;
+  caller = f.caller;
+  locals = locals;
+}
 
 abbrev pub more : Resolving → Found → Outcome → Resolving
 more r f o = record { found = o.forms; forms = r.forms ++ with_locals f o.locals ∷ []; uses = r.uses ++ o.uses ∷ [] }
@@ -141,8 +156,16 @@ abbrev pub none_in_place : List (List ℕ) → List Bool
 none_in_place extents = map (λ e. false) extents
 
 abbrev pub entry_form : ℕ → List (List ℕ) → Found
-entry_form instance extents = record { instance = instance; level = 0; extents = extents; in_place =
-    none_in_place extents; caller = None; maps = 0; depth = 1 }
+entry_form instance extents = record {
+  instance = instance;
+  level = 0;
+  extents = extents;
+  in_place =
+      none_in_place extents;
+  caller = None;
+  maps = 0;
+  depth = 1;
+}
 
 -- the key of the entry is that of no call
 abbrev pub with_entry : ℕ → List (List ℕ) → Resolving
@@ -151,7 +174,7 @@ with_entry instance extents = record { found = ([], entry_form instance extents)
 abbrev pub resolved_with : List Variant → Mapping → List Param → Value Resolving
 resolved_with variants mapping params =
     and_then (entry_extents mapping.sizes params)
-        (λ extents. walk_from variants mapping.instances most_forms 0 (with_entry mapping.entry extents))
+    (λ extents. walk_from variants mapping.instances most_forms 0 (with_entry mapping.entry extents))
 
 abbrev pub params_of : Option Variant → List Param
 params_of None = []

@@ -70,8 +70,12 @@ forms_after forms key form (Some n) = with_form forms key form
 
 abbrev pub after_entry : State → Called → Option ℕ → Value State
 after_entry s c None = Err c.too_many
-after_entry s c (Some n) = Ok (record { left = s.left; forms = with_form s.forms c.key c.form; uses =
-    s.uses ++ c.uses n })
+after_entry s c (Some n) = Ok (record {
+  left = s.left;
+  forms = with_form s.forms c.key c.form;
+  uses =
+      s.uses ++ c.uses n;
+})
 
 abbrev pub after_count : State → Place → ℕ → Value State
 after_count s place zero = Err (fault_at code.LimitAccess place)

@@ -53,8 +53,11 @@ pub record Turned : Type 0 where
 -- a variable takes the remainder by its count, and the quotient goes to the range before it
 abbrev pub bind_variable : Bytes → ℕ → Turned → Turned
 bind_variable name zero t = t
-bind_variable name (suc n) t = record { numbers = with_number t.numbers name (pos (t.left % suc n)); left =
-    t.left / suc n }
+bind_variable name (suc n) t = record {
+  numbers = with_number t.numbers name (pos (t.left % suc n));
+  left =
+      t.left / suc n;
+}
 
 -- the ranges from the i-th on in an iteration: the last varies fastest
 abbrev pub turned_from : List Range → ℕ → List ℤ → ℕ → Numbers → Turned
@@ -101,8 +104,13 @@ abbrev pub tally_of : List Portion → Tally
 tally_of parts = record { calls = calls_of parts; maps = 1 + inside_of parts }
 
 abbrev pub after_calls : CallSite → ℕ → CallSite
-after_calls site n = record { call = site.call + n; outer = site.outer; reduced = site.reduced; iterations =
-    site.iterations }
+after_calls site n = record {
+  call = site.call + n;
+  outer = site.outer;
+  reduced = site.reduced;
+  iterations =
+      site.iterations;
+}
 
 -- one after another; calls are numbered in text order
 abbrev pub all_of : List Portion → Walked
@@ -125,8 +133,13 @@ opens None later = Opens ∷ later
 opens (Some outer) later = later
 
 abbrev pub within : CallSite → Place → MapKind → ℕ → CallSite
-within site place kind t = record { call = site.call; outer = Some (outermost site.outer place); reduced =
-    reduced_by kind; iterations = site.iterations ++ t ∷ [] }
+within site place kind t = record {
+  call = site.call;
+  outer = Some (outermost site.outer place);
+  reduced =
+      reduced_by kind;
+  iterations = site.iterations ++ t ∷ [];
+}
 
 -- an iteration is counted when it begins
 abbrev pub iteration_steps : Place → (ℕ → CallSite) → List Range → Walked → List ℤ → Frame → Names → Numbers → ℕ → Part
@@ -138,16 +151,21 @@ abbrev pub iterations_steps : Place → (ℕ → CallSite) → List Range → Wa
     → Part
 iterations_steps outer inside ranges body ns frame names numbers later =
     Tests (fault_in ns) ∷ each 0 (times_of ns)
-        (iteration_steps outer inside ranges body (value_or [] ns) frame names numbers) later
+    (iteration_steps outer inside ranges body (value_or [] ns) frame names numbers) later
 
 abbrev pub map_steps : Place → MapKind → List Range → Walked → Walked
 map_steps place kind ranges body frame names site numbers later =
     opens site.outer (iterations_steps (outermost site.outer place) (within site place kind) ranges body
-        (bounds ranges numbers names.lists) frame names numbers later)
+    (bounds ranges numbers names.lists) frame names numbers later)
 
 abbrev pub stmt_step : Stmt-F Portion → Portion
-stmt_step (Stmt-F.Call c) = record { calls = 1; inside = 0; maps = []; steps =
-    λ frame names site numbers. call_steps frame names site numbers c }
+stmt_step (Stmt-F.Call c) = record {
+  calls = 1;
+  inside = 0;
+  maps = [];
+  steps =
+      λ frame names site numbers. call_steps frame names site numbers c;
+}
 stmt_step (Stmt-F.Map place kind ranges parts) = record {
   calls = calls_of parts;
   inside = 1 + inside_of parts;
@@ -193,8 +211,13 @@ pub record Begins {A : Type 0} (front whole : List A) : Type 0 where
 
 -- where statements stand, in these iterations
 abbrev pub site_at : At → List ℕ → CallSite
-site_at a iterations = record { call = a.call; outer = a.outer; reduced = option_copied a.reduced; iterations =
-    iterations }
+site_at a iterations = record {
+  call = a.call;
+  outer = a.outer;
+  reduced = option_copied a.reduced;
+  iterations =
+      iterations;
+}
 
 -- a path, without its last iteration where it has one
 abbrev pub Ended : List ℕ → List ℕ → Type 0

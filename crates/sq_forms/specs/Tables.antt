@@ -31,7 +31,7 @@ abbrev pub first_of_kind : VariantKind → ℕ → List Variant → Bytes → Op
 first_of_kind kind i [] task = None
 first_of_kind kind i (v ∷ rest) task =
     if same_kind v.kind kind then (if same_name task v.task then Some i else first_of_kind kind (suc i) rest task) else
-        first_of_kind kind (suc i) rest task
+    first_of_kind kind (suc i) rest task
 
 abbrev pub variant_of : List Variant → Bytes → VariantKind → Option Variant
 variant_of variants task kind = at_index variants (first_of_kind kind 0 variants task)

@@ -20,8 +20,16 @@ pub record Frame : Type 0 where
   pub depth : ℕ
 
 abbrev pub frame_of : CodeFrame → Frame
-frame_of f = record { variants = f.variants.now.list.now; instances = f.instances.now; routes =
-    f.routes.now.list.now; form = f.form; level = f.level; maps = f.maps; depth = f.depth }
+frame_of f = record {
+  variants = f.variants.now.list.now;
+  instances = f.instances.now;
+  routes =
+      f.routes.now.list.now;
+  form = f.form;
+  level = f.level;
+  maps = f.maps;
+  depth = f.depth;
+}
 
 pub record Callee : Type 0 where
   pub instance : ℕ

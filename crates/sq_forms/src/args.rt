@@ -6,7 +6,7 @@ ghost use Rattle.sq_forms.specs.Faults.{Gives};
 ghost use Rattle.sq_forms.specs.Steps as steps;
 ghost use Rattle.sq_forms.specs.Args as spec;
 
-use crate::faults::{refusal_of_constant, refusal_named};
+use crate::faults::{refusal_named, refusal_of_constant};
 use crate::known::Known;
 use crate::walk::Walk;
 use sq_ast::{ArgUse, Expr, Mode, Param};

@@ -29,8 +29,12 @@ impl Walk {
     #[tactic(auto, unfolding(crate::specs::Steps::most_uses))]
     pub fn open(&mut self)
         ensures { spec.state_of self.new
-            ≡ record { left = spec.most_uses; forms = (spec.state_of self.old).forms; uses =
-            (spec.state_of self.old).uses } }
+            ≡ record {
+              left = spec.most_uses;
+              forms = (spec.state_of self.old).forms;
+              uses =
+                  (spec.state_of self.old).uses;
+            } }
     {
         self.left = MOST_USES;
     }
