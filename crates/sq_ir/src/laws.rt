@@ -1,15 +1,14 @@
 //! What holds of the runs of a plan under every order of picks, and which small plans are good.
 
-ghost use Rattle.std.specs.Prelude.{◌≡◌, ℕ};
-ghost use Rattle.sq_ir.specs.declared.num.Num.{Num};
 ghost use Rattle.sq_ir.specs.Tree.{Tree, IsNormal};
 ghost use Rattle.sq_ir.specs.Unordered.{IsFresh};
 ghost use Rattle.sq_ir.specs.Closed.{AreReached};
 ghost use Rattle.sq_ir.specs.Ready.{AreNumbered};
 ghost use Rattle.sq_ir.specs.Events.{Leaves};
-ghost use Rattle.sq_ir.specs.Lifting.{lift};
-ghost use Rattle.sq_ir.specs.LeafRuns.{RunsAreEvents, CallsCanBeRun};
-ghost use Rattle.sq_ir.specs.Written.{Setting, Env, at_turn, value_of};
+ghost use Rattle.sq_ir.specs.LeafRuns.{RunsAreEvents, RunsKeepOthers, CallsCanBeRun};
+ghost use Rattle.sq_ir.specs.NumberLaws.{LiftedHaveValues, DependOnLoops, KeepInScopes, IgnoreOffsets};
+ghost use Rattle.sq_ir.specs.RunSteps.{FinishOne, TrapOne, WaitLess, GrowAtTheEnd, PerformAll};
+ghost use Rattle.sq_ir.specs.StateLaws.{HoldsWhereOpen, HaveRoomWhereOpen, UnorderedByForm, IndependentByForm};
 ghost use Rattle.sq_ir.specs.Plans.{IsGood};
 ghost use Rattle.sq_ir.specs.Examples.{doubling, CallsALeaf, OnlyClashes, OnlyTooLong, OnlyOverlaps, OnlyDivides};
 ghost use Rattle.sq_ir.specs.Orders.{EndsByForm, EndsAsFirst, EachOnce, HasFirst, HoldsInRuns, ApartCommute};
@@ -74,14 +73,49 @@ pub fn each_part_of_good_is_asked<Cause>()
     ensures value { OnlyDivides Cause }
 {}
 
-/// A number that is lifted by one loop has under that loop the value that it had outside.
+/// A number that is lifted by one loop has under that loop the value that it had outside; it has one, and is a count,
+/// where it had one and was a count.
 pub fn lifted_numbers_keep_their_values()
-    ensures { (s : Setting) (number : Num) (t : ℕ) (env : Env) → value_of s (lift 1 number) (at_turn env t) ≡ value_of s number env }
+    ensures { LiftedHaveValues }
+{}
+
+/// A number has one value wherever the same loops stand round it. Where it names the children of the node in force, this
+/// node has to have as many; a number that doesn't keeps its value in the body of a scope. Offsets of buffers change no
+/// number.
+pub fn numbers_depend_on_loops()
+    ensures loops { DependOnLoops }
+    ensures scopes { KeepInScopes }
+    ensures offsets { IgnoreOffsets }
 {}
 
 /// A leaf call of a well formed plan names a leaf of its draft, whose code can run over the node's bytes; and what that
-/// run does to them is what the event does.
+/// run does to them is what the event does. Whether it traps or not, it changes no byte outside the views that it writes.
 pub fn runs_of_leaves_are_their_events()
     ensures can { CallsCanBeRun }
     ensures alike { RunsAreEvents }
+    ensures others { RunsKeepOthers }
+{}
+
+/// A ready event that is finished is left out of the plan, and nothing else; one that has trapped stays stuck, and all
+/// else stays as it was.
+pub fn an_event_ends_alone<Event, Scope>()
+    ensures finishes { FinishOne Event Scope }
+    ensures traps { TrapOne Event Scope }
+{}
+
+/// A run may go on by one event at its end, and after each event one event less waits. A run that is over without a trap
+/// has performed all events, each once.
+pub fn runs_go_on<Event, Scope, Address, Cause>()
+    ensures end { GrowAtTheEnd Event Scope Address Cause }
+    ensures less { WaitLess Event Scope }
+    ensures all { PerformAll Event Scope Address Cause }
+{}
+
+/// What holds of all scopes that may be open together, by the form of a plan, holds in each of its states; and what is
+/// asked of unordered events by their places may be asked by the form of the plan.
+pub fn states_are_shown_by_form<Event, Scope, Cause>()
+    ensures opened { HoldsWhereOpen Event Scope }
+    ensures room { HaveRoomWhereOpen }
+    ensures unordered { UnorderedByForm Event Scope }
+    ensures independent { IndependentByForm Cause }
 {}
