@@ -78,8 +78,7 @@ module _ (forms : Forms) (callee : ℕ → Found → Work) (elems : List Elem) w
   abbrev pub stmt_step : Stmt-F Share → Share
   stmt_step (Stmt-F.Call c) = record {
     calls = 1;
-    work =
-        λ frame names site numbers. call_work frame names site numbers c (callee_of frame c.task);
+    work = λ frame names site numbers. call_work frame names site numbers c (callee_of frame c.task);
   }
   stmt_step (Stmt-F.Map place kind ranges parts) = record {
     calls = calls_of parts;

@@ -1,7 +1,9 @@
 //! The forms of a program under its mapping.
 
 ghost use Rattle.std.specs.Prelude.{◌≡◌, ◌<◌, Some, Ok, true, length, slice_get, IfOk};
+ghost use Rattle.std.specs.Coded.{Coded-set, coded_list};
 ghost use Rattle.sq_text.specs.declared.fault.Fault.{Fault};
+ghost use Rattle.sq_ast.specs.contracts.program.Variant as row;
 ghost use Rattle.sq_text.specs.Answers.{IfRefused};
 ghost use Rattle.sq_ast.specs.Grammar.{most_levels};
 ghost use Rattle.sq_types.specs.Nesting.{HasLoops};
@@ -39,7 +41,7 @@ pub struct Resolved<'a> {
     found: IndexMap<Key, Found>,
     forms: Items<Form>,
     uses: Items<Items<Use>>,
-    ghost listed: { variants.list.now ≡ typed.now.tasks },
+    ghost listed: { variants.list.now ≡ typed.now.tasks } by { Coded-set (coded_list row.the_row.coded) _ _ },
     ghost paired: { length uses ≡ length forms },
     ghost walked: { ∥ IsWalked typed.now machine.now.levels mapping.now found.entries forms uses ∥₁ },
 }

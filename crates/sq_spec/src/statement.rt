@@ -458,7 +458,7 @@ fn sum(start: usize, count: u32) -> Result<usize, AllocError>
 
 #[cycle(tables)]
 #[tactic(auto, using(crate::proofs::OpenedStatement::opened_statement))]
-fn statement<'a>(
+fn table_of<'a>(
     alloc: Global,
     context: &FormContext<'_>,
     numbers: &mut Bindings,
@@ -528,7 +528,7 @@ pub fn statements<'a>(
     let mut tables = Items::new(alloc);
     let mut call = call;
     for s in list {
-        tables.push(statement(alloc, context, numbers, nest, reduced, call, s)?)?;
+        tables.push(table_of(alloc, context, numbers, nest, reduced, call, s)?)?;
         call = plus(call, calls_in(s)?)?;
     }
     Ok(tables)

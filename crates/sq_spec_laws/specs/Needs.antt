@@ -146,8 +146,7 @@ as_reached site turn same xs = record {
   call = site.call;
   extents = extents_of xs;
   in_place = flags same xs;
-  turn =
-      turn;
+  turn = turn;
 }
 
 abbrev pub reached_by : Frame → Names → CallSite → Numbers → Option Turn → Call → Option Callee → List Reached
@@ -233,8 +232,7 @@ frame_at variants instances x k =
       form = k;
       level = x.level;
       maps = 0;
-      depth =
-          0;
+      depth = 0;
     }
 
 abbrev pub reached_of : List Variant → List Instance → ℕ → Form → Option Instance → Option Variant → List Reached

@@ -3,7 +3,7 @@ use Rattle.std.proofs.Common.{refl}
 use Rattle.std.specs.Int.{int_wrap}
 use Rattle.sq_num.specs.Elements.{cut}
 use Rattle.sq_num.specs.Reductions.{red, combined, identity}
-use Rattle.sq_work.specs.Examples.{MovesDiffer, SumsCombine, TrapsHavePaths}
+use Rattle.sq_work.specs.Examples.{MovesDiffer, SumsCombine, TrapsHavePaths, OutBeginsWithZeros, LocalsBeginWithZeros, ArgumentsAreValues, SumsWrap}
 
 pub moves_differ : MovesDiffer
 moves_differ = record { in_turn = refl; at_once = refl; first = refl }
@@ -14,3 +14,16 @@ sums_combine = record { sum = refl; rest = refl }
 
 pub traps_have_paths : TrapsHavePaths
 traps_have_paths = record { in_turn = refl; at_once = refl }
+
+pub out_begins_with_zeros : OutBeginsWithZeros
+out_begins_with_zeros = record { sum = refl }
+
+pub locals_begin_with_zeros : LocalsBeginWithZeros
+locals_begin_with_zeros = record { once = refl; twice = refl }
+
+pub arguments_are_values : ArgumentsAreValues
+arguments_are_values = record { sum = refl }
+
+pub sums_wrap : SumsWrap
+unfolding red combined identity cut
+sums_wrap = record { sum = refl }

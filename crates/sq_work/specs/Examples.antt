@@ -1,6 +1,6 @@
 -- Small works whose meaning is computed by hand.
-use Rattle.std.specs.Prelude.{◌≡◌, ℕ, zero, suc, nat_eq, ℤ, pos, ◌+ℤ◌, true, false, List, [], ◌∷◌, Option, Some, None, Result, Ok, Err, if◌then◌else◌}
-use Rattle.sq_num.specs.declared.Elem.TheVariants.{Int}
+use Rattle.std.specs.Prelude.{◌≡◌, ℕ, zero, suc, nat_eq, ℤ, pos, ◌+ℤ◌, true, false, ◌||◌, List, [], ◌∷◌, Option, Some, None, Result, Ok, Err, if◌then◌else◌}
+use Rattle.sq_num.specs.declared.Elem.TheVariants.{Byte, Int}
 use Rattle.sq_num.specs.declared.RedOp.TheVariants.{Add}
 use Rattle.sq_text.specs.declared.place.Place.{Place}
 use Rattle.sq_ast.specs.declared.program.Mode.{Mode}
@@ -9,7 +9,7 @@ use Rattle.sq_leaf.specs.declared.trap.Trap.{Trap}
 use Rattle.sq_leaf.specs.declared.trap.TrapKind.TheVariants.{DivZero}
 use Rattle.sq_leaf.specs.Source.{Arrays}
 use Rattle.sq_blocks.specs.declared.argument.Argument.{Argument}
-use Rattle.sq_work.specs.Work.{Work, Each, AtOnce, Gathers, Call, Leaf}
+use Rattle.sq_work.specs.Work.{Work, Then, Each, AtOnce, Gathers, Call, Leaf}
 use Rattle.sq_work.specs.Meaning.{Outcome, meaning}
 
 abbrev pub a_place : Place
@@ -17,13 +17,7 @@ a_place = record { line = 1; col = 1 }
 
 -- one element of an array of one dimension
 abbrev pub element : Mode → ℕ → ℕ → Argument
-element mode array i = record {
-  mode = mode;
-  is_reduced = false;
-  array = array;
-  rect =
-      record { lo = i; hi = suc i } ∷ [];
-}
+element mode array i = record { mode = mode; is_reduced = false; array = array; rect = record { lo = i; hi = suc i } ∷ [] }
 
 -- the elements of arrays 0 and 1, of which each has three
 abbrev pub three : ℤ → ℤ → ℤ → ℕ → ℤ
@@ -94,3 +88,39 @@ pub record SumsCombine : Type 0 where
 pub record TrapsHavePaths : Type 0 where
   pub in_turn : path_of (meaning (Each 2 (λ i. Each 3 fails)) numbers) ≡ Some (0 ∷ 1 ∷ [])
   pub at_once : path_of (meaning (AtOnce a_place 2 (λ i. AtOnce a_place 3 fails)) numbers) ≡ Some (0 ∷ 1 ∷ [])
+
+-- the call `add(A[0], S)` of a task whose second parameter is `out`: S begins with a zero, so its 10 doesn't count
+abbrev pub adds_to_out : Work
+adds_to_out = Call 1 true (element Input 0 0 ∷ element Output 1 0 ∷ []) (Leaf adds)
+
+pub record OutBeginsWithZeros : Type 0 where
+  pub sum : value_of (meaning adds_to_out numbers) 1 0 ≡ Some (pos 1)
+
+-- `T[0] += X[0]; Y[0] = T[0];` with parameters X and Y and a local T
+abbrev pub adds_to_local : Arrays → Result Arrays Trap
+adds_to_local a = Ok (λ n cs. if nat_eq n 1 || nat_eq n 2 then a 2 cs +ℤ a 0 cs else a n cs)
+
+abbrev pub by_local : Work
+by_local = Call 1 true (element Input 0 2 ∷ element Output 1 0 ∷ []) (Leaf adds_to_local)
+
+-- called twice, it finds a zero in its local both times
+pub record LocalsBeginWithZeros : Type 0 where
+  pub once : value_of (meaning by_local numbers) 1 0 ≡ Some (pos 3)
+  pub twice : value_of (meaning (Then by_local by_local) numbers) 1 0 ≡ Some (pos 3)
+
+-- the call `add(S, S)`: its first parameter keeps what S was at the start
+abbrev pub adds_itself : Work
+adds_itself = Call 1 true (element Input 1 0 ∷ element Both 1 0 ∷ []) (Leaf adds)
+
+pub record ArgumentsAreValues : Type 0 where
+  pub sum : value_of (meaning adds_itself numbers) 1 0 ≡ Some (pos 20)
+
+-- A of 100, 100, 100 and S of 200, in bytes: a `mapreduce` by + over A makes S 500 without what a byte doesn't hold
+abbrev pub hundreds : Arrays
+hundreds = arrays (three (pos 100) (pos 100) (pos 100)) (three (pos 200) (pos 0) (pos 0))
+
+abbrev pub by_bytes : Work
+by_bytes = Gathers (record { op = Add; elem = Byte; array = 1 }) a_place 3 sums
+
+pub record SumsWrap : Type 0 where
+  pub sum : value_of (meaning by_bytes hundreds) 1 0 ≡ Some (pos 244)

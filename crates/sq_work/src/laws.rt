@@ -1,7 +1,7 @@
 //! What is true of the meaning of works.
 
 ghost use Rattle.sq_work.specs.InTurn.{ChangesWritten, DependsOnTouched, RaceFreeIsSerial};
-ghost use Rattle.sq_work.specs.Examples.{MovesDiffer, SumsCombine, TrapsHavePaths};
+ghost use Rattle.sq_work.specs.Examples.{MovesDiffer, SumsCombine, TrapsHavePaths, OutBeginsWithZeros, LocalsBeginWithZeros, ArgumentsAreValues, SumsWrap};
 
 /// A work changes only what it writes.
 pub fn what_changes_is_written()
@@ -31,4 +31,17 @@ pub fn a_mapreduce_combines_all()
 /// The least iteration that traps, with the numbers round it.
 pub fn traps_have_their_paths()
     ensures { TrapsHavePaths }
+{}
+
+/// An `out` parameter and the locals of a callee begin with zeros, each time; a parameter is a copy of its argument.
+pub fn a_callee_begins_with_zeros_and_copies()
+    ensures out { OutBeginsWithZeros }
+    ensures locals { LocalsBeginWithZeros }
+    ensures copies { ArgumentsAreValues }
+{}
+
+/// A sum of bytes is cut to a byte.
+#[tactic(auto, using(crate::proofs::Computed::sums_wrap))]
+pub fn sums_of_bytes_wrap()
+    ensures { SumsWrap }
 {}

@@ -1,4 +1,4 @@
-use Rattle.std.proofs.Common.{refl, ap}
+use Rattle.std.proofs.Common.{refl, ap, ◌∙◌}
 use Rattle.sq_ast.specs.declared.program.Program.{Program}
 use Rattle.sq_forms.specs.Resolving.{resolving_of}
 use Rattle.sq_spec.specs.Walked.{IsWalked}
