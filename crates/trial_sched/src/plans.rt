@@ -6,7 +6,7 @@ ghost use Rattle.sq_ir.specs.Plans.{tree_of, IsWellFormed};
 ghost use Rattle.sq_ir.specs.Examples.{nodes};
 ghost use Rattle.sq_ir.specs.declared.num.Num.TheVariants as num;
 ghost use Rattle.sq_ir.specs.declared.term.Term.TheVariants as term;
-ghost use Rattle.sq_sched_trials.specs.Plans as spec;
+ghost use Rattle.trial_sched.specs.Plans as spec;
 
 use sq_ir::{
     Action, Buffer, BufferIds, Buffers, Draft, Num, Offsets, Plan, PlanNode, PlanNodes, Slot, Term,

@@ -25,7 +25,7 @@ use Rattle.sq_ir.proofs.Meeting.{meets_skip, meets_act, meets_seq, meets_par, me
 use Rattle.sq_ir.proofs.ExampleTrees.{const_is, index_is}
 use Rattle.sq_ir.proofs.ExampleTerms.{are-nodes}
 use Rattle.sq_ir.proofs.ExampleLeaf.{one-node}
-use Rattle.sq_sched_trials.specs.Plans.{fill, planned, filling, mixed, call, calling}
+use Rattle.trial_sched.specs.Plans.{fill, planned, filling, mixed, call, calling}
 
 long : (k : ℕ) → k < 9223372036854775808 → IsValue Long (pos k)
 unfolding least greatest

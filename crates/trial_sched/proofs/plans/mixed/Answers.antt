@@ -1,7 +1,7 @@
 use Rattle.std.proofs.Common.{sym, ap, ◌∙◌, subst, arith}
 use Rattle.sq_ir.specs.Plans.{tree_of, IsWellFormed}
-use Rattle.sq_sched_trials.proofs.Formed.{idle, mixed-formed}
-use Rattle.sq_sched_trials.proofs.plans.mixed.Goals as goal
+use Rattle.trial_sched.proofs.Formed.{idle, mixed-formed}
+use Rattle.trial_sched.proofs.plans.mixed.Goals as goal
 
 pub controlled-requires : goal.controlled-requires
 controlled-requires c = (idle _, subst (IsWellFormed (idle _)) (sym c.in_ok-plan.ensures) (mixed-formed (idle _) c.args.rule c.args.pick (omega arith)))

@@ -13,7 +13,8 @@ fn told(event: &Event) -> (i64, u32) {
     }
 }
 
-// Performs at most so many events, the first or the last ready one each time, and tells them.
+// Performs at most so many events and tells them: the first ready one each time, by `step`, or the last one, by `event`
+// and `done`.
 fn performed(
     alloc: Global,
     control: &mut Control<u32>,
@@ -21,14 +22,19 @@ fn performed(
     most: u32,
 ) -> Result<Vec<(i64, u32)>, AllocError> {
     let mut events = Vec::new(alloc);
+    let mut event = Event::untold();
     for _ in 0..most {
         let ready = control.ready();
         if ready == 0 {
             return Ok(events);
         }
-        let k = if last { ready - 1 } else { 0 };
-        events.push(told(&control.event(k)))?;
-        control.done(k, Outcome::Finished);
+        if last {
+            events.push(told(&control.event(ready - 1)))?;
+            control.done(ready - 1, Outcome::Finished);
+        } else {
+            control.step(0, &mut event);
+            events.push(told(&event))?;
+        }
     }
     Ok(events)
 }
@@ -120,5 +126,21 @@ fn the_least_trap_counts_and_ends_its_branch(rt: HostRuntime) -> Result<(), Fail
     let mut control = calling(rt.alloc(), 4, 4)?;
     assert_eq!(rt; trapped(&mut control), Some((1, 4)));
     assert_eq!(rt; control.plan().nodes.as_slice().len(), 3);
+    Ok(())
+}
+
+#[test]
+fn a_leaf_call_that_is_told_waits(rt: HostRuntime) -> Result<(), Fail> {
+    let mut control = calling(rt.alloc(), 7, 3)?;
+    let mut event = Event::untold();
+    if control.ready() > 0 {
+        control.step(0, &mut event);
+    }
+    assert!(rt; matches!(event, Event::Leaf { .. }));
+    assert_eq!(rt; control.ready(), 2);
+    if control.ready() > 0 {
+        control.done(0, Outcome::Finished);
+    }
+    assert_eq!(rt; control.ready(), 1);
     Ok(())
 }
