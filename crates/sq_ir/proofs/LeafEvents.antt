@@ -1,6 +1,6 @@
 -- A run of a leaf's code is its event.
 use Rattle.std.proofs.Common.{◌≡◌, ℕ, zero, suc, ◌+◌, ◌*◌, ◌<◌, ◌≤◌, Bool, true, false, ◌&&◌, List, [], ◌∷◌, length, map, get_or, take, drop, Some, Result, Ok, Err, ℤ, refl, sym, ap, ap₂, ◌∙◌, subst, arith, true≢false}
-use Rattle.std.specs.Prelude.{if◌then◌else◌, nat_eq}
+use Rattle.std.specs.Prelude.{if◌then◌else◌, nat_eq, ◌||◌}
 use Rattle.std.specs.List.{All, range_with_len, slice_get}
 use Rattle.std.specs.Option.{option_map, option_map_or}
 use Rattle.std.proofs.lemmas.Option.{slice_get-map}
@@ -18,9 +18,9 @@ use Rattle.sq_leaf.specs.Spots.{IsInside, load}
 use Rattle.sq_leaf.specs.Views as views
 use Rattle.sq_leaf.specs.Views.{spot_of, CanRun, Shows, Keeps, IsOutside, HasByte}
 use Rattle.sq_leaf.specs.Leaf.{written_of, leaf_value, IsMeant}
-use Rattle.sq_ir.specs.Events.{Spot, Bytes, Leaf, coordinates, places, is_among, in_view, shape_of, Array, seen, chosen, Finishes, stored, put, put_end, trap_end, after_event}
+use Rattle.sq_ir.specs.Events.{Spot, Bytes, Leaf, coordinates, places, is_among, in_view, in_views, shape_of, Array, seen, chosen, Finishes, stored, put, put_end, trap_end, after_event}
 use Rattle.sq_ir.specs.DraftLeaves.{element_of, arrays_of, bytes_of, written_bytes, end_by, leaf_shape, shape_in, leaf_end, leaf_at, leaves_of}
-use Rattle.sq_ir.specs.LeafRuns.{Holds, AreBytes, trap_at, RunsAreEvents}
+use Rattle.sq_ir.specs.LeafRuns.{Holds, AreBytes, trap_at, RunsAreEvents, RunsKeepOthers}
 use Rattle.sq_ir.proofs.LeafPieces.{at_all, read_from, map_same, piece_there, pieces_same, among_pieces, stored_there, is_in, has, in_reach}
 
 -- the byte k of a node
@@ -188,3 +188,34 @@ runs_are_events d code l there vs before after answer run node m path holds =
         × (answer ≡ Ok tt → (k : ℕ) → k < length after → put_end node (chosen (written_of l.variant) vs) (end_by (written_of l.variant) (map shape_in xs) r) (byte node k) (m (byte node k)) ≡ f k)
     decided (Ok b) h = (ap (trap_at path) (sym h.0), λ e k low. put_bytes node k f m 0 (written_of l.variant) vs b (m (byte node k)) (puts b h.1) (outside k low))
     decided (Err t) h = (ap (trap_at path) (sym h), λ e k low. cc)
+
+-- ---- bytes outside the written views
+
+neither : (u v : Bool) → (u || v) ≡ false → (u ≡ false) × (v ≡ false)
+neither true v h = cc
+neither false v h = (refl, h)
+
+pub misses_all : (node k : ℕ) (written : List Bool) (vs : List View)
+    → in_views node (chosen written vs) (byte node k) ≡ false → Misses node k written vs
+misses_all node k [] vs h = λ n v g s. cc
+misses_all node k (w ∷ ws) [] h = λ n v g s. cc
+misses_all node k (false ∷ ws) (v ∷ vs) h = not_written node k v ws vs (misses_all node k ws vs h)
+misses_all node k (true ∷ ws) (v ∷ vs) h =
+    let e = neither (in_view node v (byte node k)) (in_views node (chosen ws vs) (byte node k)) h in
+    not_here node k v ws vs e.0 (misses_all node k ws vs e.1)
+
+pub runs_keep_others : RunsKeepOthers
+runs_keep_others d code l there vs before after kept node k h =
+    let written : option_map_or (λ l. written_of l.variant) (leaf_at d code) [] ≡ written_of l.variant =
+    ap (λ o. option_map_or (λ l. written_of l.variant) o []) there in
+    let miss =
+    misses_all node k (written_of l.variant) vs
+    (subst (λ ws. in_views node (chosen ws vs) (byte node k) ≡ false) written h) in
+    let none : IsOutside vs (written_of l.variant) k = record {
+      none = λ n v c g s h stands.
+          let here : in_view node v (byte node k) ≡ true =
+          both (nat_eq node node) (is_among (places v) k) (same_number node) (byte_there v c k h stands) in
+          let there : in_view node v (byte node k) ≡ false = miss n v g s in
+          true≢false (sym here ∙ there);
+    } in
+    kept.outside k none

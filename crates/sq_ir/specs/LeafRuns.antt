@@ -1,5 +1,5 @@
 -- A run of a leaf's code over the bytes of a node, and the leaf's event.
-use Rattle.std.specs.Prelude.{◌≡◌, ℕ, ◌^◌, ◌<◌, ◌≤◌, List, length, map, get_or, Option, Some, None, Result, Ok, Err}
+use Rattle.std.specs.Prelude.{◌≡◌, ℕ, ◌^◌, ◌<◌, ◌≤◌, false, List, length, map, get_or, Option, Some, None, Result, Ok, Err}
 use Rattle.std.specs.List.{All}
 use Rattle.sq_rect.specs.declared.view.View.{View}
 use Rattle.sq_leaf.specs.declared.trap.Trap.{Trap}
@@ -8,7 +8,7 @@ use Rattle.sq_leaf.specs.Views as views
 use Rattle.sq_leaf.specs.Views.{CanRun, Shows, Keeps}
 use Rattle.sq_leaf.specs.Leaf.{Leaf as LeafSource, written_of, leaf_value, IsMeant}
 use Rattle.sq_ir.specs.Runs as runs
-use Rattle.sq_ir.specs.Events.{Bytes, Leaf, shape_of, after_event, trap_event}
+use Rattle.sq_ir.specs.Events.{Bytes, Leaf, shape_of, in_views, written_views, after_event, trap_event}
 use Rattle.sq_ir.specs.Plans.{IsLeafCall}
 use Rattle.sq_ir.specs.DraftLeaves.{shapes_of, leaf_at, leaves_of}
 use Rattle.sq_ir.specs.declared.plan.Draft.{Draft}
@@ -52,3 +52,11 @@ abbrev pub CallsCanBeRun : Type 0
 CallsCanBeRun =
     (d : Draft) (code capacity : ℕ) (vs : List View) (path : List ℕ) → IsLeafCall (leaves_of d) capacity code vs path
     → capacity < 2 ^ 62 → All (λ v. length v.extents ≤ 3) vs → CanBeRun d code capacity vs
+
+-- A run of a leaf, whether it traps or not, changes no byte of its node outside the views that its event writes.
+abbrev pub RunsKeepOthers : Type 0
+RunsKeepOthers =
+    (d : Draft) (code : ℕ) (l : LeafSource) → leaf_at d code ≡ Some l
+    → (vs : List View) (before after : List ℕ) → Keeps vs (written_of l.variant) before after
+    → (node k : ℕ) → in_views node (written_views (leaves_of d) code vs) (record { node = node; at = k }) ≡ false
+    → get_or after k 0 ≡ get_or before k 0

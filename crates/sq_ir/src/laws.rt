@@ -8,7 +8,8 @@ ghost use Rattle.sq_ir.specs.Closed.{AreReached};
 ghost use Rattle.sq_ir.specs.Ready.{AreNumbered};
 ghost use Rattle.sq_ir.specs.Events.{Leaves};
 ghost use Rattle.sq_ir.specs.Lifting.{lift};
-ghost use Rattle.sq_ir.specs.LeafRuns.{RunsAreEvents, CallsCanBeRun};
+ghost use Rattle.sq_ir.specs.LeafRuns.{RunsAreEvents, RunsKeepOthers, CallsCanBeRun};
+ghost use Rattle.sq_ir.specs.RunSteps.{GrowAtTheEnd, WaitLess};
 ghost use Rattle.sq_ir.specs.Written.{Setting, Env, at_turn, value_of};
 ghost use Rattle.sq_ir.specs.Plans.{IsGood};
 ghost use Rattle.sq_ir.specs.Examples.{doubling, CallsALeaf, OnlyClashes, OnlyTooLong, OnlyOverlaps, OnlyDivides};
@@ -80,8 +81,15 @@ pub fn lifted_numbers_keep_their_values()
 {}
 
 /// A leaf call of a well formed plan names a leaf of its draft, whose code can run over the node's bytes; and what that
-/// run does to them is what the event does.
+/// run does to them is what the event does. Whether it traps or not, it changes no byte outside the views that it writes.
 pub fn runs_of_leaves_are_their_events()
     ensures can { CallsCanBeRun }
     ensures alike { RunsAreEvents }
+    ensures others { RunsKeepOthers }
+{}
+
+/// A run may go on by one event at its end, and after each event one event less waits.
+pub fn runs_go_on<Event, Scope, Address, Cause>()
+    ensures end { GrowAtTheEnd Event Scope Address Cause }
+    ensures less { WaitLess Event Scope }
 {}

@@ -8,6 +8,7 @@ mod plan;
 mod term;
 #[cfg(test)]
 mod tests;
+mod traffic;
 
 pub use num::Num;
 pub use numbers::Numbers;
@@ -15,3 +16,4 @@ pub use plan::{
     Buffer, Buffers, Draft, Leaf, Leaves, Note, Notes, Offsets, Plan, PlanNode, PlanNodes,
 };
 pub use term::{Action, BufferIds, LeafView, LeafViews, Nums, Slot, Term, Terms};
+pub use traffic::{Carried, EventCounts};
