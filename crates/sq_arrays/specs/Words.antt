@@ -3,6 +3,7 @@ use Rattle.std.specs.Prelude.{ℕ, Bool, true, false, cond, ◌||◌, ◌==◌, 
 use Rattle.std.specs.List.{fold}
 use Rattle.sq_text.specs.declared.place.Place.{Place}
 use Rattle.sq_text.specs.Places.{place_after}
+use Rattle.sq_text.specs.Limits.{most_data}
 
 -- space, tab, CR, LF
 abbrev pub is_blank : ℕ → Bool
@@ -19,10 +20,10 @@ along p bs = fold place_after p bs
 
 -- the bytes that count of a file, and whether it has more
 unfoldable pub within : List ℕ → List ℕ
-within bytes = take 268435456 bytes
+within bytes = take most_data bytes
 
 unfoldable pub is_over : List ℕ → Bool
-is_over bytes = nat_lt 268435456 (length bytes)
+is_over bytes = nat_lt most_data (length bytes)
 
 -- the bytes in front that are blanks, or that are none; and what is behind them
 abbrev pub run : Bool → List ℕ → List ℕ

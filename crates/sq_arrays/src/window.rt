@@ -2,9 +2,10 @@
 ghost use Rattle.std.specs.Prelude.{◌≡◌, ◌≤◌, ◌+◌, ◌-◌};
 
 use sq_text::Place;
+use sq_text::limits::DATA_BYTES;
 
 /// How many bytes of a file count.
-pub(crate) const LIMIT: u64 = 268_435_456;
+pub(crate) const LIMIT: u64 = DATA_BYTES as u64;
 
 /// How many bytes of a file are held at a time. The reader lies on the stack, which may be 64 KiB small, and is moved
 /// there.

@@ -19,7 +19,7 @@ use Rattle.sq_arrays.specs.declared.refusal.InputEnd.{InputEnd}
 use Rattle.sq_arrays.specs.declared.refusal.InputEnd.TheVariants.{Refused}
 use Rattle.sq_rect.specs.Placing.{IsIn}
 use Rattle.sq_leaf.specs.declared.shape.Shape.{Shape}
-use Rattle.sq_spec.specs.Meaning.{is_read}
+use Rattle.sq_ast.specs.Modes.{is_read}
 use Rattle.sq_spec.specs.Works.{extents_at, param_shapes}
 use Rattle.sq_spec.specs.declared.resolved.Resolved.{Resolved}
 use Rattle.sq_flat.specs.Memory as memory

@@ -10,10 +10,10 @@ use Rattle.sq_ast.specs.declared.program.Param.{Param}
 use Rattle.sq_mapfile.specs.declared.mapping.SizeSet.{SizeSet}
 use Rattle.sq_spec.specs.Entry.{IsEntry}
 use Rattle.sq_text.specs.declared.fault.Fault.{Fault}
-use Rattle.sq_spec.specs.Faults.{Value, and_then}
-use Rattle.sq_spec.specs.Reached.{AsManyForms}
-use Rattle.sq_spec.specs.Resolving.{Resolving, resolved, param_dims, entry_extents, before}
-use Rattle.sq_spec.specs.Decls.{most_extent, most_elements, dims_from, dims_of}
+use Rattle.sq_forms.specs.Faults.{Value, and_then}
+use Rattle.sq_form_laws.specs.Reached.{AsManyForms}
+use Rattle.sq_forms.specs.Resolving.{Resolving, resolution, param_dims, entry_extents, before}
+use Rattle.sq_forms.specs.Decls.{most_extent, most_elements, dims_from, dims_of}
 use Rattle.sq_spec.specs.declared.resolved.Resolved.{Resolved}
 use Rattle.sq_spec.specs.Works.{extents_at}
 use Rattle.sq_rect.specs.Extents.{product}
@@ -22,8 +22,8 @@ use Rattle.sq_num.specs.declared.Elem.TheVariants.{Byte, Int, Long}
 use Rattle.sq_num.specs.Elements.{width}
 use Rattle.sq_ast.specs.declared.program.Mode.{Mode}
 use Rattle.sq_arrays.specs.Arrays.{Wanted, size_of}
-use Rattle.sq_spec.specs.Resolving.{extent_of, dims_or_fault}
-use Rattle.sq_spec.specs.declared.form.Form.{Form}
+use Rattle.sq_forms.specs.Resolving.{extent_of, dims_or_fault}
+use Rattle.sq_forms.specs.declared.form.Form.{Form}
 use Rattle.sq_flat.specs.Held.{extents_in}
 use Rattle.sq_cli.specs.Outputs.{stored_texts}
 use Rattle.sq_cli.specs.Entry.{params_of, want_of, wants_of}
@@ -33,7 +33,7 @@ some_below [] x there = cc
 some_below (y ∷ xs) x there = omega arith
 
 -- there are forms
-some_form : (r : Resolved) → IsEntry r → AsManyForms → (left : Resolving) → resolved r.typed.now.tasks r.mapping.now ≡ Ok left → left.found ≡ r.found.entries → left.forms ≡ r.forms → 0 < length r.forms
+some_form : (r : Resolved) → IsEntry r → AsManyForms → (left : Resolving) → resolution r.typed.now.tasks r.mapping.now ≡ Ok left → left.found ≡ r.found.entries → left.forms ≡ r.forms → 0 < length r.forms
 some_form r entry many left through found forms =
     let some : 0 < length r.found.entries = some_below r.found.entries ([], _) entry.found in
     let same : length left.found ≡ length left.forms = many r.typed.now.tasks r.mapping.now left through in

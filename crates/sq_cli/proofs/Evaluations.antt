@@ -11,8 +11,9 @@ use Rattle.sq_mapfile.specs.declared.mapping.Mapping.{Mapping as Mapped}
 use Rattle.sq_arrays.specs.Arrays.{DataFault, arrays_of}
 use Rattle.sq_leaf.specs.declared.shape.Shape.{Shape}
 use Rattle.sq_leaf.specs.Source.{Arrays}
-use Rattle.sq_spec.specs.Meaning.{is_read, Outcome, Trapped as Stopping}
-use Rattle.sq_spec.specs.Resolving.{entry_extents}
+use Rattle.sq_work.specs.Meaning.{Outcome, Trapped as Stopping}
+use Rattle.sq_ast.specs.Modes.{is_read}
+use Rattle.sq_forms.specs.Resolving.{entry_extents}
 use Rattle.sq_spec.specs.Works.{flat, param_shapes}
 use Rattle.sq_spec.specs.Entry.{IsEntry}
 use Rattle.sq_spec.specs.declared.resolved.Resolved.{Resolved}

@@ -11,12 +11,12 @@ use Rattle.sq_mapfile.specs.declared.mapping.Mapping.{Mapping as Mapped}
 use Rattle.sq_leaf.specs.declared.shape.Shape.{Shape}
 use Rattle.sq_leaf.specs.Source.{Arrays}
 use Rattle.sq_spec.specs.Entry.{IsEntry}
-use Rattle.sq_spec.specs.Forms.{AreForms, IsFirstMet}
-use Rattle.sq_spec.specs.Meaning.{Outcome}
-use Rattle.sq_spec.specs.Resolving.{entry_extents, resolved}
-use Rattle.sq_spec.specs.Steps.{Key}
+use Rattle.sq_forms.specs.Forms.{AreForms, IsFirstMet}
+use Rattle.sq_work.specs.Meaning.{Outcome}
+use Rattle.sq_forms.specs.Resolving.{entry_extents, resolution}
+use Rattle.sq_forms.specs.Steps.{Key}
 use Rattle.sq_spec.specs.Works.{flat, found_in, param_shapes}
-use Rattle.sq_spec.specs.declared.form.Found.{Found}
+use Rattle.sq_forms.specs.declared.form.Found.{Found}
 use Rattle.sq_spec.specs.declared.resolved.Resolved.{Resolved}
 use Rattle.sq_race.specs.Race.{IsFirstRace}
 use Rattle.sq_flat.specs.Blocks.{element}
@@ -71,14 +71,14 @@ sources_at told p m k tree that hierarchy memories mapped onto trees machines ma
     subst (λ (x : Mapped). HoldsSources told p m k tree hierarchy x) (sym mappings) held))
 
 -- forms that were found of what they are seen to be of
-pub resolved_is : (tree : Tree) (hierarchy : Hierarchy) (mapped : Mapped) (r : Resolved) → r.typed.now ≡ tree → r.machine.now ≡ hierarchy → r.mapping.now ≡ mapped → AreForms tree mapped r.forms r.uses → found_in (resolved tree.tasks mapped) ≡ r.found.entries
+pub resolved_is : (tree : Tree) (hierarchy : Hierarchy) (mapped : Mapped) (r : Resolved) → r.typed.now ≡ tree → r.machine.now ≡ hierarchy → r.mapping.now ≡ mapped → AreForms tree mapped r.forms r.uses → found_in (resolution tree.tasks mapped) ≡ r.found.entries
     → IsResolved r.typed.now r.machine.now r.mapping.now r
 resolved_is tree hierarchy mapped r trees machines mappings forms found = record {
   tree_is = refl;
   machine_is = refl;
   mapping_is = refl;
   forms = subst (λ (t : Tree). AreForms t r.mapping.now r.forms r.uses) (sym trees) (subst (λ (x : Mapped). AreForms tree x r.forms r.uses) (sym mappings) forms);
-  found = ap (λ (t : Tree). found_in (resolved t.tasks r.mapping.now)) trees ∙ (ap (λ (x : Mapped). found_in (resolved tree.tasks x)) mappings ∙ found);
+  found = ap (λ (t : Tree). found_in (resolution t.tasks r.mapping.now)) trees ∙ (ap (λ (x : Mapped). found_in (resolution tree.tasks x)) mappings ∙ found);
 }
 
 -- ---- how a phase ends the command

@@ -14,7 +14,7 @@ use Rattle.sq_arrays.specs.Arrays.{Wanted}
 use Rattle.sq_arrays.specs.Written.{array_text}
 use Rattle.sq_leaf.specs.declared.shape.Shape.{Shape}
 use Rattle.sq_leaf.specs.Source.{Arrays}
-use Rattle.sq_spec.specs.Calls.{is_written}
+use Rattle.sq_ast.specs.Modes.{is_written}
 use Rattle.sq_spec.specs.Works.{extents_at, param_shapes}
 use Rattle.sq_flat.specs.Blocks.{piece, element}
 use Rattle.sq_flat.specs.Memory.{size_of}

@@ -3,7 +3,7 @@ use Rattle.std.proofs.Common.{◌≡◌, ℕ, zero, suc, ◌+◌, ◌-◌, ◌==
 use Rattle.std.proofs.lemmas.Bool.Decides.{nat_tests}
 use Rattle.sq_ast.specs.declared.program.Param.{Param}
 use Rattle.sq_arrays.specs.Targets.{HasRange, put_at, array_at, put_in}
-use Rattle.sq_spec.specs.Meaning.{is_read}
+use Rattle.sq_ast.specs.Modes.{is_read}
 use Rattle.sq_flat.specs.Held.{put_part, HasPart}
 use Rattle.sq_cli.specs.Picking.{picked, unpicked, number_from}
 

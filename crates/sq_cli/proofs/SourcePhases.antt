@@ -7,10 +7,10 @@ use Rattle.sq_text.specs.declared.fault.Fault.{Fault}
 use Rattle.sq_ast.specs.declared.program.Program.{Program as Tree}
 use Rattle.sq_machfile.specs.Machines.{Hierarchy}
 use Rattle.sq_mapfile.specs.declared.mapping.Mapping.{Mapping as Mapped}
-use Rattle.sq_spec.specs.Forms.{IsFirstMet}
-use Rattle.sq_spec.specs.Resolving.{Resolving, resolved}
-use Rattle.sq_spec.specs.declared.form.Form.{Form}
-use Rattle.sq_spec.specs.declared.form.Use.{Use}
+use Rattle.sq_forms.specs.Forms.{IsFirstMet}
+use Rattle.sq_forms.specs.Resolving.{Resolving, resolution}
+use Rattle.sq_forms.specs.declared.form.Form.{Form}
+use Rattle.sq_forms.specs.declared.form.Use.{Use}
 use Rattle.sq_spec.specs.declared.resolved.Resolved.{Resolved}
 use Rattle.sq_race.specs.declared.forms.Found.{Found}
 use Rattle.sq_race.specs.Race.{variant_by, maps_by, HoldsIn, HoldsAt, IsFirstRace}
@@ -152,9 +152,9 @@ module _ (kind : Kind) (its : ReadsSources kind) (p m k : List ℕ) (i : Option 
         (λ c is. fails Resolve (inputs_of c (command_with kind p m k i)) (IsFirstMet tree mapped) (λ g met. record { sources = sources c is; first = met })) refl (λ closed. refl) (Refused f) (λ c is. first)
 
     -- the walk's answer for an equal program and mapping
-    walk_same : (c : Content) (is : told ≡ Some c) (that : Sources (inputs_of c (command_with kind p m k i))) → resolved that.tree.tasks that.mapped ≡ resolved tree.tasks mapped
+    walk_same : (c : Content) (is : told ≡ Some c) (that : Sources (inputs_of c (command_with kind p m k i))) → resolution that.tree.tasks that.mapped ≡ resolution tree.tasks mapped
     walk_same c is that =
-        ap (λ (t : Tree). resolved t.tasks that.mapped) (only c is that).tree_is ∙ ap (λ (x : Mapped). resolved tree.tasks x) (only c is that).mapping_is
+        ap (λ (t : Tree). resolution t.tasks that.mapped) (only c is that).tree_is ∙ ap (λ (x : Mapped). resolution tree.tasks x) (only c is that).mapping_is
 
     module _ (r : Resolved) (are : IsResolved tree hierarchy mapped r) where
       resolve_passed : (c : Content) → told ≡ Some c → Passed (command_with kind p m k i) c Resolve

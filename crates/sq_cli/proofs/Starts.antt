@@ -18,7 +18,7 @@ use Rattle.sq_arrays.specs.Arrays.{Wanted, AreValuesOf}
 use Rattle.sq_arrays.specs.Targets.{cells_of}
 use Rattle.sq_leaf.specs.declared.shape.Shape.{Shape}
 use Rattle.sq_leaf.specs.Source.{Arrays}
-use Rattle.sq_spec.specs.Meaning.{is_read}
+use Rattle.sq_ast.specs.Modes.{is_read}
 use Rattle.sq_spec.specs.Works.{extents_at, param_shapes}
 use Rattle.sq_flat.specs.Blocks.{piece, element}
 use Rattle.sq_flat.specs.Memory.{size_of, zeros as zero_bytes}

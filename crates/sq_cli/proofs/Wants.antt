@@ -3,7 +3,7 @@ use Rattle.std.proofs.Common.{◌≡◌, ℕ, zero, suc, ◌+◌, ◌<◌, Bool,
 use Rattle.std.proofs.lemmas.Option.{slice_get_read}
 use Rattle.sq_ast.specs.declared.program.Param.{Param}
 use Rattle.sq_arrays.specs.Arrays.{Wanted}
-use Rattle.sq_spec.specs.Meaning.{is_read}
+use Rattle.sq_ast.specs.Modes.{is_read}
 use Rattle.sq_spec.specs.Works.{extents_at}
 use Rattle.sq_cli.specs.Entry.{want_of, wants_of}
 use Rattle.sq_cli.specs.Picking.{read_want}

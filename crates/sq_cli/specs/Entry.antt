@@ -9,9 +9,10 @@ use Rattle.sq_mapfile.specs.declared.mapping.Mapping.{Mapping}
 use Rattle.sq_arrays.specs.Arrays.{Wanted, DataFault, arrays_of}
 use Rattle.sq_arrays.specs.Written.{array_text}
 use Rattle.sq_leaf.specs.Source.{Arrays}
-use Rattle.sq_spec.specs.Calls.{is_written}
-use Rattle.sq_spec.specs.Meaning.{is_read, Trapped}
-use Rattle.sq_spec.specs.Resolving.{entry_params, entry_extents}
+use Rattle.sq_ast.specs.Modes.{is_written}
+use Rattle.sq_work.specs.Meaning.{Trapped}
+use Rattle.sq_ast.specs.Modes.{is_read}
+use Rattle.sq_forms.specs.Resolving.{entry_params, entry_extents}
 use Rattle.sq_spec.specs.Works.{extents_at, flat}
 use Rattle.sq_cli.specs.declared.trap.Trap.{Trap}
 use Rattle.sq_cli.specs.Words.{input}

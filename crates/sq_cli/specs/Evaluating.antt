@@ -10,7 +10,7 @@ use Rattle.sq_machfile.specs.Machines.{Hierarchy}
 use Rattle.sq_mapfile.specs.declared.mapping.Mapping.{Mapping}
 use Rattle.sq_tree.specs.Bank.{BankSeen}
 use Rattle.sq_leaf.specs.declared.shape.Shape.{Shape}
-use Rattle.sq_spec.specs.Meaning.{Outcome}
+use Rattle.sq_work.specs.Meaning.{Outcome}
 use Rattle.sq_flat.specs.Held.{Stored}
 use Rattle.sq_flat.specs.Ends.{HoldsEnd}
 use Rattle.sq_cli.specs.declared.end.End.{End}

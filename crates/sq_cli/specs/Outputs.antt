@@ -5,7 +5,7 @@ use Rattle.sq_rect.specs.Extents.{product}
 use Rattle.sq_ast.specs.declared.program.Param.{Param}
 use Rattle.sq_arrays.specs.Arrays.{Wanted}
 use Rattle.sq_arrays.specs.Written.{array_text}
-use Rattle.sq_spec.specs.Calls.{is_written}
+use Rattle.sq_ast.specs.Modes.{is_written}
 use Rattle.sq_spec.specs.Works.{extents_at}
 
 abbrev pub stored_output : Bool → Wanted → List ℕ → List ℕ

@@ -7,8 +7,8 @@ use Rattle.sq_text.specs.declared.fault.Fault.{Fault}
 use Rattle.sq_ast.specs.declared.program.Param.{Param}
 use Rattle.sq_arrays.specs.Arrays.{Wanted, DataFault, arrays_of}
 use Rattle.sq_arrays.specs.Targets.{cells_of}
-use Rattle.sq_spec.specs.Meaning.{is_read}
-use Rattle.sq_spec.specs.Resolving.{entry_extents}
+use Rattle.sq_ast.specs.Modes.{is_read}
+use Rattle.sq_forms.specs.Resolving.{entry_extents}
 use Rattle.sq_spec.specs.declared.resolved.Resolved.{Resolved}
 use Rattle.sq_flat.specs.Held.{Stored, Holds}
 use Rattle.sq_cli.specs.declared.end.End.{End}

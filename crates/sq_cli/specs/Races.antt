@@ -7,8 +7,8 @@ use Rattle.sq_text.specs.declared.fault.Fault.{Fault}
 use Rattle.sq_ast.specs.declared.program.Program.{Program as Tree}
 use Rattle.sq_machfile.specs.Machines.{Hierarchy}
 use Rattle.sq_mapfile.specs.declared.mapping.Mapping.{Mapping}
-use Rattle.sq_spec.specs.Forms.{AreForms, IsFirstMet}
-use Rattle.sq_spec.specs.Resolving.{resolved}
+use Rattle.sq_forms.specs.Forms.{AreForms, IsFirstMet}
+use Rattle.sq_forms.specs.Resolving.{resolution}
 use Rattle.sq_spec.specs.Works.{found_in}
 use Rattle.sq_spec.specs.declared.resolved.Resolved.{Resolved}
 use Rattle.sq_race.specs.declared.race.Race.{Race}
@@ -27,7 +27,7 @@ pub record IsResolved (tree : Tree) (hierarchy : Hierarchy) (mapped : Mapping) (
   pub machine_is : r.machine.now ≡ hierarchy
   pub mapping_is : r.mapping.now ≡ mapped
   pub forms : AreForms tree mapped r.forms r.uses
-  pub found : found_in (resolved tree.tasks mapped) ≡ r.found.entries
+  pub found : found_in (resolution tree.tasks mapped) ≡ r.found.entries
 
 -- the line of a race names the array, and of each access the map's iteration and the block, the earlier one first
 abbrev pub race_fault : Race → Fault

@@ -5,8 +5,8 @@ ghost use Rattle.sq_ast.specs.Given.{IsGiven};
 ghost use Rattle.sq_types.specs.Sites.{TypeFault};
 ghost use Rattle.sq_mapfile.specs.Sound.{Sound};
 ghost use Rattle.sq_leaf.specs.Source.{Arrays as SpecArrays};
-ghost use Rattle.sq_spec.specs.Forms.{AreForms, IsFirstMet};
-ghost use Rattle.sq_spec.specs.Resolving.{resolved};
+ghost use Rattle.sq_forms.specs.Forms.{AreForms, IsFirstMet};
+ghost use Rattle.sq_forms.specs.Resolving.{resolution};
 ghost use Rattle.sq_spec.specs.Works.{flat, found_in};
 ghost use Rattle.sq_flat.specs.Held.{AreWhole, Holds, entry_shapes};
 ghost use Rattle.sq_race.specs.Race.{IsFirstRace};
@@ -75,7 +75,7 @@ fn forms_of<'r, 'a>(
 ) -> Result<Resolved<'r>, End<'a>>
     requires { Sound typed.now machine.now.levels mapping.now }
     ensures forms { IfOk result (λ r. AreForms typed.now mapping.now r.forms r.uses) }
-    ensures found { IfOk result (λ r. found_in (resolved typed.now.tasks mapping.now) ≡ r.found.entries) }
+    ensures found { IfOk result (λ r. found_in (resolution typed.now.tasks mapping.now) ≡ r.found.entries) }
     ensures program { IfOk result (λ r. r.typed.now ≡ typed.now) }
     ensures mapping { IfOk result (λ r. r.mapping.now ≡ mapping.now) }
     ensures machine { IfOk result (λ r. r.machine.now ≡ machine.now) }

@@ -9,10 +9,11 @@ use crate::end::End;
 use sq_parser::{SmallEnd, SmallMachine, SmallTask, small_machine, small_mapping, small_program};
 use sq_port::{Bytes, Files, ReadEnd, read_whole};
 use sq_text::Phase;
+use sq_text::limits::TEXT_BYTES;
 use std::alloc::Global;
 
 /// The most bytes of a program, machine or mapping file.
-pub const MOST_BYTES: u64 = 1_048_576;
+pub const MOST_BYTES: u64 = TEXT_BYTES as u64;
 
 fn read_text<'a, F: Files>(
     alloc: Global,

@@ -88,6 +88,84 @@ const FILES: &[(&str, &[u8])] = &[
     ),
     ("8.txt", b"array A int [8]\n1 2 3 4 5 6 7 8\n"),
     ("tens.txt", b"array A int [4]\n1 0 2 0\n"),
+    (
+        "inc.sq",
+        b"void task inc::leaf(in byte A[N], out byte B[N]) {\n  for (int i = 0; i < N; i++) B[i] = A[i] + 1;\n}\n",
+    ),
+    (
+        "inc.map",
+        b"mapping 1; entry top(N = 1); instance top = inc::leaf @ host { }",
+    ),
+    ("255.txt", b"array A byte [1]\n255\n"),
+    ("300.txt", b"array A byte [1]\n300\n"),
+    (
+        "10.map",
+        b"mapping 1; entry top(N = 10); instance top = twice::inner @ host { tunable U = 4; call twice -> low; } instance low = twice::leaf @ core { }",
+    ),
+    ("10.txt", b"array A int [10]\n1 2 3 4 5 6 7 8 9 10\n"),
+    (
+        "whole.sq",
+        b"void task twice::inner(in int A[N], out int B[N]) {\n  tunable int U;\n  blkset Ab = rchop(A, U);\n  blkset Bb = rchop(B, U);\n  mappar (int i = 0 to N / U) {\n    twice(Ab[i], Bb[i]);\n  }\n}\nvoid task twice::leaf(in int A[N], out int B[N]) {\n  for (int i = 0; i < N; i++) B[i] = A[i] + A[i];\n}\n",
+    ),
+    (
+        "lists.sq",
+        b"void task twice::inner(in int A[N], out int B[M]) {\n  tunable int S[];\n  tunable int E[];\n  tunable int T[];\n  tunable int G[];\n  blkset Ab = ichop(A, S, E);\n  blkset Bb = ichop(B, T, G);\n  mappar (int i = 0 to len(S)) {\n    twice(Ab[i], Bb[i]);\n  }\n}\nvoid task twice::leaf(in int A[N], out int B[N]) {\n  for (int i = 0; i < N; i++) B[i] = A[i] + A[i];\n}\n",
+    ),
+    (
+        "lists.map",
+        b"mapping 1; entry top(N = 6, M = 7); instance top = twice::inner @ host { tunable S = [0, 3]; tunable E = [4, 6]; tunable T = [0, 4]; tunable G = [4, 7]; call twice -> low; } instance low = twice::leaf @ core { }",
+    ),
+    ("6.txt", b"array A int [6]\n1 2 3 4 5 6\n"),
+    (
+        "fold.sq",
+        b"void task fold::inner(inout int A[N]) {\n  rev(A, A);\n}\nvoid task rev::leaf(in int X[N], inout int Y[N]) {\n  for (int i = 0; i < N; i++) Y[i] += X[N - 1 - i];\n}\n",
+    ),
+    (
+        "fold.map",
+        b"mapping 1; entry top(N = 3); instance top = fold::inner @ host { call rev -> low; } instance low = rev::leaf @ host { }",
+    ),
+    (
+        "total.sq",
+        b"void task total::inner(in int A[N], inout int S[1]) {\n  blkset Ab = rchop(A, 2);\n  mapreduce (int i = 0 to N / 2) reduce (+, S) {\n    total(Ab[i], S);\n  }\n}\nvoid task total::leaf(in int A[N], inout int S[1]) {\n  for (int i = 0; i < N; i++) S[0] += A[i];\n}\n",
+    ),
+    (
+        "total.map",
+        b"mapping 1; entry top(N = 8); instance top = total::inner @ host { call total -> low; } instance low = total::leaf @ core { }",
+    ),
+    (
+        "sum.txt",
+        b"array A int [8]\n1 2 3 4 5 6 7 8\narray S int [1]\n5\n",
+    ),
+    (
+        "least.sq",
+        b"void task total::inner(in int A[N], inout int S[1]) {\n  blkset Ab = rchop(A, 2);\n  mapreduce (int i = 0 to N / 2) reduce (min, S) {\n    total(Ab[i], S);\n  }\n}\nvoid task total::leaf(in int A[N], inout int S[1]) {\n  for (int i = 0; i < N; i++) S[0] = min(S[0], A[i]);\n}\n",
+    ),
+    (
+        "least.map",
+        b"mapping 1; entry top(N = 4); instance top = total::inner @ host { call total -> low; } instance low = total::leaf @ core { }",
+    ),
+    (
+        "least.txt",
+        b"array A int [4]\n9 7 8 6\narray S int [1]\n100\n",
+    ),
+    (
+        "long.sq",
+        b"void task q::leaf(in long A[N], out long B[N]) {\n  B[0] = A[0] / -1 + (1 << 64);\n}\n",
+    ),
+    (
+        "long.map",
+        b"mapping 1; entry top(N = 1); instance top = q::leaf @ host { }",
+    ),
+    ("long.txt", b"array A long [1]\n-9223372036854775808\n"),
+    (
+        "index.sq",
+        b"void task x::leaf(out int B[N]) {\n  B[N] = 1;\n}\n",
+    ),
+    (
+        "index.map",
+        b"mapping 1; entry top(N = 1); instance top = x::leaf @ host { }",
+    ),
+    ("empty.txt", b""),
     ("32.mach", b"machine 1; level host { capacity 32; }"),
     ("31.mach", b"machine 1; level host { capacity 31; }"),
     ("16.mach", b"machine 1; level host { capacity 16; }"),
@@ -245,6 +323,66 @@ const CASES: &[Case<'static>] = &[
         err: b"refused data Short 3:1 A\n",
     },
     Case {
+        words: &["eval", "inc.sq", "inc.map", "16.mach", "255.txt"],
+        status: Status::Done,
+        out: b"array B byte [1]\n0\n",
+        err: b"",
+    },
+    Case {
+        words: &["eval", "inc.sq", "inc.map", "16.mach", "300.txt"],
+        status: Status::Refused,
+        out: b"",
+        err: b"refused data Range 2:1 A\n",
+    },
+    Case {
+        words: &["eval", "two.sq", "10.map", "two.mach", "10.txt"],
+        status: Status::Done,
+        out: b"array B int [10]\n2 4 6 8 10 12 14 16 18 20\n",
+        err: b"",
+    },
+    Case {
+        words: &["eval", "whole.sq", "10.map", "two.mach", "10.txt"],
+        status: Status::Done,
+        out: b"array B int [10]\n2 4 6 8 10 12 14 16 0 0\n",
+        err: b"",
+    },
+    Case {
+        words: &["eval", "lists.sq", "lists.map", "two.mach", "6.txt"],
+        status: Status::Done,
+        out: b"array B int [7]\n2 4 6 8 8 10 12\n",
+        err: b"",
+    },
+    Case {
+        words: &["eval", "fold.sq", "fold.map", "32.mach", "3.txt"],
+        status: Status::Done,
+        out: b"array A int [3]\n4 4 4\n",
+        err: b"",
+    },
+    Case {
+        words: &["eval", "total.sq", "total.map", "two.mach", "sum.txt"],
+        status: Status::Done,
+        out: b"array S int [1]\n41\n",
+        err: b"",
+    },
+    Case {
+        words: &["eval", "least.sq", "least.map", "two.mach", "least.txt"],
+        status: Status::Done,
+        out: b"array S int [1]\n6\n",
+        err: b"",
+    },
+    Case {
+        words: &["eval", "long.sq", "long.map", "16.mach", "long.txt"],
+        status: Status::Done,
+        out: b"array B long [1]\n-9223372036854775807\n",
+        err: b"",
+    },
+    Case {
+        words: &["eval", "index.sq", "index.map", "16.mach", "empty.txt"],
+        status: Status::Trapped,
+        out: b"",
+        err: b"trapped Index 2:3 path -\n",
+    },
+    Case {
         words: &["eval", "two.sq", "8.map", "none.mach", "8.txt"],
         status: Status::Absent,
         out: b"",
@@ -387,6 +525,44 @@ fn failing_devices(rt: HostRuntime) -> Result<(), Fail> {
             assert_eq!(rt; out.written(), wanted.1);
             assert_eq!(rt; err.written(), wanted.2);
         }
+    }
+    Ok(())
+}
+
+// The file of each read: all are read to their ends, in the order of the phases.
+const READS: &[&[u8]] = &[
+    b"fault two.sq\n",
+    b"fault two.sq\n",
+    b"fault two.mach\n",
+    b"fault two.mach\n",
+    b"fault 8.map\n",
+    b"fault 8.map\n",
+    b"fault 8.txt\n",
+    b"fault 8.txt\n",
+];
+
+#[test]
+fn a_failing_read_names_its_file(rt: HostRuntime) -> Result<(), Fail> {
+    let words = words_of(&rt, &["eval", "two.sq", "8.map", "two.mach", "8.txt"])?;
+    let mut read = 0u64;
+    for line in READS {
+        read = read.saturating_add(1);
+        let mut files = files(&rt)?;
+        files.fail_at(read);
+        let mut out = MemSink::new(rt.alloc(), 200)?;
+        let mut err = MemSink::new(rt.alloc(), 200)?;
+        let mut bank = RawBank::new();
+        let status = sq_top(
+            rt.alloc(),
+            &words,
+            &mut files,
+            &mut out,
+            &mut err,
+            &mut bank,
+        );
+        assert_eq!(rt; status, Status::FileFault);
+        assert!(rt; out.written().is_empty());
+        assert_eq!(rt; err.written(), *line);
     }
     Ok(())
 }

@@ -8,10 +8,10 @@ use Rattle.sq_text.specs.declared.place.Span.{Span}
 use Rattle.sq_rect.specs.declared.view.View.{View}
 use Rattle.sq_rect.specs.Extents.{product, row_major}
 use Rattle.sq_leaf.specs.Views.{shape_of}
-use Rattle.sq_spec.specs.declared.args.Argument.{Argument}
-use Rattle.sq_spec.specs.declared.begun.Reached.{Reached}
-use Rattle.sq_spec.specs.declared.begun.Begun.{Begun}
-use Rattle.sq_spec.specs.Calls.{lengths}
+use Rattle.sq_blocks.specs.declared.argument.Argument.{Argument}
+use Rattle.sq_spec.specs.declared.statement.CallInstance.{CallInstance}
+use Rattle.sq_spec.specs.declared.statement.Statement.{Statement}
+use Rattle.sq_blocks.specs.Arguments.{lengths}
 use Rattle.sq_spec.specs.declared.body.Body.{Body}
 use Rattle.sq_spec.specs.declared.body.Body.TheVariants as body
 use Rattle.sq_flat.specs.declared.form.FormCode.{FormCode}
@@ -137,7 +137,7 @@ blocks_fit outer inner k (suc i) (x ∷ args) a h there =
 
 -- ---- rows
 
-row_fits : (forms : List FormCode) (vs : List View) (r : Reached) (o : Option FormCode) → slice_get forms r.form ≡ o → reaches vs r o ≡ true → RowFits forms vs r
+row_fits : (forms : List FormCode) (vs : List View) (r : CallInstance) (o : Option FormCode) → slice_get forms r.form ≡ o → reaches vs r o ≡ true → RowFits forms vs r
 row_fits forms vs r None is h = cc
 row_fits forms vs r (Some f) is h =
     let blocks = second (nat_lt (length r.args) 4294967296) (are_blocks vs f.views 0 r.args) h in
@@ -150,10 +150,10 @@ row_fits forms vs r (Some f) is h =
       few = ltb-true (length r.args) 4294967296 (first (nat_lt (length r.args) 4294967296) (are_blocks vs f.views 0 r.args) h);
     }
 
-pub row_ready : (forms : List FormCode) (vs : List View) (r : Reached) → reaches vs r (slice_get forms r.form) ≡ true → RowFits forms vs r
+pub row_ready : (forms : List FormCode) (vs : List View) (r : CallInstance) → reaches vs r (slice_get forms r.form) ≡ true → RowFits forms vs r
 row_ready forms vs r h = row_fits forms vs r (slice_get forms r.form) refl h
 
-all_rows_fit : (forms : List FormCode) (vs : List View) (rows : List Reached) → rows_fit forms vs rows ≡ true → RowsFit forms vs rows
+all_rows_fit : (forms : List FormCode) (vs : List View) (rows : List CallInstance) → rows_fit forms vs rows ≡ true → RowsFit forms vs rows
 all_rows_fit forms vs [] h = tt
 all_rows_fit forms vs (r ∷ rows) h = (
   row_fits forms vs r (slice_get forms r.form) refl (first (reaches vs r (slice_get forms r.form)) (rows_fit forms vs rows) h),
@@ -186,13 +186,13 @@ and_assoc : (a b c : Bool) → (a && (b && c)) ≡ ((a && b) && c)
 and_assoc true b c = refl
 and_assoc false b c = refl
 
-rows_append : (forms : List FormCode) (vs : List View) (xs ys : List Reached) → rows_fit forms vs (xs ++ ys) ≡ (rows_fit forms vs xs && rows_fit forms vs ys)
+rows_append : (forms : List FormCode) (vs : List View) (xs ys : List CallInstance) → rows_fit forms vs (xs ++ ys) ≡ (rows_fit forms vs xs && rows_fit forms vs ys)
 rows_append forms vs [] ys = refl
 rows_append forms vs (r ∷ xs) ys =
     ap (λ (b : Bool). reaches vs r (slice_get forms r.form) && b) (rows_append forms vs xs ys)
     ∙ and_assoc (reaches vs r (slice_get forms r.form)) (rows_fit forms vs xs) (rows_fit forms vs ys)
 
 -- a statement, and those behind it
-pub rows_split : (forms : List FormCode) (vs : List View) (list rest : List Begun) (s : Begun) → list ≡ s ∷ rest
+pub rows_split : (forms : List FormCode) (vs : List View) (list rest : List Statement) (s : Statement) → list ≡ s ∷ rest
     → rows_fit forms vs (rows_in list) ≡ (rows_fit forms vs (rows_of s) && rows_fit forms vs (rows_in rest))
-rows_split forms vs list rest s is = ap (λ (l : List Begun). rows_fit forms vs (rows_in l)) is ∙ rows_append forms vs (rows_of s) (rows_in rest)
+rows_split forms vs list rest s is = ap (λ (l : List Statement). rows_fit forms vs (rows_in l)) is ∙ rows_append forms vs (rows_of s) (rows_in rest)

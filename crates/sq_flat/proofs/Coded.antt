@@ -11,21 +11,21 @@ use Rattle.sq_ast.specs.declared.program.Variant.{Variant}
 use Rattle.sq_mapfile.specs.declared.mapping.Instance.{Instance}
 use Rattle.sq_mapfile.specs.declared.mapping.Mapping.{Mapping}
 use Rattle.sq_leaf.specs.Source.{Arrays}
-use Rattle.sq_spec.specs.declared.begun.Reached.{Reached}
+use Rattle.sq_spec.specs.declared.statement.CallInstance.{CallInstance}
 use Rattle.sq_spec.specs.declared.body.FormBody.{FormBody}
-use Rattle.sq_spec.specs.declared.form.Found.{Found}
-use Rattle.sq_spec.specs.Steps.{Forms, Key}
+use Rattle.sq_forms.specs.declared.form.Found.{Found}
+use Rattle.sq_forms.specs.Steps.{Forms, Key}
 use Rattle.sq_spec.specs.Bodies.{body_of, found_body, numbered_work}
 use Rattle.sq_spec.specs.Numbered.{called_entry, entry_call, TablesMeanProgram}
-use Rattle.sq_spec.specs.Reached.{AsManyForms, FormsAreFound}
+use Rattle.sq_form_laws.specs.Reached.{AsManyForms, FormsAreFound}
 use Rattle.sq_spec.specs.Walked.{IsWalked}
-use Rattle.sq_spec.specs.declared.form.Form.{Form}
+use Rattle.sq_forms.specs.declared.form.Form.{Form}
 use Rattle.sq_spec.specs.declared.resolved.Resolved.{Resolved}
 use Rattle.sq_spec.specs.Works.{entry_arguments, flat, whole, work_of}
 use Rattle.sq_blocks.specs.Spans.{with_front, wholes}
 use Rattle.sq_text.specs.declared.place.Span.{Span}
-use Rattle.sq_spec.specs.InTurn.{IsRaceFree, serial}
-use Rattle.sq_spec.specs.Work.{Work, Call}
+use Rattle.sq_work.specs.InTurn.{IsRaceFree, serial}
+use Rattle.sq_work.specs.Work.{Work, Call}
 use Rattle.sq_flat.specs.declared.form.End.{End}
 use Rattle.sq_flat.specs.declared.form.FormCode.{FormCode}
 use Rattle.sq_flat.specs.Works.{body_in, bodies_of, form_work, AreCodes}
@@ -71,12 +71,12 @@ all_bodies variants instances found codes many are = record { many = many; bodie
 -- ---- the entry
 
 -- calling the first of the codes is calling the entry
-pub entry_work_is : (variants : List Variant) (mapping : Mapping) (found : Forms) (codes : List FormCode) (r : Reached) (e : Key × Found) → AreCodes variants mapping.instances found codes
+pub entry_work_is : (variants : List Variant) (mapping : Mapping) (found : Forms) (codes : List FormCode) (r : CallInstance) (e : Key × Found) → AreCodes variants mapping.instances found codes
     → r ≡ record { form = 0; args = entry_args variants mapping found } → slice_get found 0 ≡ Some e
     → Call r.form false r.args (form_work codes (length codes) r.form) ≡ entry_call variants mapping found
 entry_work_is variants mapping found codes r e are is there =
     let work : Work = numbered_work (body_of variants mapping.instances found) (length found) 0 in
-    ap (λ (x : Reached). Call x.form false x.args (form_work codes (length codes) x.form)) is
+    ap (λ (x : CallInstance). Call x.form false x.args (form_work codes (length codes) x.form)) is
     ∙ (ap₂ (λ (b : ℕ → FormBody) (n : ℕ). Call 0 false (entry_args variants mapping found) (numbered_work b n 0)) are.bodies are.many
     ∙ subst (λ (o : Option (Key × Found)). Call 0 false (entry_arguments (params_in variants mapping) 0 (extents_in o)) work ≡ called_entry variants mapping found o) (sym there) refl)
 
@@ -84,7 +84,7 @@ first_there : {X : Type 0} (xs : List X) → 0 < length xs → (x : X) × (slice
 first_there [] some = absurd (omega (arith, some))
 first_there (x ∷ xs) some = (x, refl)
 
-pub entry_evaluates : (r : Resolved) (codes : List FormCode) (its : Reached) (a new : Stored) (result : Result (Unit {0}) End) (s : Arrays) → TablesMeanProgram
+pub entry_evaluates : (r : Resolved) (codes : List FormCode) (its : CallInstance) (a new : Stored) (result : Result (Unit {0}) End) (s : Arrays) → TablesMeanProgram
     → IsRaceFree (work_of r.typed.now.tasks r.mapping.now r.found.entries) → AreCodes r.typed.now.tasks r.mapping.now.instances r.found.entries codes → 0 < length codes
     → its ≡ record { form = 0; args = entry_args r.typed.now.tasks r.mapping.now r.found.entries }
     → HoldsInside a.shapes new result (serial (Call its.form false its.args (form_work codes (length codes) its.form)) s)

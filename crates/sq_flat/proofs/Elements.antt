@@ -7,8 +7,8 @@ use Rattle.std.proofs.Math.Seq.{take-append_seam, drop-append-add}
 use Rattle.sq_text.specs.declared.place.Span.{Span}
 use Rattle.sq_rect.specs.Extents.{product}
 use Rattle.sq_rect.specs.Placing.{IsIn}
-use Rattle.sq_spec.specs.Calls.{lengths}
-use Rattle.sq_spec.specs.Meaning.{in_array}
+use Rattle.sq_blocks.specs.Arguments.{lengths}
+use Rattle.sq_work.specs.Meaning.{in_array}
 use Rattle.sq_rect.specs.Blocks.{extent}
 use Rattle.sq_flat.specs.Blocks.{Fits, piece, element, block_bytes}
 

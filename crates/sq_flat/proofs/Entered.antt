@@ -16,9 +16,10 @@ use Rattle.sq_rect.specs.Placing.{IsIn, offset}
 use Rattle.sq_leaf.specs.declared.shape.Shape.{Shape}
 use Rattle.sq_leaf.specs.Source.{Arrays}
 use Rattle.sq_leaf.specs.Views.{Shows}
-use Rattle.sq_spec.specs.declared.args.Argument.{Argument}
-use Rattle.sq_spec.specs.Calls.{lengths}
-use Rattle.sq_spec.specs.Meaning.{is_read, is_inside, in_array, block_value, param_value, entered}
+use Rattle.sq_blocks.specs.declared.argument.Argument.{Argument}
+use Rattle.sq_blocks.specs.Arguments.{lengths}
+use Rattle.sq_work.specs.Meaning.{is_inside, in_array, block_value, param_value, at_entry}
+use Rattle.sq_ast.specs.Modes.{is_read}
 use Rattle.sq_flat.specs.Blocks.{Fits, element, block_bytes}
 use Rattle.sq_flat.specs.Memory.{size_of, total, lined, size, bytes_of, IsPlaced, ArePlaced, zeros, block_in, param_bytes, start_bytes, ArgsFit}
 use Rattle.sq_flat.proofs.Elements.{element_block, length_block}
@@ -198,7 +199,7 @@ have_sizes outer inner bytes args placed fit = record {
 
 -- the memory shows the callee's arrays at its start
 pub entered_shown : (outer : List View) (shapes : List Shape) (bytes : List ℕ) (args : List Argument) (s : Arrays) → ArePlaced outer bytes → ArgsFit outer (lined 0 shapes) args → Shows outer bytes s
-    → Shows (lined 0 shapes) (start_bytes outer bytes args 0 (lined 0 shapes)) (entered args s)
+    → Shows (lined 0 shapes) (start_bytes outer bytes args 0 (lined 0 shapes)) (at_entry args s)
 entered_shown outer shapes bytes args s placed fit shows =
     let have = have_sizes outer (lined 0 shapes) bytes args placed fit in
     let memory : List ℕ = start_bytes outer bytes args 0 (lined 0 shapes) in

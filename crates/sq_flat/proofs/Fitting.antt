@@ -3,12 +3,12 @@ use Rattle.std.proofs.Common.{arith, suc, ◌+◌, ◌*◌, [], ◌∷◌, ◌�
 use Rattle.std.proofs.lemmas.Option.{slice_get-get_or}
 use Rattle.std.proofs.lemmas.List.{get_or_past}
 use Rattle.sq_rect.specs.declared.view.View.{View}
-use Rattle.sq_spec.specs.declared.args.Argument.{Argument}
+use Rattle.sq_blocks.specs.declared.argument.Argument.{Argument}
 use Rattle.sq_flat.specs.Blocks.{Fits}
 use Rattle.sq_num.specs.declared.Elem.{Elem}
 use Rattle.sq_num.specs.Elements.{width}
 use Rattle.sq_rect.specs.Extents.{product}
-use Rattle.sq_spec.specs.Calls.{lengths}
+use Rattle.sq_blocks.specs.Arguments.{lengths}
 use Rattle.sq_flat.specs.Memory.{ArgFits, FitFrom, ArePlaced, size, bytes_of}
 use Rattle.sq_flat.proofs.Standing.{length_bytes}
 

@@ -16,9 +16,9 @@ use Rattle.sq_leaf.specs.declared.shape.Shape.{Shape}
 use Rattle.sq_leaf.specs.Source.{Arrays}
 use Rattle.sq_leaf.specs.Spots.{load}
 use Rattle.sq_leaf.specs.Views.{Shows, spot_of, shape_of}
-use Rattle.sq_spec.specs.declared.begun.Reduction.{Reduction}
-use Rattle.sq_spec.specs.Meaning.{cleared}
-use Rattle.sq_spec.specs.InTurn.{combined}
+use Rattle.sq_work.specs.declared.reduction.Reduction.{Reduction}
+use Rattle.sq_work.specs.Meaning.{with_identity}
+use Rattle.sq_work.specs.InTurn.{with_combined}
 use Rattle.sq_flat.specs.Blocks.{element}
 use Rattle.sq_flat.specs.Memory.{lined, size, bytes_of, ArePlaced, put_array, cleared_bytes, combined_bytes}
 use Rattle.sq_flat.specs.Ready.{IsLine}
@@ -60,7 +60,7 @@ identity_value : (op : RedOp) (e : Elem) → value e (cell e (identity op e)) �
 identity_value op e = value-cell e (identity op e) ∙ cut-value e (identity op e) (unit_fits op e)
 
 cleared_line : (shapes : List Shape) (bytes : List ℕ) (v : View) (r : Reduction) (s : Arrays) → ArePlaced (lined 0 shapes) bytes → slice_get (lined 0 shapes) r.array ≡ Some v → r.elem ≡ v.elem
-    → Shows (lined 0 shapes) bytes s → Shows (lined 0 shapes) (cleared_bytes r.op v bytes) (cleared r s)
+    → Shows (lined 0 shapes) bytes s → Shows (lined 0 shapes) (cleared_bytes r.op v bytes) (with_identity r s)
 cleared_line shapes bytes v r s placed there same shows =
     let array : List ℕ = cells v.elem (replicate (product v.extents) (identity r.op v.elem)) in
     record {
@@ -71,9 +71,9 @@ cleared_line shapes bytes v r s placed there same shows =
     }
 
 pub cleared_shows : (vs : List View) (bytes : List ℕ) (v : View) (r : Reduction) (s : Arrays) → IsLine vs → ArePlaced vs bytes → slice_get vs r.array ≡ Some v → r.elem ≡ v.elem
-    → Shows vs bytes s → Shows vs (cleared_bytes r.op v bytes) (cleared r s)
+    → Shows vs bytes s → Shows vs (cleared_bytes r.op v bytes) (with_identity r s)
 cleared_shows vs bytes v r s line placed there same shows =
-    subst (λ (us : List View). Shows us (cleared_bytes r.op v bytes) (cleared r s)) (sym line.lined)
+    subst (λ (us : List View). Shows us (cleared_bytes r.op v bytes) (with_identity r s)) (sym line.lined)
     (cleared_line (map shape_of vs) bytes v r s (subst (λ (us : List View). ArePlaced us bytes) line.lined placed)
     (subst (λ (us : List View). slice_get us r.array ≡ Some v) line.lined there) same (subst (λ (us : List View). Shows us bytes s) line.lined shows))
 
@@ -88,7 +88,7 @@ record Kept (v : View) (k : ℕ) (before : List ℕ) (s : Arrays) : Type 0 where
   shown : (cs : List ℕ) → IsIn v.extents cs → value v.elem (element (width v.elem) v.extents cs before) ≡ s k cs
 
 combined_line : (shapes : List Shape) (bytes before : List ℕ) (v : View) (r : Reduction) (s own : Arrays) → ArePlaced (lined 0 shapes) bytes → slice_get (lined 0 shapes) r.array ≡ Some v → r.elem ≡ v.elem
-    → Kept v r.array before s → Shows (lined 0 shapes) bytes own → Shows (lined 0 shapes) (combined_bytes r.op v before bytes) (combined r s own)
+    → Kept v r.array before s → Shows (lined 0 shapes) bytes own → Shows (lined 0 shapes) (combined_bytes r.op v before bytes) (with_combined r s own)
 combined_line shapes bytes before v r s own placed there same kept shows =
     let from : List ℕ = bytes_of v bytes in
     let from_long : length from ≡ size v = length_bytes v bytes (placed.each r.array v there) in
@@ -118,8 +118,8 @@ kept_of v k bytes s vs placed there shows = record {
 }
 
 pub combined_shows : (vs : List View) (old bytes : List ℕ) (v : View) (r : Reduction) (s own : Arrays) → IsLine vs → ArePlaced vs old → ArePlaced vs bytes → slice_get vs r.array ≡ Some v → r.elem ≡ v.elem
-    → Shows vs old s → Shows vs bytes own → Shows vs (combined_bytes r.op v (bytes_of v old) bytes) (combined r s own)
+    → Shows vs old s → Shows vs bytes own → Shows vs (combined_bytes r.op v (bytes_of v old) bytes) (with_combined r s own)
 combined_shows vs old bytes v r s own line was placed there same before shows =
-    subst (λ (us : List View). Shows us (combined_bytes r.op v (bytes_of v old) bytes) (combined r s own)) (sym line.lined)
+    subst (λ (us : List View). Shows us (combined_bytes r.op v (bytes_of v old) bytes) (with_combined r s own)) (sym line.lined)
     (combined_line (map shape_of vs) bytes (bytes_of v old) v r s own (subst (λ (us : List View). ArePlaced us bytes) line.lined placed)
     (subst (λ (us : List View). slice_get us r.array ≡ Some v) line.lined there) same (kept_of v r.array old s vs was there before) (subst (λ (us : List View). Shows us bytes own) line.lined shows))

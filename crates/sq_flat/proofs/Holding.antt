@@ -10,7 +10,7 @@ use Rattle.sq_leaf.specs.declared.shape.Shape.{Shape}
 use Rattle.sq_leaf.specs.Source.{Arrays}
 use Rattle.sq_leaf.specs.Spots.{put_at}
 use Rattle.sq_leaf.specs.Views.{Shows, shape_of}
-use Rattle.sq_spec.specs.Meaning.{Outcome}
+use Rattle.sq_work.specs.Meaning.{Outcome}
 use Rattle.sq_flat.specs.declared.form.End.{End}
 use Rattle.sq_flat.specs.declared.form.End.TheVariants.{Trapped, NoMemory}
 use Rattle.sq_flat.specs.Blocks.{element}

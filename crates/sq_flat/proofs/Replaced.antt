@@ -9,8 +9,8 @@ use borrow.Rule.Slice.PartMut.{same_len_mid}
 use Rattle.sq_text.specs.declared.place.Span.{Span}
 use Rattle.sq_rect.specs.Extents.{product}
 use Rattle.sq_rect.specs.Placing.{IsIn}
-use Rattle.sq_spec.specs.Calls.{lengths}
-use Rattle.sq_spec.specs.Meaning.{in_block, covers}
+use Rattle.sq_blocks.specs.Arguments.{lengths}
+use Rattle.sq_work.specs.Meaning.{in_block, covers}
 use Rattle.sq_rect.specs.Blocks.{extent}
 use Rattle.sq_flat.specs.Blocks.{Fits, piece, element, put_piece, with_pieces, with_bytes}
 use Rattle.sq_flat.proofs.Elements.{length_piece, piece_whole}

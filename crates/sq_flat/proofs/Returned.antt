@@ -15,9 +15,10 @@ use Rattle.sq_leaf.specs.declared.shape.Shape.{Shape}
 use Rattle.sq_leaf.specs.Source.{Arrays}
 use Rattle.sq_leaf.specs.Spots.{load}
 use Rattle.sq_leaf.specs.Views.{Shows, spot_of}
-use Rattle.sq_spec.specs.declared.args.Argument.{Argument}
-use Rattle.sq_spec.specs.Calls.{lengths, is_written}
-use Rattle.sq_spec.specs.Meaning.{covers, in_block, with_block, returned}
+use Rattle.sq_blocks.specs.declared.argument.Argument.{Argument}
+use Rattle.sq_ast.specs.Modes.{is_written}
+use Rattle.sq_blocks.specs.Arguments.{lengths}
+use Rattle.sq_work.specs.Meaning.{covers, in_block, with_block, at_return}
 use Rattle.sq_flat.specs.Blocks.{Fits, element, with_bytes}
 use Rattle.sq_flat.specs.Memory.{size_of, lined, size, bytes_of, IsPlaced, ArePlaced, ArgFits, FitFrom, put_array, put_param, end_bytes}
 use Rattle.sq_flat.proofs.Replaced.{element_in, element_out, length_with}
@@ -213,16 +214,16 @@ one_put false shapes inner k a memory bytes t s p e = record { placed = p.outer_
 
 pub end_shown : (shapes : List Shape) (inner : List View) (k : ℕ) (args : List Argument) (memory bytes : List ℕ) (t s : Arrays) → ArePlaced (lined 0 shapes) bytes → ArePlaced inner memory
     → FitFrom (lined 0 shapes) inner k args → Shows (lined 0 shapes) bytes s → Shows inner memory t
-    → IsPut shapes bytes (end_bytes (lined 0 shapes) inner memory k args bytes) (returned k args t s)
+    → IsPut shapes bytes (end_bytes (lined 0 shapes) inner memory k args bytes) (at_return k args t s)
 end_shown shapes inner k [] memory bytes t s outer_placed inner_placed fit outer_shows inner_shows = record { placed = outer_placed; long = refl; shows = outer_shows }
 end_shown shapes inner k (a ∷ args) memory bytes t s outer_placed inner_placed fit outer_shows inner_shows =
     let next : suc k ≡ k + 1 = omega arith in
     let later = end_shown shapes inner (k + 1) args memory bytes t s outer_placed inner_placed (fit_later (lined 0 shapes) inner k (a ∷ args) a args refl fit) outer_shows inner_shows in
     let this : ArgFits (lined 0 shapes) inner k a = fit_first (lined 0 shapes) inner k (a ∷ args) a args refl fit in
-    let put = one_put (is_written a.mode) shapes inner k a memory (end_bytes (lined 0 shapes) inner memory (k + 1) args bytes) t (returned (k + 1) args t s)
+    let put = one_put (is_written a.mode) shapes inner k a memory (end_bytes (lined 0 shapes) inner memory (k + 1) args bytes) t (at_return (k + 1) args t s)
     (record { outer_placed = later.placed; inner_placed = inner_placed; fit = this; outer_shows = later.shows; inner_shows = inner_shows }) refl in
     record {
       placed = put.placed;
       long = put.long ∙ later.long;
-      shows = subst (λ (j : ℕ). Shows (lined 0 shapes) (end_bytes (lined 0 shapes) inner memory k (a ∷ args) bytes) (with_block a (t k) (returned j args t s))) (sym next) put.shows;
+      shows = subst (λ (j : ℕ). Shows (lined 0 shapes) (end_bytes (lined 0 shapes) inner memory k (a ∷ args) bytes) (with_block a (t k) (at_return j args t s))) (sym next) put.shows;
     }

@@ -6,7 +6,7 @@ use Rattle.std.proofs.Math.Nat.{mul-le-mul_right}
 use Rattle.sq_text.specs.declared.place.Span.{Span}
 use Rattle.sq_rect.specs.Extents.{product}
 use Rattle.sq_flat.specs.Blocks.{Fits, piece, block_bytes, pieces_bytes, with_pieces, with_bytes, pieces_put}
-use Rattle.sq_spec.specs.Calls.{lengths}
+use Rattle.sq_blocks.specs.Arguments.{lengths}
 use borrow.Rule.Slice.PartMut.{put_mid}
 
 pub next_piece : (f : ℕ → List ℕ) (old new end : List ℕ) (x hi : ℕ) → x < hi → new ≡ old ++ f x → old ++ flat_map f (range_with_len x (hi - x)) ≡ end

@@ -5,7 +5,7 @@ use Rattle.std.specs.List.{flat_map}
 use Rattle.sq_text.specs.declared.place.Span.{Span}
 use Rattle.sq_rect.specs.Extents.{product}
 use Rattle.sq_rect.specs.Blocks.{extent}
-use Rattle.sq_spec.specs.Calls.{lengths}
+use Rattle.sq_blocks.specs.Arguments.{lengths}
 use Rattle.sq_rect.specs.Rows.{numbers_in}
 
 -- the k-th piece of so many bytes

@@ -7,9 +7,9 @@ use Rattle.sq_rect.specs.declared.view.View.{View}
 use Rattle.sq_rect.specs.Extents.{product, row_major}
 use Rattle.sq_leaf.specs.Line.{are_in_line}
 use Rattle.sq_leaf.specs.Views.{shape_of}
-use Rattle.sq_spec.specs.declared.args.Argument.{Argument}
-use Rattle.sq_spec.specs.declared.begun.Reached.{Reached}
-use Rattle.sq_spec.specs.Calls.{lengths}
+use Rattle.sq_blocks.specs.declared.argument.Argument.{Argument}
+use Rattle.sq_spec.specs.declared.statement.CallInstance.{CallInstance}
+use Rattle.sq_blocks.specs.Arguments.{lengths}
 use Rattle.sq_spec.specs.declared.body.Body.{Body}
 use Rattle.sq_spec.specs.declared.body.Body.TheVariants as body
 use Rattle.sq_flat.specs.declared.form.FormCode.{FormCode}
@@ -49,11 +49,11 @@ are_blocks outer inner k (a ∷ args) = is_block a (slice_get outer a.array) (sl
 
 -- ---- rows
 
-abbrev pub reaches : List View → Reached → Option FormCode → Bool
+abbrev pub reaches : List View → CallInstance → Option FormCode → Bool
 reaches vs r None = false
 reaches vs r (Some f) = nat_lt (length r.args) 4294967296 && are_blocks vs f.views 0 r.args
 
-abbrev pub rows_fit : List FormCode → List View → List Reached → Bool
+abbrev pub rows_fit : List FormCode → List View → List CallInstance → Bool
 rows_fit forms vs [] = true
 rows_fit forms vs (r ∷ rows) = reaches vs r (slice_get forms r.form) && rows_fit forms vs rows
 

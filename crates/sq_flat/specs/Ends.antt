@@ -1,7 +1,7 @@
 -- How an evaluation ends.
 use Rattle.std.specs.Prelude.{◌≡◌, List, Result, Ok, Err, reverse}
 use Rattle.sq_leaf.specs.declared.shape.Shape.{Shape}
-use Rattle.sq_spec.specs.Meaning.{Outcome}
+use Rattle.sq_work.specs.Meaning.{Outcome}
 use Rattle.sq_flat.specs.declared.form.End.{End}
 use Rattle.sq_flat.specs.declared.form.End.TheVariants as inside
 use Rattle.sq_flat.specs.declared.flat.FlatEnd.{FlatEnd}

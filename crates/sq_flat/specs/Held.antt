@@ -10,10 +10,10 @@ use Rattle.sq_leaf.specs.declared.shape.Shape.{Shape}
 use Rattle.sq_leaf.specs.Source.{Arrays}
 use Rattle.sq_leaf.specs.Spots.{put_at}
 use Rattle.sq_leaf.specs.Views.{shape_of}
-use Rattle.sq_spec.specs.declared.args.Argument.{Argument}
-use Rattle.sq_spec.specs.declared.form.Found.{Found}
-use Rattle.sq_spec.specs.Steps.{Forms, Key}
-use Rattle.sq_spec.specs.Resolving.{entry_params}
+use Rattle.sq_blocks.specs.declared.argument.Argument.{Argument}
+use Rattle.sq_forms.specs.declared.form.Found.{Found}
+use Rattle.sq_forms.specs.Steps.{Forms, Key}
+use Rattle.sq_forms.specs.Resolving.{entry_params}
 use Rattle.sq_spec.specs.Works.{param_shapes, entry_arguments}
 use Rattle.sq_flat.specs.Blocks.{element}
 use Rattle.sq_flat.specs.Memory.{size_of, total, zeros}

@@ -7,9 +7,10 @@ use Rattle.sq_kern.specs.Rows.{cells, reduced}
 use Rattle.sq_rect.specs.declared.view.View.{View}
 use Rattle.sq_rect.specs.Extents.{product, row_major}
 use Rattle.sq_leaf.specs.declared.shape.Shape.{Shape}
-use Rattle.sq_spec.specs.declared.args.Argument.{Argument}
-use Rattle.sq_spec.specs.Calls.{lengths, is_written}
-use Rattle.sq_spec.specs.Meaning.{is_read}
+use Rattle.sq_blocks.specs.declared.argument.Argument.{Argument}
+use Rattle.sq_ast.specs.Modes.{is_written}
+use Rattle.sq_blocks.specs.Arguments.{lengths}
+use Rattle.sq_ast.specs.Modes.{is_read}
 use Rattle.sq_flat.specs.Blocks.{Fits, block_bytes, with_bytes}
 
 -- how many bytes an array has

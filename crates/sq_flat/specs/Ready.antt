@@ -3,42 +3,42 @@ use Rattle.std.specs.Prelude.{◌≡◌, ℕ, ◌<◌, ◌^◌, true, List, [], 
 use Rattle.sq_rect.specs.declared.view.View.{View}
 use Rattle.sq_leaf.specs.Line.{are_in_line}
 use Rattle.sq_leaf.specs.Views.{shape_of}
-use Rattle.sq_spec.specs.declared.begun.Reached.{Reached}
-use Rattle.sq_spec.specs.declared.begun.Begun.{Begun}
-use Rattle.sq_spec.specs.declared.begun.Begun.TheOpen.{Begun-F}
-use Rattle.sq_spec.specs.declared.begun.Begun.TheFolds.{fold-Begun}
+use Rattle.sq_spec.specs.declared.statement.CallInstance.{CallInstance}
+use Rattle.sq_spec.specs.declared.statement.Statement.{Statement}
+use Rattle.sq_spec.specs.declared.statement.Statement.TheOpen.{Statement-F}
+use Rattle.sq_spec.specs.declared.statement.Statement.TheFolds.{fold-Statement}
 use Rattle.sq_spec.specs.declared.body.Body.{Body}
 use Rattle.sq_spec.specs.declared.body.Body.TheVariants as body
 use Rattle.sq_flat.specs.declared.form.FormCode.{FormCode}
 use Rattle.sq_flat.specs.Memory.{lined, total, AreSmall, ArgsFit}
 
-abbrev pub all_rows : List (List Reached) → List Reached
+abbrev pub all_rows : List (List CallInstance) → List CallInstance
 all_rows [] = []
 all_rows (rows ∷ rest) = rows ++ all_rows rest
 
-abbrev pub rows_step : Begun-F (List Reached) → List Reached
-rows_step (Begun-F.Call lower times) = times
-rows_step (Begun-F.Map place manner counts starts parts) = all_rows parts
+abbrev pub rows_step : Statement-F (List CallInstance) → List CallInstance
+rows_step (Statement-F.Call lower times) = times
+rows_step (Statement-F.Map place kind counts starts parts) = all_rows parts
 
 -- what the calls in a statement reach
-abbrev pub rows_of : Begun → List Reached
-rows_of = fold-Begun (List Reached) rows_step
+abbrev pub rows_of : Statement → List CallInstance
+rows_of = fold-Statement (List CallInstance) rows_step
 
-abbrev pub rows_in : List Begun → List Reached
+abbrev pub rows_in : List Statement → List CallInstance
 rows_in list = all_rows (map rows_of list)
 
 -- the form that is reached is there, and its parameters fit the arguments
-pub record RowFits (forms : List FormCode) (vs : List View) (r : Reached) : Type 0 where
+pub record RowFits (forms : List FormCode) (vs : List View) (r : CallInstance) : Type 0 where
   pub form : FormCode
   pub is : slice_get forms r.form ≡ Some form
   pub args : ArgsFit vs form.views r.args
   pub few : length r.args < 2 ^ 32
 
-abbrev pub RowsFit : List FormCode → List View → List Reached → Type 0
+abbrev pub RowsFit : List FormCode → List View → List CallInstance → Type 0
 RowsFit forms vs [] = Unit {0}
 RowsFit forms vs (r ∷ rows) = RowFits forms vs r × RowsFit forms vs rows
 
-abbrev pub AreReady : List FormCode → List View → List Begun → Type 0
+abbrev pub AreReady : List FormCode → List View → List Statement → Type 0
 AreReady forms vs list = RowsFit forms vs (rows_in list)
 
 -- its arrays stand one behind the other

@@ -5,29 +5,29 @@ use Rattle.sq_mapfile.specs.declared.mapping.Instance.{Instance}
 use Rattle.sq_rect.specs.declared.view.View.{View}
 use Rattle.sq_leaf.specs.Source.{Arrays}
 use Rattle.sq_leaf.specs.Views.{Shows, shape_of}
-use Rattle.sq_spec.specs.declared.begun.Begun.{Begun}
-use Rattle.sq_spec.specs.declared.begun.Manner.{Manner}
-use Rattle.sq_spec.specs.declared.begun.Manner.TheVariants as manner
+use Rattle.sq_spec.specs.declared.statement.Statement.{Statement}
+use Rattle.sq_spec.specs.declared.statement.LoopKind.{LoopKind}
+use Rattle.sq_spec.specs.declared.statement.LoopKind.TheVariants as loop_kind
 use Rattle.sq_spec.specs.declared.body.FormBody.{FormBody}
-use Rattle.sq_spec.specs.Steps.{Forms}
-use Rattle.sq_spec.specs.BegunWork.{all_work, begun_work}
+use Rattle.sq_forms.specs.Steps.{Forms}
+use Rattle.sq_spec.specs.StatementsWork.{all_work, statement_work}
 use Rattle.sq_spec.specs.Bodies.{no_body, body_of, numbered_work}
-use Rattle.sq_spec.specs.InTurn.{gathering}
-use Rattle.sq_spec.specs.Work.{Work}
-use Rattle.sq_spec.specs.Meaning.{Outcome}
+use Rattle.sq_work.specs.InTurn.{gathering}
+use Rattle.sq_work.specs.Work.{Work}
+use Rattle.sq_work.specs.Meaning.{Outcome}
 use Rattle.sq_flat.specs.declared.form.FormCode.{FormCode}
 use Rattle.sq_flat.specs.declared.form.End.{End}
 use Rattle.sq_flat.specs.declared.form.End.TheVariants.{Trapped, NoMemory}
 
 -- callee: the work of a form by its number; statements that are begun for the k-th time
-abbrev pub list_work : (ℕ → Work) → List Begun → ℕ → Work
-list_work callee list = all_work (map (begun_work callee) list)
+abbrev pub list_work : (ℕ → Work) → List Statement → ℕ → Work
+list_work callee list = all_work (map (statement_work callee) list)
 
 -- an iteration of a map, whose body does this
-abbrev pub turn_of : Manner → (Arrays → Outcome) → Arrays → Outcome
-turn_of manner.InTurn f = f
-turn_of manner.AtOnce f = f
-turn_of (manner.Gathering r) f = gathering r f
+abbrev pub turn_of : LoopKind → (Arrays → Outcome) → Arrays → Outcome
+turn_of loop_kind.Sequential f = f
+turn_of loop_kind.Parallel f = f
+turn_of (loop_kind.Reduction r) f = gathering r f
 
 -- ---- forms
 

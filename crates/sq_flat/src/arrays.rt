@@ -5,8 +5,8 @@ ghost use Rattle.sq_leaf.specs.Source.{Arrays as SpecArrays};
 ghost use Rattle.sq_leaf.specs.declared.shape.Shape.{Shape};
 ghost use Rattle.sq_leaf.specs.Spots.{put_at};
 ghost use Rattle.sq_leaf.specs.Views.{shape_of};
-ghost use Rattle.sq_spec.specs.InTurn.{serial};
-ghost use Rattle.sq_spec.specs.Work.{Call};
+ghost use Rattle.sq_work.specs.InTurn.{serial};
+ghost use Rattle.sq_work.specs.Work.{Call};
 ghost use Rattle.sq_flat.specs.Ends.{HoldsInside};
 ghost use Rattle.sq_flat.specs.Memory.{size_of};
 ghost use Rattle.sq_flat.specs.Held as spec;
@@ -19,7 +19,7 @@ use crate::form::{End, FormCode};
 use crate::memory::{bytes_of, push_zeros};
 use crate::ready::{are_lined, total};
 use sq_rect::{View, Views};
-use sq_spec::{Reached, Resolved};
+use sq_spec::{CallInstance, Resolved};
 use std::alloc::{AllocError, Global};
 use std::marker::Model;
 
@@ -131,7 +131,7 @@ impl Arrays {
         &mut self,
         alloc: Global,
         forms: &[FormCode],
-        entry: &Reached,
+        entry: &CallInstance,
     ) -> Result<(), End>
         ensures { (s : SpecArrays) → spec.Holds self.old.shapes self.old.bytes s → HoldsInside self.old.shapes self.new result (serial (Call entry.now.form false entry.now.args (form_work forms.now (length forms.now) entry.now.form)) s) }
     {

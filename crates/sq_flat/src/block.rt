@@ -2,7 +2,7 @@
 
 ghost use Rattle.std.specs.Prelude.{◌≡◌, ◌*◌, ◌-◌, ◌<◌, ◌≤◌, ◌++◌, length, ℕ, OnOk};
 ghost use Rattle.sq_rect.specs.Extents.{product};
-ghost use Rattle.sq_spec.specs.Calls.{lengths};
+ghost use Rattle.sq_blocks.specs.Arguments.{lengths};
 ghost use Rattle.sq_flat.specs.Blocks.{Fits, block_bytes, pieces_bytes, pieces_put, with_bytes};
 
 use sq_text::Span;

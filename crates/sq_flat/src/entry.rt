@@ -5,11 +5,11 @@ ghost use Rattle.sq_spec.specs.Works.{param_shapes, entry_arguments, whole as al
 ghost use Rattle.sq_flat.specs.Held as spec;
 
 use sq_ast::Param;
-use sq_blocks::whole;
+use sq_blocks::{Argument, whole};
+use sq_form_laws::laws::forms_are_those_found;
 use sq_leaf::Shape;
 use sq_rect::Dims;
-use sq_spec::laws::forms_are_those_found;
-use sq_spec::{Argument, Reached, Resolved};
+use sq_spec::{CallInstance, Resolved};
 use sqlite_items::{Items, at};
 use std::alloc::{AllocError, Global};
 
@@ -88,12 +88,12 @@ fn arguments(
 }
 
 /// The call of the entry with the arrays of its parameters.
-pub fn entry_call(alloc: Global, r: &Resolved<'_>) -> Result<Reached, AllocError>
+pub fn entry_call(alloc: Global, r: &Resolved<'_>) -> Result<CallInstance, AllocError>
     ensures { IfOk result (λ call. call ≡ record { form = 0; args = spec.entry_args r.now.typed.now.tasks r.now.mapping.now r.now.found.entries }) }
 {
     let Some(extents) = entry_extents(r) else {
         return Err(AllocError);
     };
     let args = arguments(alloc, r.entry_params(), extents)?;
-    Ok(Reached { form: 0, args })
+    Ok(CallInstance { form: 0, args })
 }

@@ -5,13 +5,13 @@ ghost use Rattle.sq_rect.specs.declared.view.View.{View};
 ghost use Rattle.sq_leaf.specs.Source.{Arrays};
 ghost use Rattle.sq_leaf.specs.Leaf.{leaf_value};
 ghost use Rattle.sq_leaf.specs.Line.{are_in_line};
-ghost use Rattle.sq_spec.specs.Meaning.{Outcome, in_turn, leaf_outcome, numbered};
-ghost use Rattle.sq_spec.specs.Work.{Call};
+ghost use Rattle.sq_work.specs.Meaning.{Outcome, in_turn, leaf_outcome, with_turn};
+ghost use Rattle.sq_work.specs.Work.{Call};
 ghost use Rattle.sq_leaf.specs.Views.{Shows, shape_of};
-ghost use Rattle.sq_spec.specs.InTurn.{gathering, serial};
+ghost use Rattle.sq_work.specs.InTurn.{gathering, serial};
 ghost use Rattle.sq_flat.specs.Memory as memory;
 ghost use Rattle.sq_flat.specs.Ready as ready;
-ghost use Rattle.sq_spec.specs.BegunWork.{begun_work};
+ghost use Rattle.sq_spec.specs.StatementsWork.{statement_work};
 ghost use Rattle.sq_spec.specs.Bodies.{running};
 ghost use Rattle.sq_flat.specs.Works as spec;
 
@@ -21,7 +21,8 @@ use crate::ready::{are_ready, reaches};
 use sq_leaf::laws::arrays_in_line_can_be_run_over;
 use sq_leaf::{LeafCode, run_leaf};
 use sq_rect::Views;
-use sq_spec::{Begun, Body, Manner, Reached, Reduction};
+use sq_spec::{Body, CallInstance, LoopKind, Statement};
+use sq_work::Reduction;
 use sqlite_items::at;
 use std::alloc::{AllocError, Global};
 
@@ -48,7 +49,7 @@ fn leaf(code: &LeafCode, views: &Views, bytes: &mut [u8], alloc: Global) -> Resu
 
 // The trap's path begins with the number of the iteration.
 fn in_iteration(end: End, t: u32) -> End
-    ensures { (vs : List View) (bytes : List ℕ) (outcome : Outcome) → spec.Follows vs bytes (Err end) outcome → spec.Follows vs bytes (Err result) (numbered t outcome) }
+    ensures { (vs : List View) (bytes : List ℕ) (outcome : Outcome) → spec.Follows vs bytes (Err end) outcome → spec.Follows vs bytes (Err result) (with_turn t outcome) }
 {
     match end {
         End::NoMemory => End::NoMemory,
@@ -76,7 +77,7 @@ fn start_at(starts: &[usize], k: usize) -> usize
 // Statements one after another, where they are begun for the k-th time.
 #[cycle(run)]
 fn statements(
-    list: &[Begun],
+    list: &[Statement],
     k: usize,
     setting: &Setting<'_>,
     calls: usize,
@@ -101,7 +102,7 @@ fn statements(
 
 #[cycle(run)]
 fn statement(
-    s: &Begun,
+    s: &Statement,
     k: usize,
     setting: &Setting<'_>,
     calls: usize,
@@ -113,16 +114,19 @@ fn statement(
     requires placed { memory.ArePlaced views.now bytes.old }
     requires forms { ready.AreForms setting.now.forms.now }
     requires rows { ready.AreReady setting.now.forms.now views.now (s.now ∷ []) }
-    ensures { (a : Arrays) → Shows views.now bytes.old a → spec.Follows views.now bytes.new result (serial (begun_work (spec.form_work setting.now.forms.now calls) s.now k) a) }
+    ensures { (a : Arrays) → Shows views.now bytes.old a → spec.Follows views.now bytes.new result (serial (statement_work (spec.form_work setting.now.forms.now calls) s.now k) a) }
 {
     match s {
-        Begun::Call { lower: _, times } => match at(times.as_slice(), k) {
+        Statement::Call {
+            lower: _,
+            instances,
+        } => match at(instances.as_slice(), k) {
             None => Ok(()),
             Some(r) => call(r, setting, calls, left, views, bytes),
         },
-        Begun::Map {
+        Statement::Map {
             place: _,
-            manner,
+            kind,
             counts,
             starts,
             body,
@@ -130,9 +134,7 @@ fn statement(
             let count = count_at(counts.as_slice(), k);
             let from = start_at(starts.as_slice(), k);
             let body = body.as_slice();
-            turns(
-                manner, body, count, from, setting, calls, left, views, bytes,
-            )
+            turns(kind, body, count, from, setting, calls, left, views, bytes)
         }
     }
 }
@@ -140,8 +142,8 @@ fn statement(
 // Iterations one after another; the body is begun for the first time that has the number `from`.
 #[cycle(run)]
 fn turns(
-    manner: &Manner,
-    body: &[Begun],
+    kind: &LoopKind,
+    body: &[Statement],
     count: u32,
     from: usize,
     setting: &Setting<'_>,
@@ -154,7 +156,7 @@ fn turns(
     requires placed { memory.ArePlaced views.now bytes.old }
     requires forms { ready.AreForms setting.now.forms.now }
     requires rows { ready.AreReady setting.now.forms.now views.now body.now }
-    ensures { (s : Arrays) → Shows views.now bytes.old s → spec.Follows views.now bytes.new result (in_turn count (λ t. spec.turn_of manner.now (serial (spec.list_work (spec.form_work setting.now.forms.now calls) body.now (from + t)))) s) }
+    ensures { (s : Arrays) → Shows views.now bytes.old s → spec.Follows views.now bytes.new result (in_turn count (λ t. spec.turn_of kind.now (serial (spec.list_work (spec.form_work setting.now.forms.now calls) body.now (from + t)))) s) }
 {
     if left == 0 {
         return Err(End::NoMemory);
@@ -163,7 +165,7 @@ fn turns(
         let Some(k) = from.checked_add(t as usize) else {
             return Err(End::NoMemory);
         };
-        match turn(manner, body, k, setting, calls, left - 1, views, bytes) {
+        match turn(kind, body, k, setting, calls, left - 1, views, bytes) {
             Ok(()) => {}
             Err(end) => return Err(in_iteration(end, t)),
         }
@@ -174,8 +176,8 @@ fn turns(
 // One of them, in which the body is begun for the k-th time.
 #[cycle(run)]
 fn turn(
-    manner: &Manner,
-    body: &[Begun],
+    kind: &LoopKind,
+    body: &[Statement],
     k: usize,
     setting: &Setting<'_>,
     calls: usize,
@@ -187,13 +189,13 @@ fn turn(
     requires placed { memory.ArePlaced views.now bytes.old }
     requires forms { ready.AreForms setting.now.forms.now }
     requires rows { ready.AreReady setting.now.forms.now views.now body.now }
-    ensures { (s : Arrays) → Shows views.now bytes.old s → spec.Follows views.now bytes.new result (spec.turn_of manner.now (serial (spec.list_work (spec.form_work setting.now.forms.now calls) body.now k)) s) }
+    ensures { (s : Arrays) → Shows views.now bytes.old s → spec.Follows views.now bytes.new result (spec.turn_of kind.now (serial (spec.list_work (spec.form_work setting.now.forms.now calls) body.now k)) s) }
 {
-    match manner {
-        Manner::InTurn | Manner::AtOnce => {
+    match kind {
+        LoopKind::Sequential | LoopKind::Parallel => {
             statements(body, k, setting, calls, left, views, bytes)
         }
-        Manner::Gathering(r) => gather(r, body, k, setting, calls, left, views, bytes),
+        LoopKind::Reduction(r) => gather(r, body, k, setting, calls, left, views, bytes),
     }
 }
 
@@ -201,7 +203,7 @@ fn turn(
 #[cycle(run)]
 fn gather(
     r: &Reduction,
-    body: &[Begun],
+    body: &[Statement],
     k: usize,
     setting: &Setting<'_>,
     calls: usize,
@@ -236,7 +238,7 @@ fn gather(
 
 #[cycle(run)]
 fn call(
-    r: &Reached,
+    r: &CallInstance,
     setting: &Setting<'_>,
     calls: usize,
     left: u32,
@@ -299,7 +301,7 @@ const MOST_NESTED: u32 = 1024;
 pub fn run_call(
     alloc: Global,
     forms: &[FormCode],
-    r: &Reached,
+    r: &CallInstance,
     views: &Views,
     bytes: &mut [u8],
 ) -> Result<(), End>

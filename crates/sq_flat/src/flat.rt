@@ -2,8 +2,8 @@
 
 ghost use Rattle.std.specs.Prelude.{◌≡◌, ◌+◌, ◌≤◌, ◌++◌, length, reverse};
 ghost use Rattle.sq_leaf.specs.Source.{Arrays as SpecArrays};
-ghost use Rattle.sq_spec.specs.InTurn.{IsRaceFree};
-ghost use Rattle.sq_spec.specs.Meaning.{Outcome};
+ghost use Rattle.sq_work.specs.InTurn.{IsRaceFree};
+ghost use Rattle.sq_work.specs.Meaning.{Outcome};
 ghost use Rattle.sq_spec.specs.Works.{flat, work_of};
 ghost use Rattle.sq_flat.specs.Held.{Holds, entry_shapes};
 ghost use Rattle.sq_flat.specs.Ends.{Evaluates, IsEnd, IsInside};

@@ -3,9 +3,10 @@
 ghost use Rattle.std.specs.Prelude.{◌≡◌, ◌*◌, ◌+◌, ◌^◌, ◌<◌, ◌≤◌, ◌++◌, Option, Some, ℕ, length, replicate, slice_get, OnOk, IfOk};
 ghost use Rattle.std.specs.Option.{option_copied};
 ghost use Rattle.sq_rect.specs.declared.view.View.{View as SpecView};
-ghost use Rattle.sq_spec.specs.declared.args.Argument.{Argument as SpecArgument};
-ghost use Rattle.sq_spec.specs.Meaning.{is_read};
-ghost use Rattle.sq_spec.specs.Calls.{is_written, lengths};
+ghost use Rattle.sq_blocks.specs.declared.argument.Argument.{Argument as SpecArgument};
+ghost use Rattle.sq_ast.specs.Modes.{is_read};
+ghost use Rattle.sq_ast.specs.Modes.{is_written};
+ghost use Rattle.sq_blocks.specs.Arguments.{lengths};
 ghost use Rattle.sq_num.specs.Elements.{width};
 ghost use Rattle.sq_num.specs.Reductions.{identity};
 ghost use Rattle.sq_kern.specs.Rows.{cells, reduced};
@@ -15,10 +16,10 @@ ghost use Rattle.sq_flat.specs.Memory as spec;
 
 use crate::block::{push_block, put_block};
 use sq_ast::Mode;
+use sq_blocks::Argument;
 use sq_kern::{acc_cells, fill_cells};
 use sq_num::{Elem, RedOp, identity, width};
 use sq_rect::View;
-use sq_spec::Argument;
 use sqlite_items::at;
 use std::alloc::{AllocError, Global};
 

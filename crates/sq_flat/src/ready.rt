@@ -2,17 +2,18 @@
 
 ghost use Rattle.std.specs.Prelude.{◌≡◌, ◌+◌, ◌<◌, ◌&&◌, ℕ, List, true, map, length, slice_get, option_map, IsTrue};
 ghost use Rattle.std.specs.Option.{option_copied};
-ghost use Rattle.sq_spec.specs.Calls.{lengths};
+ghost use Rattle.sq_blocks.specs.Arguments.{lengths};
 ghost use Rattle.sq_leaf.specs.Views.{shape_of};
 ghost use Rattle.sq_flat.specs.Memory.{total};
 ghost use Rattle.sq_flat.specs.Ready.{AreForms, rows_in, rows_of};
 ghost use Rattle.sq_flat.specs.Checked as spec;
 
 use crate::form::FormCode;
+use sq_blocks::Argument;
 use sq_leaf::are_in_line;
 use sq_num::width;
 use sq_rect::View;
-use sq_spec::{Argument, Begun, Body, Reached};
+use sq_spec::{Body, CallInstance, Statement};
 use sq_text::Span;
 use sqlite_items::at;
 
@@ -101,7 +102,7 @@ fn are_blocks(args: &[Argument], outer: &[View], inner: &[View]) -> bool
 }
 
 /// Whether there is such a form, with parameters that fit the arguments.
-pub fn reaches(views: &[View], r: &Reached, f: Option<&FormCode>) -> bool
+pub fn reaches(views: &[View], r: &CallInstance, f: Option<&FormCode>) -> bool
     ensures { result ≡ spec.reaches views.now r.now (option_copied f.entry) }
 {
     let Some(f) = f else {
@@ -111,7 +112,7 @@ pub fn reaches(views: &[View], r: &Reached, f: Option<&FormCode>) -> bool
     args.len() < 0x1_0000_0000 && are_blocks(args, views, f.views.as_slice())
 }
 
-fn rows_fit(forms: &[FormCode], views: &[View], rows: &[Reached]) -> bool
+fn rows_fit(forms: &[FormCode], views: &[View], rows: &[CallInstance]) -> bool
     ensures { result ≡ spec.rows_fit forms.now views.now rows.now }
 {
     for r in rows {
@@ -123,14 +124,17 @@ fn rows_fit(forms: &[FormCode], views: &[View], rows: &[Reached]) -> bool
 }
 
 #[cycle(fits)]
-fn statement_fits(s: &Begun, forms: &[FormCode], views: &[View]) -> bool
+fn statement_fits(s: &Statement, forms: &[FormCode], views: &[View]) -> bool
     ensures { result ≡ spec.rows_fit forms.now views.now (rows_of s.now) }
 {
     match s {
-        Begun::Call { lower: _, times } => rows_fit(forms, views, times.as_slice()),
-        Begun::Map {
+        Statement::Call {
+            lower: _,
+            instances,
+        } => rows_fit(forms, views, instances.as_slice()),
+        Statement::Map {
             place: _,
-            manner: _,
+            kind: _,
             counts: _,
             starts: _,
             body,
@@ -139,7 +143,7 @@ fn statement_fits(s: &Begun, forms: &[FormCode], views: &[View]) -> bool
 }
 
 #[cycle(fits)]
-fn statements_fit(list: &[Begun], forms: &[FormCode], views: &[View]) -> bool
+fn statements_fit(list: &[Statement], forms: &[FormCode], views: &[View]) -> bool
     ensures { result ≡ spec.rows_fit forms.now views.now (rows_in list.now) }
 {
     for s in list {

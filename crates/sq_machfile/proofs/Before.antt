@@ -14,7 +14,7 @@ use Rattle.sq_machfile.specs.declared.text.LevelsText.{LevelsText}
 use Rattle.sq_machfile.specs.declared.text.MachineText.{MachineText}
 use Rattle.sq_machfile.specs.declared.text.MachineText.TheVariants.{Levels, Nodes}
 use Rattle.sq_machfile.specs.declared.nested.Nested.{Nested}
-use Rattle.sq_machfile.specs.Limits.{most_levels, most_nodes}
+use Rattle.sq_text.specs.Limits.{most_levels, most_nodes}
 use Rattle.sq_machfile.specs.Nesting.{nested}
 use Rattle.sq_machfile.specs.Faults.{Rule, LimitFault, of_each, is_among, passes, is_over_capacity, level_name, nodes_to, bytes_to, names_to, below_rules, bytes_in, node_rules, rules_of}
 use Rattle.sq_machfile.specs.Walk as walk

@@ -13,7 +13,7 @@ use Rattle.sq_machfile.specs.declared.text.MachineText.TheVariants.{Levels, Node
 use Rattle.sq_machfile.specs.declared.nested.Nested.{Nested}
 use Rattle.sq_machfile.specs.Nesting.{nested}
 use Rattle.sq_machfile.specs.Faults.{Rule, passes, is_bad_fan, is_over_capacity, fan_of}
-use Rattle.sq_machfile.specs.Limits.{most_nodes, most_capacity, most_bytes}
+use Rattle.sq_text.specs.Limits.{most_nodes, most_capacity, most_bytes}
 use Rattle.sq_machfile.specs.Walk.{Count, NodeCount, uncut, level_name, bytes_with, width_below, nodes_with, after_level, after_children, after_below, level_rules, children_rules, one_below, below_rules, levels_rules, at_root, with_node, node_rules, after_node, all_node_rules, names_rules, no_names, before_nodes, rules_by}
 use Rattle.sq_machfile.specs.Tallies.{capped}
 

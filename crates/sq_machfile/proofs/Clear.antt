@@ -11,7 +11,7 @@ use Rattle.sq_machfile.specs.declared.text.LevelText.{LevelText}
 use Rattle.sq_machfile.specs.declared.text.Below.{Below}
 use Rattle.sq_machfile.specs.declared.nested.Nested.{Nested}
 use Rattle.sq_machfile.specs.Faults.{Rule, passes, is_bad_fan, is_over_capacity, fan_of, judge}
-use Rattle.sq_machfile.specs.Limits.{most_levels, most_nodes}
+use Rattle.sq_text.specs.Limits.{most_levels, most_nodes}
 use Rattle.sq_machfile.specs.Walk.{NameSet, with_name, level_name, Count, NodeCount, bytes_with, nodes_with, after_level, after_children, after_node, level_rules, below_rules, names_rules, with_node, node_rules, all_node_rules, uncut}
 
 abbrev pub Clear : List Rule → Type 0

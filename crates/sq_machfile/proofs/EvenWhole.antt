@@ -6,7 +6,7 @@ use Rattle.std.specs.Option.{option_map_or}
 use Rattle.std.proofs.Math.Nat.{mul-suc}
 use Rattle.std.proofs.lemmas.Bool.Decides.{eqb_tells}
 use Rattle.sq_text.specs.Names.{Bytes, same_name}
-use Rattle.sq_machfile.specs.Limits.{most_children}
+use Rattle.sq_text.specs.Limits.{most_children}
 use Rattle.sq_machfile.specs.declared.level.Level.{Level}
 use Rattle.sq_machfile.specs.declared.node.Node.{Node}
 use Rattle.sq_machfile.specs.declared.text.LevelsText.{LevelsText}

@@ -12,7 +12,7 @@ use Rattle.sq_machfile.specs.declared.text.MachineText.TheVariants.{Levels, Node
 use Rattle.sq_machfile.specs.Nodes.{total, children_of, below, AreArranged, linked}
 use Rattle.sq_machfile.specs.Nesting.{nested}
 use Rattle.sq_machfile.specs.Faults.{LimitFault}
-use Rattle.sq_machfile.specs.Limits.{most_levels, most_nodes, most_children}
+use Rattle.sq_text.specs.Limits.{most_levels, most_nodes, most_children}
 use Rattle.sq_machfile.proofs.Before.{all_clear}
 use Rattle.sq_machfile.specs.Walk.{Count, at_root, uncut, no_names, before_nodes, after_level, after_children, all_node_rules}
 use Rattle.sq_machfile.specs.Tallies.{FewChildren}

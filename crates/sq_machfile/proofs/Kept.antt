@@ -6,7 +6,7 @@ use Rattle.std.proofs.lemmas.Bool.Decides.{leb_tells, eqb_tells}
 use Rattle.sq_text.specs.Names.{Bytes, same_name}
 use Rattle.sq_text.specs.declared.fault.Fault.{Fault}
 use Rattle.sq_text.specs.declared.word.Word.{Word}
-use Rattle.sq_machfile.specs.Limits.{most_levels, most_nodes, most_bytes}
+use Rattle.sq_text.specs.Limits.{most_levels, most_nodes, most_bytes}
 use Rattle.sq_machfile.specs.declared.level.Level.{Level}
 use Rattle.sq_machfile.specs.declared.node.Node.{Node}
 use Rattle.sq_machfile.specs.declared.nested.Nested.{Nested}

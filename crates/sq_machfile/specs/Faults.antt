@@ -15,7 +15,7 @@ use Rattle.sq_machfile.specs.declared.text.NodesText.{NodesText}
 use Rattle.sq_machfile.specs.declared.text.MachineText.{MachineText}
 use Rattle.sq_machfile.specs.declared.text.MachineText.TheVariants.{Levels, Nodes}
 use Rattle.sq_machfile.specs.declared.nested.Nested.{Nested}
-use Rattle.sq_machfile.specs.Limits.{most_levels, most_nodes, most_children, most_capacity, most_bytes}
+use Rattle.sq_text.specs.Limits.{most_levels, most_nodes, most_children, most_capacity, most_bytes}
 use Rattle.sq_machfile.specs.Nesting.{nested}
 use Rattle.sq_machfile.specs.Nodes.{total}
 

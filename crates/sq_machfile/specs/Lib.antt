@@ -1,7 +1,6 @@
 pub mod Families
 pub mod Faults
 pub mod Grammar
-pub mod Limits
 pub mod Machines
 pub mod Nesting
 pub mod Nodes

@@ -23,7 +23,7 @@ use Rattle.sq_machfile.specs.declared.text.MachineText.TheVariants.{Levels, Node
 use Rattle.sq_machfile.specs.declared.nested.Nested.{Nested}
 use Rattle.sq_machfile.specs.declared.level.Level.{Level}
 use Rattle.sq_machfile.specs.declared.node.Node.{Node}
-use Rattle.sq_machfile.specs.Limits.{most_levels, most_nodes, most_children, most_capacity, most_bytes}
+use Rattle.sq_text.specs.Limits.{most_levels, most_nodes, most_children, most_capacity, most_bytes}
 use Rattle.sq_machfile.specs.Nodes.{at_level, total, capacity_of, children_of, AreArranged, linked}
 use Rattle.sq_machfile.specs.Nesting.{nested}
 use Rattle.sq_machfile.specs.Grammar.{IsText}

@@ -8,7 +8,7 @@ use Rattle.sq_machfile.specs.declared.uneven.NodeTally.{NodeTally}
 use Rattle.sq_machfile.specs.declared.node.Node.{Node}
 use Rattle.sq_machfile.specs.declared.tree.Tree.{Tree}
 use Rattle.sq_machfile.specs.Nodes.{linked}
-use Rattle.sq_machfile.specs.Limits.{most_children}
+use Rattle.sq_text.specs.Limits.{most_children}
 use Rattle.sq_machfile.specs.Walk.{Count, NodeCount, NameSet}
 
 -- the reader's numbers end here

@@ -12,7 +12,7 @@ use Rattle.sq_machfile.specs.declared.text.MachineText.{MachineText}
 use Rattle.sq_machfile.specs.declared.text.MachineText.TheVariants.{Levels, Nodes}
 use Rattle.sq_machfile.specs.declared.nested.Nested.{Nested}
 use Rattle.sq_machfile.specs.Faults.{Rule, passes, is_bad_fan, is_over_capacity, fan_of}
-use Rattle.sq_machfile.specs.Limits.{most_levels, most_nodes}
+use Rattle.sq_text.specs.Limits.{most_levels, most_nodes}
 use Rattle.sq_machfile.specs.Nesting.{nested}
 
 -- ---- names that stand before a place

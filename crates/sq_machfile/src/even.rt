@@ -10,10 +10,9 @@ ghost use Rattle.sq_machfile.specs.Tallies.{capped, count_of};
 
 use crate::limits::{is_bad_fan, is_over_capacity, level_name, passes};
 use crate::text::{Below, LevelText, LevelsText};
+use sq_text::limits::NODES;
 use sq_text::{Code, Fault, FirstFault, FirstItems, Numeral, Phase};
 use std::alloc::{AllocError, Global};
-
-const MOST_NODES: u64 = 4096;
 
 /// What is counted down to a level. No number grows past its end.
 #[derive(Drop)]
@@ -61,7 +60,7 @@ fn children_rules(
     first.note_number(Code::LimitFan, children, is_bad_fan(children.value))?;
     let width = tally.width.saturating_mul(children.value);
     let nodes = tally.nodes.saturating_add(width);
-    let is_over = passes(MOST_NODES, tally.nodes, nodes);
+    let is_over = passes(NODES as u64, tally.nodes, nodes);
     first.note_number(Code::LimitNodes, children, is_over)?;
     tally.width = width;
     tally.nodes = nodes;

@@ -8,14 +8,13 @@ ghost use Rattle.sq_machfile.specs.Walk.{level_name, with_name};
 ghost use Rattle.sq_machfile.specs.Tallies.{names_in};
 
 use crate::names::is_again;
+use sq_text::limits::NODE_BYTES;
 use sq_text::{Code, FirstFault, FirstItems, Word};
 use std::alloc::AllocError;
 
 const MOST_LEVELS: usize = 8;
 
 const MOST_CHILDREN: u64 = 64;
-
-const MOST_CAPACITY: u64 = 1 << 30;
 
 const MOST_BYTES: u64 = 1 << 31;
 
@@ -37,7 +36,7 @@ pub fn is_bad_fan(children: u64) -> bool
 pub fn is_over_capacity(capacity: u64, before: u64, after: u64) -> bool
     ensures { result ≡ spec.is_over_capacity capacity before after }
 {
-    MOST_CAPACITY < capacity || passes(MOST_BYTES, before, after)
+    NODE_BYTES < capacity || passes(MOST_BYTES, before, after)
 }
 
 /// The rules on the name of a level, the index-th from the root.

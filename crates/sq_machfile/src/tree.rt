@@ -1,7 +1,7 @@
 //! The nodes of a machine, level by level from the left.
 
 ghost use Rattle.std.specs.Prelude.{◌≡◌, ◌+◌, ◌<◌, ◌≤◌, ◌^◌, [], ◌∷◌, IfOk, OnOk, length, replicate};
-ghost use Rattle.sq_machfile.specs.Limits.{most_levels, most_nodes};
+ghost use Rattle.sq_text.specs.Limits.{most_levels, most_nodes};
 ghost use Rattle.sq_machfile.specs.Nodes.{total, children_of, linked};
 ghost use Rattle.sq_machfile.specs.Machines.{even_node, even_nodes, node_of, nodes_of_depth, by_level};
 ghost use Rattle.sq_machfile.specs.Tallies.{Adds};

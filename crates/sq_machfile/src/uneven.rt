@@ -11,10 +11,9 @@ ghost use Rattle.sq_machfile.specs.Tallies.{capped, node_count_of};
 use crate::limits::{is_bad_fan, is_over_capacity, level_name};
 use crate::names::is_again;
 use crate::nested::Nested;
+use sq_text::limits::NODES;
 use sq_text::{Code, Fault, FirstFault, FirstItems, Numeral, Phase, Word};
 use std::alloc::{AllocError, Global};
-
-const MOST_NODES: usize = 4096;
 
 /// What is counted up to a node. No number grows past its end.
 #[derive(Drop)]
@@ -58,7 +57,7 @@ fn node_rules(
     let is_again = is_again(first.alloc(), &mut tally.names, &node.name.name)?;
     first.note_word(Code::DupNode, &node.name, is_again)?;
     first.note_word(Code::NodeDepth, &node.name, levels <= node.depth)?;
-    first.note_word(Code::LimitNodes, &node.name, index == MOST_NODES)?;
+    first.note_word(Code::LimitNodes, &node.name, index == NODES)?;
     let is_bad = node.depth < levels.saturating_sub(1) && is_bad_fan(node.children);
     first.note_number(Code::LimitFan, fan_of(node), is_bad)?;
     let is_over = is_over_capacity(node.capacity.value, tally.bytes, bytes);

@@ -2,6 +2,7 @@
 use Rattle.std.specs.Prelude.{◌≡◌, ℕ, ◌+◌, ◌-◌, ◌*◌, ◌<◌, nat_le, nat_lt, take, drop, get_or, Bool, true, ◌||◌, ◌&&◌, ◌==◌, List, [], ◌∷◌, ◌++◌, length, Option, Some, None, Result, Ok, Err, if◌then◌else◌}
 use Rattle.std.specs.List.{fold, list_all}
 use Rattle.sq_text.specs.declared.place.Place.{Place}
+use Rattle.sq_text.specs.Limits.{most_data}
 use Rattle.sq_text.specs.Places.{place_after}
 use Rattle.sq_text.specs.declared.code.Code.{Code}
 use Rattle.sq_text.specs.declared.code.Code.TheVariants as code
@@ -69,16 +70,12 @@ picks_of (w ∷ ws) = and_more (pick_of w) (picks_of ws)
 
 -- ---- files
 
--- the bytes that an order list may have
-unfoldable pub most_bytes : ℕ
-most_bytes = 268435456
-
 abbrev pub too_long : Fault
 too_long = record { phase = Order; code = code.LimitFile; place = None; args = [] }
 
 -- the numbers of an order list in turn, or its first fault
 abbrev pub order_list : List ℕ → Result (List ℕ) Fault
-order_list text = if nat_lt most_bytes (length text) then Err too_long else picks_of (words_from (record { line = 1; col = 1 }) None text)
+order_list text = if nat_lt most_data (length text) then Err too_long else picks_of (words_from (record { line = 1; col = 1 }) None text)
 
 -- ---- what the code does
 

@@ -5,6 +5,7 @@ ghost use Rattle.std.specs.List.{list_all};
 ghost use Rattle.sq_picks.specs.OrderList as spec;
 
 use sq_port::Picks;
+use sq_text::limits::DATA_BYTES;
 use sq_text::{Args, Code, Fault, Phase, Place, Stop};
 use std::alloc::{AllocError, Global};
 
@@ -134,15 +135,12 @@ fn picks_of(alloc: Global, text: &[u8]) -> Result<Picks, Stop>
     Ok(Picks::new(picks))
 }
 
-const MOST_BYTES: usize = 268_435_456;
-
 /// The numbers of an order list in turn, each of 32 bits: words of digits with blanks between them. Else its first
 /// fault: a list of more than 268,435,456 bytes, or the first word that is no number or has more bits.
-#[tactic(auto, unfolding(crate::specs::OrderList::most_bytes))]
 pub fn read_picks(alloc: Global, text: &[u8]) -> Result<Picks, Stop>
     ensures { spec.Gives result (spec.order_list text.now) }
 {
-    if text.len() > MOST_BYTES {
+    if text.len() > DATA_BYTES {
         return Err(Stop::Refused(Fault {
             phase: Phase::Order,
             code: Code::LimitFile,

@@ -32,30 +32,31 @@ use Rattle.sq_blocks.specs.Names.{Numbers}
 use Rattle.sq_blocks.specs.Spans.{wholes}
 use Rattle.sq_blocks.specs.Insides.{AreSpansIn}
 use Rattle.sq_rect.specs.Blocks.{Share}
-use Rattle.sq_spec.specs.declared.args.Argument.{Argument}
-use Rattle.sq_spec.specs.declared.known.Array.{Array}
-use Rattle.sq_spec.specs.declared.form.Found.{Found}
-use Rattle.sq_spec.specs.declared.form.Use.{Use}
+use Rattle.sq_blocks.specs.declared.argument.Argument.{Argument}
+use Rattle.sq_forms.specs.declared.known.Array.{Array}
+use Rattle.sq_forms.specs.declared.form.Found.{Found}
+use Rattle.sq_forms.specs.declared.form.Use.{Use}
 use Rattle.sq_mapfile.specs.declared.mapping.Instance.{Instance}
-use Rattle.sq_spec.specs.Faults.{value_or, fault_in}
-use Rattle.sq_spec.specs.Steps.{Step, Part, Tests, Forms, key_number}
-use Rattle.sq_spec.specs.Args.{Names, arguments, mode_of}
-use Rattle.sq_spec.specs.Worlds.{Frame, Callee, callee_of, routed, served_by}
-use Rattle.sq_spec.specs.Tables.{route_of}
-use Rattle.sq_spec.specs.Calls.{Spot, is_written, called, served_steps}
-use Rattle.sq_spec.specs.Stmts as walk
-use Rattle.sq_spec.specs.Stmts.{Portion, portion, after_calls, within, bounds, times_of, in_iteration, iteration_steps, map_steps, outermost, each}
-use Rattle.sq_spec.specs.Begun.{number_or, array_number, reduction_of}
-use Rattle.sq_spec.specs.Reached.{joined, text_calls, or_zero}
-use Rattle.sq_spec.specs.Resolving.{start}
-use Rattle.sq_spec.specs.Insides.{LiesIn}
-use Rattle.sq_spec.specs.Work.{Work, Nothing, Then}
+use Rattle.sq_forms.specs.Faults.{value_or, fault_in}
+use Rattle.sq_forms.specs.Steps.{Step, Part, Tests, Forms, key_number}
+use Rattle.sq_forms.specs.Args.{Names, arguments, mode_of}
+use Rattle.sq_forms.specs.Worlds.{Frame, Callee, callee_of, callee_at, served_by}
+use Rattle.sq_forms.specs.Tables.{route_of}
+use Rattle.sq_forms.specs.Calls.{CallSite, call_of, served_steps}
+use Rattle.sq_ast.specs.Modes.{is_written}
+use Rattle.sq_forms.specs.Stmts as walk
+use Rattle.sq_forms.specs.Stmts.{Portion, portion, after_calls, within, bounds, times_of, in_iteration, iteration_steps, map_steps, outermost, each}
+use Rattle.sq_spec.specs.Statements.{number_or, array_number, reduction_of}
+use Rattle.sq_form_laws.specs.Reached.{concat, text_calls, or_zero}
+use Rattle.sq_forms.specs.Resolving.{start}
+use Rattle.sq_form_laws.specs.Insides.{LiesIn}
+use Rattle.sq_work.specs.Work.{Work, Nothing, Then}
 use Rattle.sq_spec.specs.Works as works
 use Rattle.sq_spec.specs.Works.{Share as WorkShare, call_work, reached_work}
-use Rattle.sq_spec.specs.Meaning.{has, accesses, any_below}
-use Rattle.sq_spec.specs.InTurn.{IsRaceFree, AreApart, none_aside, its_array}
-use Rattle.sq_spec.proofs.EachCall.{AllIn, all_front, all_back, text_call, text_map}
-use Rattle.sq_spec.proofs.OpenedStmt.{portion_call, portion_map}
+use Rattle.sq_work.specs.Meaning.{has, accesses, any_below}
+use Rattle.sq_work.specs.InTurn.{IsRaceFree, AreApart, none_aside, its_array}
+use Rattle.sq_form_laws.proofs.EachCall.{AllIn, all_front, all_back, text_call, text_map}
+use Rattle.sq_forms.proofs.OpenedStmt.{portion_call, portion_map}
 use Rattle.sq_race.specs.declared.map.Map.{Map}
 use Rattle.sq_race.specs.Table as race
 use Rattle.sq_race.specs.Table.{position_from, maps_of, maps_in}
@@ -81,7 +82,7 @@ by_instance : (frame : Frame) (m d n : ℕ) (o : Option Instance) → served_by 
 by_instance frame m d n None = refl
 by_instance frame m d n (Some x) = refl
 
-by_route : (frame : Frame) (m d : ℕ) (o : Option ℕ) → routed (moved frame m d) o ≡ routed frame o
+by_route : (frame : Frame) (m d : ℕ) (o : Option ℕ) → callee_at (moved frame m d) o ≡ callee_at frame o
 by_route frame m d None = refl
 by_route frame m d (Some n) = by_instance frame m d n (slice_get frame.instances n)
 
@@ -119,11 +120,11 @@ module _ (forms : Forms) (frame : Frame) (m d : ℕ) (names : Names) (tasks : Li
   abbrev Good : List Step → Type 0
   Good l = AllGood forms callee arrays uses l
 
-  abbrev HitsOf : Work → Spot → ℕ → Type 0
-  HitsOf w spot calls = Hits forms callee arrays uses w spot calls
+  abbrev HitsOf : Work → CallSite → ℕ → Type 0
+  HitsOf w site calls = Hits forms callee arrays uses w site calls
 
-  abbrev HitOf : (Mode → Bool) → ℕ → List ℕ → Spot → ℕ → Type 0
-  HitOf which n cs spot calls = Hit forms callee arrays uses which n cs spot calls
+  abbrev HitOf : (Mode → Bool) → ℕ → List ℕ → CallSite → ℕ → Type 0
+  HitOf which n cs site calls = Hit forms callee arrays uses which n cs site calls
 
   abbrev Silent : List Map → Type 0
   Silent ms = AllQuiet forms callee arrays uses ms
@@ -149,11 +150,11 @@ module _ (forms : Forms) (frame : Frame) (m d : ℕ) (names : Names) (tasks : Li
   record Linked (p : Portion) (w : WorkShare) (q : race.Portion) : Type 0 where
     work_calls : w.calls ≡ p.calls
     race_calls : q.calls ≡ p.calls
-    later : (spot : Spot) (numbers : Numbers) (l : List Step) → Good (p.steps frame names spot numbers l) → Good l
-    hits : (spot : Spot) (numbers : Numbers) (l : List Step) → Good (p.steps frame names spot numbers l) → HitsOf (w.work own names spot numbers) spot p.calls
+    later : (site : CallSite) (numbers : Numbers) (l : List Step) → Good (p.steps frame names site numbers l) → Good l
+    hits : (site : CallSite) (numbers : Numbers) (l : List Step) → Good (p.steps frame names site numbers l) → HitsOf (w.work own names site numbers) site p.calls
     quiet : (depth first : ℕ) (ms : List Map) → Silent (q.maps depth first ms) → Silent ms
-    free : (spot : Spot) (numbers : Numbers) (l : List Step) (ms : List Map) → Good (p.steps frame names spot numbers l)
-        → Silent (q.maps (length spot.iterations) spot.call ms) → IsRaceFree (w.work own names spot numbers)
+    free : (site : CallSite) (numbers : Numbers) (l : List Step) (ms : List Map) → Good (p.steps frame names site numbers l)
+        → Silent (q.maps (length site.iterations) site.call ms) → IsRaceFree (w.work own names site numbers)
 
   abbrev Link : Stmt → Type 0
   Link x = Linked (portion x) (share x) (race.portion x)
@@ -172,15 +173,15 @@ module _ (forms : Forms) (frame : Frame) (m d : ℕ) (names : Names) (tasks : Li
   same_race_calls [] k = refl
   same_race_calls (x ∷ xs) k = (λ i. k.0.race_calls i + same_race_calls xs k.1 i)
 
-  all_later : (xs : List Stmt) → AllLinked xs → (spot : Spot) (numbers : Numbers) (l : List Step)
-      → Good (walk.all_of (map portion xs) frame names spot numbers l) → Good l
-  all_later [] k spot numbers l h = h
-  all_later (x ∷ xs) k spot numbers l h =
-      let next = after_calls spot (portion x).calls in
-      all_later xs k.1 next numbers l (k.0.later spot numbers (walk.all_of (map portion xs) frame names next numbers l) h)
+  all_later : (xs : List Stmt) → AllLinked xs → (site : CallSite) (numbers : Numbers) (l : List Step)
+      → Good (walk.all_of (map portion xs) frame names site numbers l) → Good l
+  all_later [] k site numbers l h = h
+  all_later (x ∷ xs) k site numbers l h =
+      let next = after_calls site (portion x).calls in
+      all_later xs k.1 next numbers l (k.0.later site numbers (walk.all_of (map portion xs) frame names next numbers l) h)
 
-  sooner : (which : Mode → Bool) (n : ℕ) (cs : List ℕ) (spot : Spot) (calls more : ℕ) → HitOf which n cs spot calls → HitOf which n cs spot (calls + more)
-  sooner which n cs spot calls more h =
+  sooner : (which : Mode → Bool) (n : ℕ) (cs : List ℕ) (site : CallSite) (calls more : ℕ) → HitOf which n cs site calls → HitOf which n cs site (calls + more)
+  sooner which n cs site calls more h =
       let under = h.high in record {
         index = h.index;
         access = h.access;
@@ -194,9 +195,9 @@ module _ (forms : Forms) (frame : Frame) (m d : ℕ) (names : Names) (tasks : Li
         high = omega (arith, under);
       }
 
-  behind : (which : Mode → Bool) (n : ℕ) (cs : List ℕ) (spot : Spot) (calls more : ℕ) → HitOf which n cs (after_calls spot calls) more
-      → HitOf which n cs spot (calls + more)
-  behind which n cs spot calls more h =
+  behind : (which : Mode → Bool) (n : ℕ) (cs : List ℕ) (site : CallSite) (calls more : ℕ) → HitOf which n cs (after_calls site calls) more
+      → HitOf which n cs site (calls + more)
+  behind which n cs site calls more h =
       let above = h.low in
       let under = h.high in record {
         index = h.index;
@@ -211,20 +212,20 @@ module _ (forms : Forms) (frame : Frame) (m d : ℕ) (names : Names) (tasks : Li
         high = omega (arith, under);
       }
 
-  all_hits : (xs : List Stmt) → AllLinked xs → (spot : Spot) (numbers : Numbers) (l : List Step)
-      → Good (walk.all_of (map portion xs) frame names spot numbers l)
-      → HitsOf (works.all_of (map share xs) own names spot numbers) spot (walk.calls_of (map portion xs))
-  all_hits [] k spot numbers l h which up n cs e = absurd (cc e)
-  all_hits (x ∷ xs) k spot numbers l h which up n cs e =
-      let next = after_calls spot (portion x).calls in
+  all_hits : (xs : List Stmt) → AllLinked xs → (site : CallSite) (numbers : Numbers) (l : List Step)
+      → Good (walk.all_of (map portion xs) frame names site numbers l)
+      → HitsOf (works.all_of (map share xs) own names site numbers) site (walk.calls_of (map portion xs))
+  all_hits [] k site numbers l h which up n cs e = absurd (cc e)
+  all_hits (x ∷ xs) k site numbers l h which up n cs e =
+      let next = after_calls site (portion x).calls in
       let rest = walk.all_of (map portion xs) frame names next numbers l in
-      let more : HitsOf (works.all_of (map share xs) own names (after_calls spot (share x).calls) numbers) next (walk.calls_of (map portion xs)) =
-      subst (λ k. HitsOf (works.all_of (map share xs) own names (after_calls spot k) numbers) next (walk.calls_of (map portion xs))) (sym k.0.work_calls)
-      (all_hits xs k.1 next numbers l (k.0.later spot numbers rest h)) in
-      elim (either (accesses (λ a. which a.mode) ((share x).work own names spot numbers) n cs)
-      (accesses (λ a. which a.mode) (works.all_of (map share xs) own names (after_calls spot (share x).calls) numbers) n cs) e) [
-        | inl one ↦ sooner which n cs spot (portion x).calls (walk.calls_of (map portion xs)) (k.0.hits spot numbers rest h which up n cs one)
-        | inr two ↦ behind which n cs spot (portion x).calls (walk.calls_of (map portion xs)) (more which up n cs two)
+      let more : HitsOf (works.all_of (map share xs) own names (after_calls site (share x).calls) numbers) next (walk.calls_of (map portion xs)) =
+      subst (λ k. HitsOf (works.all_of (map share xs) own names (after_calls site k) numbers) next (walk.calls_of (map portion xs))) (sym k.0.work_calls)
+      (all_hits xs k.1 next numbers l (k.0.later site numbers rest h)) in
+      elim (either (accesses (λ a. which a.mode) ((share x).work own names site numbers) n cs)
+      (accesses (λ a. which a.mode) (works.all_of (map share xs) own names (after_calls site (share x).calls) numbers) n cs) e) [
+        | inl one ↦ sooner which n cs site (portion x).calls (walk.calls_of (map portion xs)) (k.0.hits site numbers rest h which up n cs one)
+        | inr two ↦ behind which n cs site (portion x).calls (walk.calls_of (map portion xs)) (more which up n cs two)
       ]
 
   all_quiet : (xs : List Stmt) → AllLinked xs → (depth first : ℕ) (ms : List Map) → Silent (maps_of (map race.portion xs) depth first ms) → Silent ms
@@ -233,64 +234,64 @@ module _ (forms : Forms) (frame : Frame) (m d : ℕ) (names : Names) (tasks : Li
       let next = first + (race.portion x).calls in
       all_quiet xs k.1 depth next ms (k.0.quiet depth first (maps_of (map race.portion xs) depth next ms) q)
 
-  all_free : (xs : List Stmt) → AllLinked xs → (spot : Spot) (numbers : Numbers) (l : List Step) (ms : List Map)
-      → Good (walk.all_of (map portion xs) frame names spot numbers l) → Silent (maps_of (map race.portion xs) (length spot.iterations) spot.call ms)
-      → IsRaceFree (works.all_of (map share xs) own names spot numbers)
-  all_free [] k spot numbers l ms h q = tt
-  all_free (x ∷ xs) k spot numbers l ms h q =
-      let next = after_calls spot (portion x).calls in
+  all_free : (xs : List Stmt) → AllLinked xs → (site : CallSite) (numbers : Numbers) (l : List Step) (ms : List Map)
+      → Good (walk.all_of (map portion xs) frame names site numbers l) → Silent (maps_of (map race.portion xs) (length site.iterations) site.call ms)
+      → IsRaceFree (works.all_of (map share xs) own names site numbers)
+  all_free [] k site numbers l ms h q = tt
+  all_free (x ∷ xs) k site numbers l ms h q =
+      let next = after_calls site (portion x).calls in
       let rest = walk.all_of (map portion xs) frame names next numbers l in
-      let maps = maps_of (map race.portion xs) (length spot.iterations) (spot.call + (race.portion x).calls) ms in
-      let behind_ : Silent (maps_of (map race.portion xs) (length spot.iterations) (spot.call + (portion x).calls) ms) =
-      subst (λ n. Silent (maps_of (map race.portion xs) (length spot.iterations) (spot.call + n) ms)) k.0.race_calls
-      (k.0.quiet (length spot.iterations) spot.call maps q) in
-      let more = all_free xs k.1 next numbers l ms (k.0.later spot numbers rest h) behind_ in
-      let moved_ = subst (λ n. IsRaceFree (works.all_of (map share xs) own names (after_calls spot n) numbers)) (sym k.0.work_calls) more in
-      (k.0.free spot numbers rest maps h q, moved_)
+      let maps = maps_of (map race.portion xs) (length site.iterations) (site.call + (race.portion x).calls) ms in
+      let behind_ : Silent (maps_of (map race.portion xs) (length site.iterations) (site.call + (portion x).calls) ms) =
+      subst (λ n. Silent (maps_of (map race.portion xs) (length site.iterations) (site.call + n) ms)) k.0.race_calls
+      (k.0.quiet (length site.iterations) site.call maps q) in
+      let more = all_free xs k.1 next numbers l ms (k.0.later site numbers rest h) behind_ in
+      let moved_ = subst (λ n. IsRaceFree (works.all_of (map share xs) own names (after_calls site n) numbers)) (sym k.0.work_calls) more in
+      (k.0.free site numbers rest maps h q, moved_)
 
   -- ---- a call
 
-  abbrev args_of : CallStmt → Callee → Spot → Numbers → List Argument
-  args_of c its spot numbers = arguments names numbers spot.reduced its.params 0 c.args
+  abbrev args_of : CallStmt → Callee → CallSite → Numbers → List Argument
+  args_of c its site numbers = arguments names numbers site.reduced its.params 0 c.args
 
-  abbrev MetCall : Spot → Numbers → CallStmt → Callee → List Step → Type 0
-  MetCall spot numbers c its l = Met forms callee arrays uses frame names spot numbers c its l
+  abbrev MetCall : CallSite → Numbers → CallStmt → Callee → List Step → Type 0
+  MetCall site numbers c its l = Met forms callee arrays uses frame names site numbers c its l
 
-  met : (c : CallStmt) (v : Serves c) (spot : Spot) (numbers : Numbers) (l : List Step)
-      → Good (served_steps frame names spot numbers c (callee_of frame c.task) l) → MetCall spot numbers c v.its l
-  met c v spot numbers l h =
-      call_met forms callee arrays uses frame names spot numbers c v.its l (subst (λ o. Good (served_steps frame names spot numbers c o l)) v.serves h)
+  met : (c : CallStmt) (v : Serves c) (site : CallSite) (numbers : Numbers) (l : List Step)
+      → Good (served_steps frame names site numbers c (callee_of frame c.task) l) → MetCall site numbers c v.its l
+  met c v site numbers l h =
+      call_met forms callee arrays uses frame names site numbers c v.its l (subst (λ o. Good (served_steps frame names site numbers c o l)) v.serves h)
 
-  work_of_call : (c : CallStmt) (v : Serves c) (spot : Spot) (numbers : Numbers)
-      → call_work forms callee elems own names spot numbers c (callee_of own c.task) ≡ call_work forms callee elems own names spot numbers c (Some v.its)
-  work_of_call c v spot numbers = ap (λ o. call_work forms callee elems own names spot numbers c o) (same_callee frame m d c.task ∙ v.serves)
+  work_of_call : (c : CallStmt) (v : Serves c) (site : CallSite) (numbers : Numbers)
+      → call_work forms callee elems own names site numbers c (callee_of own c.task) ≡ call_work forms callee elems own names site numbers c (Some v.its)
+  work_of_call c v site numbers = ap (λ o. call_work forms callee elems own names site numbers c o) (same_callee frame m d c.task ∙ v.serves)
 
-  call_free : (c : CallStmt) (v : Serves c) (spot : Spot) (numbers : Numbers) (l : List Step) → MetCall spot numbers c v.its l
-      → IsRaceFree (call_work forms callee elems own names spot numbers c (callee_of own c.task))
-  call_free c v spot numbers l h =
-      let xs = args_of c v.its spot numbers in
-      let reached = called own v.its spot c xs in
-      subst IsRaceFree (sym (work_of_call c v spot numbers))
+  call_free : (c : CallStmt) (v : Serves c) (site : CallSite) (numbers : Numbers) (l : List Step) → MetCall site numbers c v.its l
+      → IsRaceFree (call_work forms callee elems own names site numbers c (callee_of own c.task))
+  call_free c v site numbers l h =
+      let xs = args_of c v.its site numbers in
+      let reached = call_of own v.its site c xs in
+      subst IsRaceFree (sym (work_of_call c v site numbers))
       (subst (λ n. IsRaceFree (callee n reached.form)) (sym (same_number (key_number forms reached.key))) (h.good.free reached.form refl refl))
 
-  call_hits : (c : CallStmt) (v : Serves c) (spot : Spot) (numbers : Numbers) (l : List Step) → MetCall spot numbers c v.its l → (which : Mode → Bool) (n : ℕ)
-      (cs : List ℕ) → accesses (λ a. which a.mode) (call_work forms callee elems own names spot numbers c (callee_of own c.task)) n cs ≡ true
-      → CallHit forms callee arrays uses which n cs spot (args_of c v.its spot numbers)
-  call_hits c v spot numbers l h which n cs e =
-      let xs = args_of c v.its spot numbers in
+  call_hits : (c : CallStmt) (v : Serves c) (site : CallSite) (numbers : Numbers) (l : List Step) → MetCall site numbers c v.its l → (which : Mode → Bool) (n : ℕ)
+      (cs : List ℕ) → accesses (λ a. which a.mode) (call_work forms callee elems own names site numbers c (callee_of own c.task)) n cs ≡ true
+      → CallHit forms callee arrays uses which n cs site (args_of c v.its site numbers)
+  call_hits c v site numbers l h which n cs e =
+      let xs = args_of c v.its site numbers in
       let f : list_any (λ a. which a.mode && has n cs a) xs ≡ true =
-      subst (λ (w : Work). accesses (λ a. which a.mode) w n cs ≡ true) (work_of_call c v spot numbers) e in
-      call_hit forms callee arrays uses frame names spot c v.its xs h.good which n cs f
+      subst (λ (w : Work). accesses (λ a. which a.mode) w n cs ≡ true) (work_of_call c v site numbers) e in
+      call_hit forms callee arrays uses frame names site c v.its xs h.good which n cs f
 
   call_linked : (c : CallStmt) → Serves c
       → Linked (walk.stmt_step (Stmt-F.Call c)) (works.stmt_step forms callee elems (Stmt-F.Call c)) (race.stmt_step (Stmt-F.Call c))
   call_linked c v = record {
     work_calls = refl;
     race_calls = refl;
-    later = λ spot numbers l h. (met c v spot numbers l h).later;
-    hits = λ spot numbers l h which up n cs e. (call_hits c v spot numbers l (met c v spot numbers l h) which n cs e).hit;
+    later = λ site numbers l h. (met c v site numbers l h).later;
+    hits = λ site numbers l h which up n cs e. (call_hits c v site numbers l (met c v site numbers l h) which n cs e).hit;
     quiet = λ depth first ms q. q;
-    free = λ spot numbers l ms h q. call_free c v spot numbers l (met c v spot numbers l h);
+    free = λ site numbers l ms h q. call_free c v site numbers l (met c v site numbers l h);
   }
 
   transported : (x : Stmt) (p : Portion) (w : WorkShare) (q : race.Portion) → portion x ≡ p → share x ≡ w → race.portion x ≡ q → Linked p w q → Link x
@@ -312,43 +313,43 @@ module _ (forms : Forms) (frame : Frame) (m d : ℕ) (names : Names) (tasks : Li
     abbrev turn : Numbers → ℕ → Numbers
     turn numbers t = in_iteration ranges (value_or [] (bounds ranges numbers names.lists)) t numbers
 
-    abbrev body : Spot → Numbers → ℕ → Work
-    body spot numbers t = works.all_of (map share ys) own names (within spot place kind t) (turn numbers t)
+    abbrev body : CallSite → Numbers → ℕ → Work
+    body site numbers t = works.all_of (map share ys) own names (within site place kind t) (turn numbers t)
 
-    record Iterations (spot : Spot) (numbers : Numbers) (l : List Step) : Type 0 where
-      turns : (t : ℕ) → t < count numbers → (k : List Step) × Good (walk.all_of parts frame names (within spot place kind t) (turn numbers t) k)
+    record Iterations (site : CallSite) (numbers : Numbers) (l : List Step) : Type 0 where
+      turns : (t : ℕ) → t < count numbers → (k : List Step) × Good (walk.all_of parts frame names (within site place kind t) (turn numbers t) k)
       past : Good l
 
-    iterations : (spot : Spot) (numbers : Numbers) (l : List Step) → Good (map_steps place kind ranges (walk.all_of parts) frame names spot numbers l)
-        → Iterations spot numbers l
-    iterations spot numbers l h =
+    iterations : (site : CallSite) (numbers : Numbers) (l : List Step) → Good (map_steps place kind ranges (walk.all_of parts) frame names site numbers l)
+        → Iterations site numbers l
+    iterations site numbers l h =
         let ns = bounds ranges numbers names.lists in
         let part : ℕ → Part =
-        iteration_steps (outermost spot.outer place) (within spot place kind) ranges (walk.all_of parts) (value_or [] ns) frame names numbers in
-        let a = opens_good forms callee arrays uses spot.outer (Tests (fault_in ns) ∷ each 0 (times_of ns) part l) h in
-        let b = each_good forms callee arrays uses part (λ t k g. all_later ys linked (within spot place kind t) (turn numbers t) k g) 0 (times_of ns) l a.1 in
+        iteration_steps (outermost site.outer place) (within site place kind) ranges (walk.all_of parts) (value_or [] ns) frame names numbers in
+        let a = opens_good forms callee arrays uses site.outer (Tests (fault_in ns) ∷ each 0 (times_of ns) part l) h in
+        let b = each_good forms callee arrays uses part (λ t k g. all_later ys linked (within site place kind t) (turn numbers t) k g) 0 (times_of ns) l a.1 in
         record {
           turns = λ t less. let r = b.0 t less in let z : 0 + t ≡ t = omega arith in (r.0, subst (λ n. Good (part n r.0)) z r.1);
           past = b.1;
         }
 
-    hits_at : (spot : Spot) (numbers : Numbers) (l : List Step) → Iterations spot numbers l → (t : ℕ) → t < count numbers
-        → HitsOf (body spot numbers t) (within spot place kind t) (walk.calls_of parts)
-    hits_at spot numbers l its t less = let r = its.turns t less in all_hits ys linked (within spot place kind t) (turn numbers t) r.0 r.1
+    hits_at : (site : CallSite) (numbers : Numbers) (l : List Step) → Iterations site numbers l → (t : ℕ) → t < count numbers
+        → HitsOf (body site numbers t) (within site place kind t) (walk.calls_of parts)
+    hits_at site numbers l its t less = let r = its.turns t less in all_hits ys linked (within site place kind t) (turn numbers t) r.0 r.1
 
-    hits_below : (spot : Spot) (numbers : Numbers) (l : List Step) → Iterations spot numbers l → (which : Mode → Bool) → Written forms callee arrays uses which
-        → (n : ℕ) (cs : List ℕ) → any_below (count numbers) (λ t. accesses (λ a. which a.mode) (body spot numbers t) n cs) ≡ true
-        → HitOf which n cs spot (walk.calls_of parts)
-    hits_below spot numbers l its which up n cs e =
-        let r = some_below (count numbers) (λ t. accesses (λ a. which a.mode) (body spot numbers t) n cs) e in
-        outer_hit forms callee arrays uses which n cs spot place kind r.0 (walk.calls_of parts) (hits_at spot numbers l its r.0 r.1 which up n cs r.2)
+    hits_below : (site : CallSite) (numbers : Numbers) (l : List Step) → Iterations site numbers l → (which : Mode → Bool) → Written forms callee arrays uses which
+        → (n : ℕ) (cs : List ℕ) → any_below (count numbers) (λ t. accesses (λ a. which a.mode) (body site numbers t) n cs) ≡ true
+        → HitOf which n cs site (walk.calls_of parts)
+    hits_below site numbers l its which up n cs e =
+        let r = some_below (count numbers) (λ t. accesses (λ a. which a.mode) (body site numbers t) n cs) e in
+        outer_hit forms callee arrays uses which n cs site place kind r.0 (walk.calls_of parts) (hits_at site numbers l its r.0 r.1 which up n cs r.2)
 
-    free_at : (spot : Spot) (numbers : Numbers) (l : List Step) (ms : List Map) → Iterations spot numbers l
-        → Silent (maps_of (map race.portion ys) (length spot.iterations + 1) spot.call ms) → (t : ℕ) → t < count numbers → IsRaceFree (body spot numbers t)
-    free_at spot numbers l ms its q t less =
+    free_at : (site : CallSite) (numbers : Numbers) (l : List Step) (ms : List Map) → Iterations site numbers l
+        → Silent (maps_of (map race.portion ys) (length site.iterations + 1) site.call ms) → (t : ℕ) → t < count numbers → IsRaceFree (body site numbers t)
+    free_at site numbers l ms its q t less =
         let r = its.turns t less in
-        let deeper : length spot.iterations + 1 ≡ length (spot.iterations ++ t ∷ []) = sym (length-append spot.iterations (t ∷ [])) in
-        all_free ys linked (within spot place kind t) (turn numbers t) r.0 ms r.1 (subst (λ n. Silent (maps_of (map race.portion ys) n spot.call ms)) deeper q)
+        let deeper : length site.iterations + 1 ≡ length (site.iterations ++ t ∷ []) = sym (length-append site.iterations (t ∷ [])) in
+        all_free ys linked (within site place kind t) (turn numbers t) r.0 ms r.1 (subst (λ n. Silent (maps_of (map race.portion ys) n site.call ms)) deeper q)
 
   abbrev MapLinked : Place → MapKind → List Range → List Stmt → Type 0
   MapLinked place kind ranges ys =
@@ -359,11 +360,11 @@ module _ (forms : Forms) (frame : Frame) (m d : ℕ) (names : Names) (tasks : Li
   seq_linked place ranges ys k = record {
     work_calls = same_work_calls ys k;
     race_calls = same_race_calls ys k;
-    later = λ spot numbers l h. (iterations place Seq ranges ys k spot numbers l h).past;
-    hits = λ spot numbers l h which up n cs e.
-        hits_below place Seq ranges ys k spot numbers l (iterations place Seq ranges ys k spot numbers l h) which up n cs e;
+    later = λ site numbers l h. (iterations place Seq ranges ys k site numbers l h).past;
+    hits = λ site numbers l h which up n cs e.
+        hits_below place Seq ranges ys k site numbers l (iterations place Seq ranges ys k site numbers l h) which up n cs e;
     quiet = λ depth first ms q. all_quiet ys k (depth + 1) first ms q;
-    free = λ spot numbers l ms h q. free_at place Seq ranges ys k spot numbers l ms (iterations place Seq ranges ys k spot numbers l h) q;
+    free = λ site numbers l ms h q. free_at place Seq ranges ys k site numbers l ms (iterations place Seq ranges ys k site numbers l h) q;
   }
 
   -- ---- a `mappar`
@@ -371,19 +372,19 @@ module _ (forms : Forms) (frame : Frame) (m d : ℕ) (names : Names) (tasks : Li
   abbrev any_mode : Mode → Bool
   any_mode mode = true
 
-  par_apart : (place : Place) (ranges : List Range) (ys : List Stmt) (k : AllLinked ys) (spot : Spot) (numbers : Numbers) (l : List Step)
-      → Iterations place Par ranges ys k spot numbers l → Quiet forms callee arrays uses (record {
+  par_apart : (place : Place) (ranges : List Range) (ys : List Stmt) (k : AllLinked ys) (site : CallSite) (numbers : Numbers) (l : List Step)
+      → Iterations place Par ranges ys k site numbers l → Quiet forms callee arrays uses (record {
         place = place;
-        depth = length spot.iterations;
-        calls = record { lo = spot.call; hi = spot.call + race.calls_of (map race.portion ys) };
+        depth = length site.iterations;
+        calls = record { lo = site.call; hi = site.call + race.calls_of (map race.portion ys) };
         reduced = None;
-      }) → AreApart (count place Par ranges ys k numbers) (body place Par ranges ys k spot numbers) none_aside
-  par_apart place ranges ys k spot numbers l its quiet = record {
+      }) → AreApart (count place Par ranges ys k numbers) (body place Par ranges ys k site numbers) none_aside
+  par_apart place ranges ys k site numbers l its quiet = record {
     at = λ a b n cs la lb other aside wr touch.
-        apart forms callee arrays uses lies _ quiet spot place Par (walk.calls_of (map portion ys)) refl refl
-        (ap (λ c. spot.call + c) (same_race_calls ys k)) any_mode n cs a b other
-        (hits_at place Par ranges ys k spot numbers l its a la is_written (λ mode e. e) n cs wr)
-        (hits_at place Par ranges ys k spot numbers l its b lb any_mode (λ mode e. refl) n cs touch)
+        apart forms callee arrays uses lies _ quiet site place Par (walk.calls_of (map portion ys)) refl refl
+        (ap (λ c. site.call + c) (same_race_calls ys k)) any_mode n cs a b other
+        (hits_at place Par ranges ys k site numbers l its a la is_written (λ mode e. e) n cs wr)
+        (hits_at place Par ranges ys k site numbers l its b lb any_mode (λ mode e. refl) n cs touch)
         (λ e. absurd (cc e)) (λ e. absurd (cc e));
   }
 
@@ -391,13 +392,13 @@ module _ (forms : Forms) (frame : Frame) (m d : ℕ) (names : Names) (tasks : Li
   par_linked place ranges ys k = record {
     work_calls = same_work_calls ys k;
     race_calls = same_race_calls ys k;
-    later = λ spot numbers l h. (iterations place Par ranges ys k spot numbers l h).past;
-    hits = λ spot numbers l h which up n cs e.
-        hits_below place Par ranges ys k spot numbers l (iterations place Par ranges ys k spot numbers l h) which up n cs e;
+    later = λ site numbers l h. (iterations place Par ranges ys k site numbers l h).past;
+    hits = λ site numbers l h which up n cs e.
+        hits_below place Par ranges ys k site numbers l (iterations place Par ranges ys k site numbers l h) which up n cs e;
     quiet = λ depth first ms q. all_quiet ys k (depth + 1) first ms q.1;
-    free = λ spot numbers l ms h q.
-        let its = iterations place Par ranges ys k spot numbers l h in
-        (par_apart place ranges ys k spot numbers l its q.0, free_at place Par ranges ys k spot numbers l ms its q.1);
+    free = λ site numbers l ms h q.
+        let its = iterations place Par ranges ys k site numbers l h in
+        (par_apart place ranges ys k site numbers l its q.0, free_at place Par ranges ys k site numbers l ms its q.1);
   }
 
   -- ---- a `mapreduce`, whose body is one call
@@ -419,25 +420,25 @@ module _ (forms : Forms) (frame : Frame) (m d : ℕ) (names : Names) (tasks : Li
     abbrev many : Numbers → ℕ
     many numbers = count place kind ranges one linked numbers
 
-    abbrev inside : Spot → Numbers → ℕ → Work
-    inside spot numbers t = body place kind ranges one linked spot numbers t
+    abbrev inside : CallSite → Numbers → ℕ → Work
+    inside site numbers t = body place kind ranges one linked site numbers t
 
     abbrev turned : Numbers → ℕ → Numbers
     turned numbers t = turn place kind ranges one linked numbers t
 
-    abbrev Turns : Spot → Numbers → List Step → Type 0
-    Turns spot numbers l = Iterations place kind ranges one linked spot numbers l
+    abbrev Turns : CallSite → Numbers → List Step → Type 0
+    Turns site numbers l = Iterations place kind ranges one linked site numbers l
 
-    abbrev args_at : Spot → Numbers → ℕ → List Argument
-    args_at spot numbers t = args_of c v.its (within spot place kind t) (turned numbers t)
+    abbrev args_at : CallSite → Numbers → ℕ → List Argument
+    args_at site numbers t = args_of c v.its (within site place kind t) (turned numbers t)
 
-    met_at : (spot : Spot) (numbers : Numbers) (l : List Step) → Turns spot numbers l → (t : ℕ) → t < many numbers
-        → (k : List Step) × MetCall (within spot place kind t) (turned numbers t) c v.its k
-    met_at spot numbers l its t less =
+    met_at : (site : CallSite) (numbers : Numbers) (l : List Step) → Turns site numbers l → (t : ℕ) → t < many numbers
+        → (k : List Step) × MetCall (within site place kind t) (turned numbers t) c v.its k
+    met_at site numbers l its t less =
         let r = its.turns t less in
-        let opened_ : Good (served_steps frame names (within spot place kind t) (turned numbers t) c (callee_of frame c.task) r.0) =
-        subst (λ (p : Portion). Good (p.steps frame names (within spot place kind t) (turned numbers t) r.0)) (portion_call c) r.1 in
-        (r.0, met c v (within spot place kind t) (turned numbers t) r.0 opened_)
+        let opened_ : Good (served_steps frame names (within site place kind t) (turned numbers t) c (callee_of frame c.task) r.0) =
+        subst (λ (p : Portion). Good (p.steps frame names (within site place kind t) (turned numbers t) r.0)) (portion_call c) r.1 in
+        (r.0, met c v (within site place kind t) (turned numbers t) r.0 opened_)
 
     -- the argument that is the array that is reduced into
     record Whole (xs : List Argument) : Type 0 where
@@ -455,12 +456,12 @@ module _ (forms : Forms) (frame : Frame) (m d : ℕ) (names : Names) (tasks : Li
         some_same lies_in.extents a.extents (sym lies_in.there ∙ (ap (slice_get arrays) number ∙ known)) in
         shared_whole a.extents x.rect spans all (subst (λ ns. AreSpansIn ns spans) same_extents lies_in.inside)
 
-    whole_in : (spot : Spot) (numbers : Numbers) (t : ℕ) (k : List Step) → MetCall (within spot place kind t) (turned numbers t) c v.its k
-        → Whole (args_at spot numbers t)
-    whole_in spot numbers t k h =
-        let here = within spot place kind t in
+    whole_in : (site : CallSite) (numbers : Numbers) (t : ℕ) (k : List Step) → MetCall (within site place kind t) (turned numbers t) c v.its k
+        → Whole (args_at site numbers t)
+    whole_in site numbers t k h =
+        let here = within site place kind t in
         let param = slice_get v.its.params (0 + at.index) in
-        let r = examined_at names (turned numbers t) here.reduced v.its.params 0 c.args (args_at spot numbers t) h.examined at.index at.own at.there in
+        let r = examined_at names (turned numbers t) here.reduced v.its.params 0 c.args (args_at site numbers t) h.examined at.index at.own at.there in
         let w : IsWhole names array.name param r.0 =
         subst (λ name. IsWhole names name param r.0) at.named (is_whole names (turned numbers t) here.reduced param at.own r.0 at.alone r.2) in
         record {
@@ -471,17 +472,17 @@ module _ (forms : Forms) (frame : Frame) (m d : ℕ) (names : Names) (tasks : Li
           shares = whole_shares r.0 w.array_ w.there w.number w.all;
         }
 
-    work_in : (spot : Spot) (numbers : Numbers) (t : ℕ) (f : Work → Bool) → (f (inside spot numbers t)) ≡ true
-        → f (Then (call_work forms callee elems own names (within spot place kind t) (turned numbers t) c (callee_of own c.task)) Nothing) ≡ true
-    work_in spot numbers t f e =
-        subst (λ (w : WorkShare). f (Then (w.work own names (within spot place kind t) (turned numbers t)) Nothing) ≡ true) (share_call c) e
+    work_in : (site : CallSite) (numbers : Numbers) (t : ℕ) (f : Work → Bool) → (f (inside site numbers t)) ≡ true
+        → f (Then (call_work forms callee elems own names (within site place kind t) (turned numbers t) c (callee_of own c.task)) Nothing) ≡ true
+    work_in site numbers t f e =
+        subst (λ (w : WorkShare). f (Then (w.work own names (within site place kind t) (turned numbers t)) Nothing) ≡ true) (share_call c) e
 
-    hit_in : (spot : Spot) (numbers : Numbers) (t : ℕ) (k : List Step) → MetCall (within spot place kind t) (turned numbers t) c v.its k → (which : Mode → Bool)
-        (n : ℕ) (cs : List ℕ) → accesses (λ a. which a.mode) (inside spot numbers t) n cs ≡ true
-        → CallHit forms callee arrays uses which n cs (within spot place kind t) (args_at spot numbers t)
-    hit_in spot numbers t k h which n cs e =
-        let f = work_in spot numbers t (λ w. accesses (λ a. which a.mode) w n cs) e in
-        call_hits c v (within spot place kind t) (turned numbers t) k h which n cs (or_false _ f)
+    hit_in : (site : CallSite) (numbers : Numbers) (t : ℕ) (k : List Step) → MetCall (within site place kind t) (turned numbers t) c v.its k → (which : Mode → Bool)
+        (n : ℕ) (cs : List ℕ) → accesses (λ a. which a.mode) (inside site numbers t) n cs ≡ true
+        → CallHit forms callee arrays uses which n cs (within site place kind t) (args_at site numbers t)
+    hit_in site numbers t k h which n cs e =
+        let f = work_in site numbers t (λ w. accesses (λ a. which a.mode) w n cs) e in
+        call_hits c v (within site place kind t) (turned numbers t) k h which n cs (or_false _ f)
 
     one_call_in : 1 ≡ walk.calls_of (map portion one)
     one_call_in = sym (ap (λ (p : Portion). p.calls + 0) (portion_call c))
@@ -489,72 +490,72 @@ module _ (forms : Forms) (frame : Frame) (m d : ℕ) (names : Names) (tasks : Li
     one_call_there : race.calls_of (map race.portion one) ≡ 1
     one_call_there = ap (λ (p : race.Portion). p.calls + 0) (opened.portion_call c)
 
-    reduce_hits : (spot : Spot) (numbers : Numbers) (l : List Step) → Turns spot numbers l → (which : Mode → Bool) → Written forms callee arrays uses which
-        → (n : ℕ) (cs : List ℕ) → any_below (many numbers) (λ t. nat_eq n its_number || accesses (λ a. which a.mode) (inside spot numbers t) n cs) ≡ true
-        → HitOf which n cs spot (walk.calls_of (map portion one))
-    reduce_hits spot numbers l its which up n cs e =
-        let r = some_below (many numbers) (λ t. nat_eq n its_number || accesses (λ a. which a.mode) (inside spot numbers t) n cs) e in
+    reduce_hits : (site : CallSite) (numbers : Numbers) (l : List Step) → Turns site numbers l → (which : Mode → Bool) → Written forms callee arrays uses which
+        → (n : ℕ) (cs : List ℕ) → any_below (many numbers) (λ t. nat_eq n its_number || accesses (λ a. which a.mode) (inside site numbers t) n cs) ≡ true
+        → HitOf which n cs site (walk.calls_of (map portion one))
+    reduce_hits site numbers l its which up n cs e =
+        let r = some_below (many numbers) (λ t. nat_eq n its_number || accesses (λ a. which a.mode) (inside site numbers t) n cs) e in
         let t = r.0 in
-        let h = met_at spot numbers l its t r.1 in
-        let here = within spot place kind t in
-        let xs = args_at spot numbers t in
-        elim (either (nat_eq n its_number) (accesses (λ a. which a.mode) (inside spot numbers t) n cs) r.2) [
+        let h = met_at site numbers l its t r.1 in
+        let here = within site place kind t in
+        let xs = args_at site numbers t in
+        elim (either (nat_eq n its_number) (accesses (λ a. which a.mode) (inside site numbers t) n cs) r.2) [
           | inl same ↦
-              let w = whole_in spot numbers t h.0 h.1 in
+              let w = whole_in site numbers t h.0 h.1 in
               let is : w.x.array ≡ n = w.number ∙ sym (equal n its_number same) in
               let mode = up w.x.mode w.written in
               let all = whole_hit forms callee arrays uses frame names here c v.its xs h.1.good which n cs at.index w.x w.there mode is w.shares in
-              subst (λ k. HitOf which n cs spot k) one_call_in (outer_hit forms callee arrays uses which n cs spot place kind t 1 all.hit)
+              subst (λ k. HitOf which n cs site k) one_call_in (outer_hit forms callee arrays uses which n cs site place kind t 1 all.hit)
           | inr other ↦
-              subst (λ k. HitOf which n cs spot k) one_call_in
-              (outer_hit forms callee arrays uses which n cs spot place kind t 1 (hit_in spot numbers t h.0 h.1 which n cs other).hit)
+              subst (λ k. HitOf which n cs site k) one_call_in
+              (outer_hit forms callee arrays uses which n cs site place kind t 1 (hit_in site numbers t h.0 h.1 which n cs other).hit)
         ]
 
     -- an access of another array is another argument
-    other_argument : (spot : Spot) (numbers : Numbers) (t : ℕ) (k : List Step) → MetCall (within spot place kind t) (turned numbers t) c v.its k
-        → (which : Mode → Bool) (n : ℕ) (cs : List ℕ) (h : CallHit forms callee arrays uses which n cs (within spot place kind t) (args_at spot numbers t))
+    other_argument : (site : CallSite) (numbers : Numbers) (t : ℕ) (k : List Step) → MetCall (within site place kind t) (turned numbers t) c v.its k
+        → (which : Mode → Bool) (n : ℕ) (cs : List ℕ) (h : CallHit forms callee arrays uses which n cs (within site place kind t) (args_at site numbers t))
         → nat_eq n its_number ≡ false → race.reduced_in (map race.portion one) array.name ≡ Some h.hit.access.arg → ⊥
-    other_argument spot numbers t k hm which n cs h aside e =
-        let w = whole_in spot numbers t k hm in
+    other_argument site numbers t k hm which n cs h aside e =
+        let w = whole_in site numbers t k hm in
         let first : race.reduced_in (map race.portion one) array.name ≡ Some (0 + at.index) =
         ap (λ (p : race.Portion). p.position array.name) (opened.portion_call c) ∙ at.first in
         let z : 0 + at.index ≡ at.index = omega arith in
         let arg : h.hit.access.arg ≡ at.index = some_same h.hit.access.arg (0 + at.index) (sym e ∙ first) ∙ z in
-        let same_argument : h.own ≡ w.x = some_same h.own w.x (sym h.position ∙ (ap (slice_get (args_at spot numbers t)) arg ∙ w.there)) in
+        let same_argument : h.own ≡ w.x = some_same h.own w.x (sym h.position ∙ (ap (slice_get (args_at site numbers t)) arg ∙ w.there)) in
         let is : n ≡ its_number = sym h.is ∙ (ap (λ (a : Argument). a.array) same_argument ∙ w.number) in
         absurd (cc (sym (itself n its_number is) ∙ aside))
 
-    abbrev map_of : Spot → Map
-    map_of spot = record {
+    abbrev map_of : CallSite → Map
+    map_of site = record {
       place = place;
-      depth = length spot.iterations;
-      calls = record { lo = spot.call; hi = spot.call + race.calls_of (map race.portion one) };
+      depth = length site.iterations;
+      calls = record { lo = site.call; hi = site.call + race.calls_of (map race.portion one) };
       reduced = race.reduced_in (map race.portion one) array.name;
     }
 
-    reduce_apart : (spot : Spot) (numbers : Numbers) (l : List Step) → Turns spot numbers l → Quiet forms callee arrays uses (map_of spot)
-        → AreApart (many numbers) (inside spot numbers) (its_array (reduction_of elems op its_number))
-    reduce_apart spot numbers l its quiet = record {
+    reduce_apart : (site : CallSite) (numbers : Numbers) (l : List Step) → Turns site numbers l → Quiet forms callee arrays uses (map_of site)
+        → AreApart (many numbers) (inside site numbers) (its_array (reduction_of elems op its_number))
+    reduce_apart site numbers l its quiet = record {
       at = λ a b n cs la lb other aside wr touch.
-          let ha = met_at spot numbers l its a la in
-          let hb = met_at spot numbers l its b lb in
-          let x = hit_in spot numbers a ha.0 ha.1 is_written n cs wr in
-          let y = hit_in spot numbers b hb.0 hb.1 any_mode n cs touch in
-          apart forms callee arrays uses lies (map_of spot) quiet spot place kind 1 refl refl (ap (λ k. spot.call + k) one_call_there) any_mode n cs a b other
+          let ha = met_at site numbers l its a la in
+          let hb = met_at site numbers l its b lb in
+          let x = hit_in site numbers a ha.0 ha.1 is_written n cs wr in
+          let y = hit_in site numbers b hb.0 hb.1 any_mode n cs touch in
+          apart forms callee arrays uses lies (map_of site) quiet site place kind 1 refl refl (ap (λ k. site.call + k) one_call_there) any_mode n cs a b other
           x.hit y.hit
-          (other_argument spot numbers a ha.0 ha.1 is_written n cs x aside) (other_argument spot numbers b hb.0 hb.1 any_mode n cs y aside);
+          (other_argument site numbers a ha.0 ha.1 is_written n cs x aside) (other_argument site numbers b hb.0 hb.1 any_mode n cs y aside);
     }
 
     reduce_linked : MapLinked place kind ranges one
     reduce_linked = record {
       work_calls = same_work_calls one linked;
       race_calls = same_race_calls one linked;
-      later = λ spot numbers l h. (iterations place kind ranges one linked spot numbers l h).past;
-      hits = λ spot numbers l h which up n cs e. reduce_hits spot numbers l (iterations place kind ranges one linked spot numbers l h) which up n cs e;
+      later = λ site numbers l h. (iterations place kind ranges one linked site numbers l h).past;
+      hits = λ site numbers l h which up n cs e. reduce_hits site numbers l (iterations place kind ranges one linked site numbers l h) which up n cs e;
       quiet = λ depth first ms q. all_quiet one linked (depth + 1) first ms q.1;
-      free = λ spot numbers l ms h q.
-          let its = iterations place kind ranges one linked spot numbers l h in
-          (reduce_apart spot numbers l its q.0, free_at place kind ranges one linked spot numbers l ms its q.1);
+      free = λ site numbers l ms h q.
+          let its = iterations place kind ranges one linked site numbers l h in
+          (reduce_apart site numbers l its q.0, free_at place kind ranges one linked site numbers l ms its q.1);
     }
 
   -- ---- each statement
@@ -570,7 +571,7 @@ module _ (forms : Forms) (frame : Frame) (m d : ℕ) (names : Names) (tasks : Li
     pub known : Known
     pub sound : typed.are_sound_stmts tasks xs known ≡ true
     pub formed : are_formed_stmts xs ≡ true
-    pub calls : AllIn Serves (joined (map text_calls xs))
+    pub calls : AllIn Serves (concat (map text_calls xs))
 
   abbrev OfStmt : Stmt → Type 0
   OfStmt x = Fine x → Link x
@@ -586,7 +587,7 @@ module _ (forms : Forms) (frame : Frame) (m d : ℕ) (names : Names) (tasks : Li
     known = h.known;
     sound = (both (typed.is_sound_stmt tasks x h.known) (typed.are_sound_stmts tasks xs h.known) h.sound).0;
     formed = (both (is_formed_stmt x) (are_formed_stmts xs) h.formed).0;
-    calls = all_front Serves (text_calls x) (joined (map text_calls xs)) h.calls;
+    calls = all_front Serves (text_calls x) (concat (map text_calls xs)) h.calls;
   }
 
   rest_fine : (x : Stmt) (xs : List Stmt) → AllFine (x ∷ xs) → AllFine xs
@@ -594,7 +595,7 @@ module _ (forms : Forms) (frame : Frame) (m d : ℕ) (names : Names) (tasks : Li
     known = h.known;
     sound = (both (typed.is_sound_stmt tasks x h.known) (typed.are_sound_stmts tasks xs h.known) h.sound).1;
     formed = (both (is_formed_stmt x) (are_formed_stmts xs) h.formed).1;
-    calls = all_back Serves (text_calls x) (joined (map text_calls xs)) h.calls;
+    calls = all_back Serves (text_calls x) (concat (map text_calls xs)) h.calls;
   }
 
   parts_linked : (xs : List S) → AllFine (stmts xs) → AllLinked (stmts xs)
@@ -631,7 +632,7 @@ module _ (forms : Forms) (frame : Frame) (m d : ℕ) (names : Names) (tasks : Li
         body_ = record { known = ranges_known rs known; sound = sym e ∙ c.1; formed = j.1; calls = subst (AllIn Serves) (text_map p k rs ys) h.calls };
       }
 
-  call_serves : (c : CallStmt) → AllIn Serves (joined (map text_calls (s.Call c ∷ []))) → Serves c
+  call_serves : (c : CallStmt) → AllIn Serves (concat (map text_calls (s.Call c ∷ []))) → Serves c
   call_serves c h =
       let first : AllIn Serves (text_calls (s.Call c)) = all_front Serves (text_calls (s.Call c)) [] h in
       (subst (AllIn Serves) (text_call c) first).0

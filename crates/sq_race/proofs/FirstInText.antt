@@ -4,8 +4,8 @@ use Rattle.sq_ast.specs.declared.program.Program.{Program}
 use Rattle.sq_ast.specs.declared.program.Variant.{Variant}
 use Rattle.sq_ast.specs.Given.{IsGiven}
 use Rattle.sq_mapfile.specs.declared.mapping.Instance.{Instance}
-use Rattle.sq_spec.specs.Tables.{at_index, first_of_kind}
-use Rattle.sq_spec.specs.declared.form.Form.{Form}
+use Rattle.sq_forms.specs.Tables.{at_index, first_of_kind}
+use Rattle.sq_forms.specs.declared.form.Form.{Form}
 use Rattle.sq_spec.specs.declared.resolved.Resolved.{Resolved}
 use Rattle.sq_race.specs.Race.{maps_by, variant_by, maps_of_form, HoldsAt, AtOrBefore}
 use Rattle.sq_race.specs.TextOrder.{AreMaps, StandsAtOrBefore, FirstInText}

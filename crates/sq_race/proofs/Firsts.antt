@@ -3,7 +3,7 @@ use Rattle.std.proofs.Common.{◌≡◌, ℕ, zero, suc, ◌+◌, ◌<◌, ◌�
 use Rattle.std.proofs.lemmas.Grind.{common_steps}
 use Rattle.std.proofs.lemmas.Bool.{cases_lt, eqb-true, eq-eqb, leb-true, ltb-true}
 use Rattle.std.proofs.lemmas.Option.{slice_get_within, slice_get-get_or}
-use Rattle.sq_spec.specs.declared.form.Use.{Use}
+use Rattle.sq_forms.specs.declared.form.Use.{Use}
 use Rattle.sq_race.specs.Accesses.{counts, reduces, writes, shares, races, same_run, same_iteration, clash}
 use Rattle.sq_race.specs.Order.{round}
 use Rattle.sq_race.specs.Pairs.{RaceAt}

@@ -15,32 +15,32 @@ use Rattle.sq_mapfile.specs.Sound.{Sound}
 use Rattle.sq_types.specs.Sites.{params_of, params_known, decls_known}
 use Rattle.sq_types.specs.Sound.{is_sound, is_sound_body}
 use Rattle.sq_types.specs.Table.{keeps_both}
-use Rattle.sq_spec.specs.declared.form.Form.{Form}
-use Rattle.sq_spec.specs.declared.form.Found.{Found}
-use Rattle.sq_spec.specs.declared.form.Use.{Use}
-use Rattle.sq_spec.specs.Faults.{Value, and_then}
-use Rattle.sq_spec.specs.Steps.{Step, State, Opens, Counts, Tests, Calls, Called, Forms, Key, run}
-use Rattle.sq_spec.specs.Args.{mode_of}
-use Rattle.sq_spec.specs.Calls.{is_written}
-use Rattle.sq_spec.specs.Tables.{variant_of}
-use Rattle.sq_spec.specs.Worlds.{Frame, Callee, callee_of}
-use Rattle.sq_spec.specs.Decls.{Scope, empty_scope, params_from, all_declared}
-use Rattle.sq_spec.specs.Resolving.{Outcome, Resolving, resolved, frame_in, body_steps, walked_in, walked_by, walked_with, walked_at, ended, with_locals}
-use Rattle.sq_spec.specs.Begun.{elems_of}
-use Rattle.sq_spec.specs.Reached.{Ran, calls_in, uses_of, form_number, steps_of, body_calls}
-use Rattle.sq_spec.specs.Served.{FormRuns, FormFits, IsServed}
-use Rattle.sq_spec.specs.Insides.{LiesIn, arrays_of}
-use Rattle.sq_spec.specs.Work.{Work}
+use Rattle.sq_forms.specs.declared.form.Form.{Form}
+use Rattle.sq_forms.specs.declared.form.Found.{Found}
+use Rattle.sq_forms.specs.declared.form.Use.{Use}
+use Rattle.sq_forms.specs.Faults.{Value, and_then}
+use Rattle.sq_forms.specs.Steps.{Step, State, Opens, Counts, Tests, Calls, Called, Forms, Key, run}
+use Rattle.sq_forms.specs.Args.{mode_of}
+use Rattle.sq_ast.specs.Modes.{is_written}
+use Rattle.sq_forms.specs.Tables.{variant_of}
+use Rattle.sq_forms.specs.Worlds.{Frame, Callee, callee_of}
+use Rattle.sq_forms.specs.Decls.{Scope, empty_scope, params_from, all_declared}
+use Rattle.sq_forms.specs.Resolving.{Outcome, Resolving, resolution, frame_in, body_steps, walked_in, walked_by, walked_with, walked_at, outcome_of, with_locals}
+use Rattle.sq_spec.specs.Statements.{elems_of}
+use Rattle.sq_form_laws.specs.Reached.{Ran, calls_in, uses_of, form_number, steps_of, body_calls}
+use Rattle.sq_form_laws.specs.Served.{FormRuns, FormFits, IsServed}
+use Rattle.sq_form_laws.specs.Insides.{LiesIn, arrays_of}
+use Rattle.sq_work.specs.Work.{Work}
 use Rattle.sq_spec.specs.Works.{form_work, instance_work, variant_work, scope_work, declared_work, body_work, entry_work, work_of}
-use Rattle.sq_spec.specs.InTurn.{IsRaceFree}
-use Rattle.sq_spec.proofs.AllHold.{within_list}
-use Rattle.sq_spec.proofs.EachCall.{AllIn}
-use Rattle.sq_spec.proofs.FitHold.{forms_run}
-use Rattle.sq_spec.proofs.FormsHold.{each_walked}
-use Rattle.sq_spec.proofs.InsideHold.{begun_good, all_good, accesses_lie_inside}
-use Rattle.sq_spec.proofs.Passing.{past_count, past_test, past_call}
-use Rattle.sq_spec.proofs.RanHold.{few_found}
-use Rattle.sq_spec.proofs.ServedHold.{calls_are_served}
+use Rattle.sq_work.specs.InTurn.{IsRaceFree}
+use Rattle.sq_form_laws.proofs.AllHold.{within_list}
+use Rattle.sq_form_laws.proofs.EachCall.{AllIn}
+use Rattle.sq_form_laws.proofs.FitHold.{forms_run}
+use Rattle.sq_form_laws.proofs.FormsHold.{each_walked}
+use Rattle.sq_form_laws.proofs.InsideHold.{begun_good, all_good, accesses_lie_inside}
+use Rattle.sq_form_laws.proofs.Passing.{past_count, past_test, past_call}
+use Rattle.sq_form_laws.proofs.RanHold.{few_found}
+use Rattle.sq_form_laws.proofs.ServedHold.{calls_are_served}
 use Rattle.sq_race.specs.declared.map.Map.{Map}
 use Rattle.sq_race.specs.declared.forms.Found.{Found as FoundRace}
 use Rattle.sq_race.specs.Race.{HoldsIn, variant_by, maps_of_body, maps_by}
@@ -119,7 +119,7 @@ all_from M (c ∷ cs) f = (f 0 c refl, all_from M cs (λ i d g. f (suc i) d g))
 -- ---- forms
 
 module _ (program : Program) (levels : List Level) (mapping : Mapping) (faultless : is_sound program ≡ true) (formed : is_formed program ≡ true)
-    (read : Sound program levels mapping) (r : Resolving) (through : resolved program.tasks mapping ≡ Ok r)
+    (read : Sound program levels mapping) (r : Resolving) (through : resolution program.tasks mapping ≡ Ok r)
     (quiet : (k : ℕ) (f : Form) (uses : List Use) → slice_get r.forms k ≡ Some f → slice_get r.uses k ≡ Some uses
     → NoRaces (maps_by (variant_by program.tasks (slice_get mapping.instances f.instance))) uses) where
   -- round a form of this number no more than n forms are called within one another, and what is known of it may differ
@@ -173,9 +173,9 @@ module _ (program : Program) (levels : List Level) (mapping : Mapping) (faultles
           let c : walked_at frame x v w.before fits.begun ≡ Ok w.done =
           subst (λ (o : Option Scope). walked_with tasks instances x v k form.1 w.before o ≡ Ok w.done) fits.binds b in
           let s : State = record { left = 0; forms = w.before; uses = [] } in
-          let next : Scope → Value Outcome = λ scope. and_then (run s (body_steps v.body frame scope)) (λ t. Ok (ended scope t)) in
+          let next : Scope → Value Outcome = λ scope. and_then (run s (body_steps v.body frame scope)) (λ t. Ok (outcome_of scope t)) in
           let e : next ran.scope ≡ Ok w.done = sym (ap (λ o. and_then o next) ran.declared) ∙ c in
-          let g = ran_through (run s (body_steps v.body frame ran.scope)) (ended ran.scope) w.done e in
+          let g = ran_through (run s (body_steps v.body frame ran.scope)) (outcome_of ran.scope) w.done e in
           (s, g.0, g.1)
 
       good_call : (i : ℕ) (c : Called) → slice_get (calls_in steps) i ≡ Some c → GoodCall r.found callee arrays uses c

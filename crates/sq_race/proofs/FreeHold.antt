@@ -3,9 +3,9 @@ use Rattle.std.proofs.Common.{ℕ, None}
 use Rattle.std.proofs.Math.Logic.{∥∥₁_elim}
 use Rattle.sq_spec.specs.declared.resolved.Resolved.{Resolved}
 use Rattle.sq_spec.specs.Walked.{IsWalked}
-use Rattle.sq_spec.specs.Work.{Work, Nothing, Then, Each, AtOnce, Gathers, Call, Leaf}
+use Rattle.sq_work.specs.Work.{Work, Nothing, Then, Each, AtOnce, Gathers, Call, Leaf}
 use Rattle.sq_spec.specs.Works.{work_of}
-use Rattle.sq_spec.specs.InTurn.{IsRaceFree}
+use Rattle.sq_work.specs.InTurn.{IsRaceFree}
 use Rattle.sq_race.specs.Race.{IsFirstRace}
 use Rattle.sq_race.specs.Free.{NoRaceIsFree}
 use Rattle.sq_race.proofs.FormFree.{program_free}

@@ -14,20 +14,21 @@ use Rattle.sq_ast.specs.declared.program.Mode.TheVariants.{Input, Output, Both}
 use Rattle.sq_ast.specs.declared.program.Param.{Param}
 use Rattle.sq_blocks.specs.Names.{Numbers}
 use Rattle.sq_rect.specs.Blocks.{Share}
-use Rattle.sq_spec.specs.declared.args.Argument.{Argument}
-use Rattle.sq_spec.specs.declared.form.Found.{Found}
-use Rattle.sq_spec.specs.declared.form.Use.{Use}
-use Rattle.sq_spec.specs.Faults.{Value, fault_in}
-use Rattle.sq_spec.specs.Steps.{Step, Part, Opens, Counts, Tests, Calls, Called, Forms}
-use Rattle.sq_spec.specs.Args.{Names, used, argument, arguments, args_steps, joined}
-use Rattle.sq_spec.specs.Worlds.{Frame, Callee}
-use Rattle.sq_spec.specs.Calls.{Spot, is_written, uses_from, called, reached_steps}
-use Rattle.sq_spec.specs.Stmts.{each, opens, within}
-use Rattle.sq_spec.specs.Reached.{AreExamined, form_number}
-use Rattle.sq_spec.specs.Insides.{LiesIn}
-use Rattle.sq_spec.specs.Work.{Work}
-use Rattle.sq_spec.specs.Meaning.{has, covers, accesses, any_below}
-use Rattle.sq_spec.specs.InTurn.{IsRaceFree}
+use Rattle.sq_blocks.specs.declared.argument.Argument.{Argument}
+use Rattle.sq_forms.specs.declared.form.Found.{Found}
+use Rattle.sq_forms.specs.declared.form.Use.{Use}
+use Rattle.sq_forms.specs.Faults.{Value, fault_in}
+use Rattle.sq_forms.specs.Steps.{Step, Part, Opens, Counts, Tests, Calls, Called, Forms}
+use Rattle.sq_forms.specs.Args.{Names, use_step, argument, arguments, args_steps, with_value}
+use Rattle.sq_forms.specs.Worlds.{Frame, Callee}
+use Rattle.sq_forms.specs.Calls.{CallSite, uses_from, call_of, reached_steps}
+use Rattle.sq_ast.specs.Modes.{is_written}
+use Rattle.sq_forms.specs.Stmts.{each, opens, within}
+use Rattle.sq_form_laws.specs.Reached.{AreExamined, form_number}
+use Rattle.sq_form_laws.specs.Insides.{LiesIn}
+use Rattle.sq_work.specs.Work.{Work}
+use Rattle.sq_work.specs.Meaning.{has, covers, accesses, any_below}
+use Rattle.sq_work.specs.InTurn.{IsRaceFree}
 use Rattle.sq_race.specs.declared.map.Map.{Map}
 use Rattle.sq_race.specs.Accesses as accesses
 use Rattle.sq_race.specs.Race.{IsOf, IsRace}
@@ -55,19 +56,19 @@ some_there p (x ∷ xs) h = elim (either (p x) (list_any p xs) h) [
 
 -- ---- accesses of a call
 
-abbrev use_of : Spot → ℕ → ℕ → Argument → Use
-use_of spot callee i x = record { call = spot.call; arg = i; iterations = spot.iterations; array = x.array; rect = x.rect; mode = x.mode; callee = callee }
+abbrev use_of : CallSite → ℕ → ℕ → Argument → Use
+use_of site callee i x = record { call = site.call; arg = i; iterations = site.iterations; array = x.array; rect = x.rect; mode = x.mode; callee = callee }
 
-use_there : (spot : Spot) (callee i : ℕ) (xs : List Argument) (j : ℕ) (x : Argument) → slice_get xs j ≡ Some x
-    → slice_get (uses_from spot callee i xs) j ≡ Some (use_of spot callee (i + j) x)
-use_there spot callee i [] j x h = absurd (cc h)
-use_there spot callee i (y ∷ xs) zero x h =
+use_there : (site : CallSite) (callee i : ℕ) (xs : List Argument) (j : ℕ) (x : Argument) → slice_get xs j ≡ Some x
+    → slice_get (uses_from site callee i xs) j ≡ Some (use_of site callee (i + j) x)
+use_there site callee i [] j x h = absurd (cc h)
+use_there site callee i (y ∷ xs) zero x h =
     let e : y ≡ x = cc h in
     let z : i ≡ i + 0 = omega arith in
-    (λ k. Some (use_of spot callee (z k) (e k)))
-use_there spot callee i (y ∷ xs) (suc j) x h =
+    (λ k. Some (use_of site callee (z k) (e k)))
+use_there site callee i (y ∷ xs) (suc j) x h =
     let z : i + 1 + j ≡ i + suc j = omega arith in
-    use_there spot callee (i + 1) xs j x h ∙ ap (λ k. Some (use_of spot callee k x)) z
+    use_there site callee (i + 1) xs j x h ∙ ap (λ k. Some (use_of site callee k x)) z
 
 -- ---- the form's accesses, and the work of its callees
 
@@ -87,7 +88,7 @@ module _ (forms : Forms) (callee : ℕ → Found → Work) (arrays : List (List 
   AllGood (Tests o ∷ l) = (o ≡ None) × AllGood l
   AllGood (Calls c ∷ l) = GoodCall c × AllGood l
 
-  used_good : (o : Option Place) (l : List Step) → AllGood (used o l) → AllGood l
+  used_good : (o : Option Place) (l : List Step) → AllGood (use_step o l) → AllGood l
   used_good None l h = h
   used_good (Some place) l h = h
 
@@ -111,7 +112,7 @@ module _ (forms : Forms) (callee : ℕ → Found → Work) (arrays : List (List 
   module _ (outer : Option Place) (names : Names) (numbers : Numbers) (reduced : Option Bytes) (params : List Param) where
     one_examined : (i : ℕ) (a : ArgUse) (rest : List ArgUse) (v : Value Argument) → argument names numbers reduced (slice_get params i) a ≡ v
         → fault_in v ≡ None → AreExamined names numbers reduced params (i + 1) rest (arguments names numbers reduced params (i + 1) rest)
-        → AreExamined names numbers reduced params i (a ∷ rest) (joined v (arguments names numbers reduced params (i + 1) rest))
+        → AreExamined names numbers reduced params i (a ∷ rest) (with_value v (arguments names numbers reduced params (i + 1) rest))
     one_examined i a rest (Ok x) e none h = (e, h)
     one_examined i a rest (Err f) e none h = absurd (cc none)
 
@@ -125,17 +126,17 @@ module _ (forms : Forms) (callee : ℕ → Found → Work) (arrays : List (List 
         (one_examined i a rest value refl p.0 q.0, q.1)
 
   -- what is known of a call that is met
-  pub record Met (frame : Frame) (names : Names) (spot : Spot) (numbers : Numbers) (c : CallStmt) (its : Callee) (l : List Step) : Type 0 where
-    pub examined : AreExamined names numbers spot.reduced its.params 0 c.args (arguments names numbers spot.reduced its.params 0 c.args)
-    pub good : GoodCall (called frame its spot c (arguments names numbers spot.reduced its.params 0 c.args))
+  pub record Met (frame : Frame) (names : Names) (site : CallSite) (numbers : Numbers) (c : CallStmt) (its : Callee) (l : List Step) : Type 0 where
+    pub examined : AreExamined names numbers site.reduced its.params 0 c.args (arguments names numbers site.reduced its.params 0 c.args)
+    pub good : GoodCall (call_of frame its site c (arguments names numbers site.reduced its.params 0 c.args))
     pub later : AllGood l
 
-  pub call_met : (frame : Frame) (names : Names) (spot : Spot) (numbers : Numbers) (c : CallStmt) (its : Callee) (l : List Step)
-      → AllGood (args_steps spot.outer names numbers spot.reduced its.params 0 c.args
-      (reached_steps frame its spot c (arguments names numbers spot.reduced its.params 0 c.args) l)) → Met frame names spot numbers c its l
-  call_met frame names spot numbers c its l h =
-      let xs = arguments names numbers spot.reduced its.params 0 c.args in
-      let a = args_good spot.outer names numbers spot.reduced its.params 0 c.args (reached_steps frame its spot c xs l) h in
+  pub call_met : (frame : Frame) (names : Names) (site : CallSite) (numbers : Numbers) (c : CallStmt) (its : Callee) (l : List Step)
+      → AllGood (args_steps site.outer names numbers site.reduced its.params 0 c.args
+      (reached_steps frame its site c (arguments names numbers site.reduced its.params 0 c.args) l)) → Met frame names site numbers c its l
+  call_met frame names site numbers c its l h =
+      let xs = arguments names numbers site.reduced its.params 0 c.args in
+      let a = args_good site.outer names numbers site.reduced its.params 0 c.args (reached_steps frame its site c xs l) h in
       record { examined = a.0; good = a.1.1.1.1.0; later = a.1.1.1.1.1 }
 
   -- ---- hits
@@ -144,8 +145,8 @@ module _ (forms : Forms) (callee : ℕ → Found → Work) (arrays : List (List 
   abbrev pub CoversAll : Use → Type 0
   CoversAll u = (spans : List Span) → LiesIn arrays u.array spans → Share u.rect spans
 
-  -- an access of the form of this element, of one of so many calls from the spot on, in the iterations of the spot
-  pub record Hit (which : Mode → Bool) (n : ℕ) (cs : List ℕ) (spot : Spot) (calls : ℕ) : Type 0 where
+  -- an access of the form of this element, of one of so many calls from the site on, in the iterations of the site
+  pub record Hit (which : Mode → Bool) (n : ℕ) (cs : List ℕ) (site : CallSite) (calls : ℕ) : Type 0 where
     pub index : ℕ
     pub access : Use
     pub there : slice_get uses index ≡ Some access
@@ -153,21 +154,21 @@ module _ (forms : Forms) (callee : ℕ → Found → Work) (arrays : List (List 
     pub array : access.array ≡ n
     pub block : (covers access.rect cs ≡ true) ⊎ CoversAll access
     pub rest : List ℕ
-    pub round : access.iterations ≡ spot.iterations ++ rest
-    pub low : spot.call ≤ access.call
-    pub high : access.call < spot.call + calls
+    pub round : access.iterations ≡ site.iterations ++ rest
+    pub low : site.call ≤ access.call
+    pub high : access.call < site.call + calls
 
   -- what holds of all modes that write
   abbrev pub Written : (Mode → Bool) → Type 0
   Written which = (m : Mode) → is_written m ≡ true → which m ≡ true
 
   -- each access of the work is one of the form
-  abbrev pub Hits : Work → Spot → ℕ → Type 0
-  Hits w spot calls = (which : Mode → Bool) → Written which → (n : ℕ) (cs : List ℕ) → accesses (λ a. which a.mode) w n cs ≡ true → Hit which n cs spot calls
+  abbrev pub Hits : Work → CallSite → ℕ → Type 0
+  Hits w site calls = (which : Mode → Bool) → Written which → (n : ℕ) (cs : List ℕ) → accesses (λ a. which a.mode) w n cs ≡ true → Hit which n cs site calls
 
   -- an access of a call, by the argument that it is
-  pub record CallHit (which : Mode → Bool) (n : ℕ) (cs : List ℕ) (spot : Spot) (xs : List Argument) : Type 0 where
-    pub hit : Hit which n cs spot 1
+  pub record CallHit (which : Mode → Bool) (n : ℕ) (cs : List ℕ) (site : CallSite) (xs : List Argument) : Type 0 where
+    pub hit : Hit which n cs site 1
     pub own : Argument
     pub position : slice_get xs hit.access.arg ≡ Some own
     pub is : own.array ≡ n
@@ -176,24 +177,24 @@ module _ (forms : Forms) (callee : ℕ → Found → Work) (arrays : List (List 
   nothing_more [] = refl
   nothing_more (x ∷ xs) = ap (λ ys. x ∷ ys) (nothing_more xs)
 
-  module _ (frame : Frame) (names : Names) (spot : Spot) (c : CallStmt) (its : Callee) (xs : List Argument) (good : GoodCall (called frame its spot c xs)) where
+  module _ (frame : Frame) (names : Names) (site : CallSite) (c : CallStmt) (its : Callee) (xs : List Argument) (good : GoodCall (call_of frame its site c xs)) where
     -- an argument is one of the form's accesses
     argument_hit : (which : Mode → Bool) (n : ℕ) (cs : List ℕ) (j : ℕ) (x : Argument) → slice_get xs j ≡ Some x → which x.mode ≡ true → x.array ≡ n
-        → (covers x.rect cs ≡ true) ⊎ CoversAll (use_of spot (form_number forms (called frame its spot c xs).key) (0 + j) x) → CallHit which n cs spot xs
+        → (covers x.rect cs ≡ true) ⊎ CoversAll (use_of site (form_number forms (call_of frame its site c xs).key) (0 + j) x) → CallHit which n cs site xs
     argument_hit which n cs j x there mode array block =
-        let number = form_number forms (called frame its spot c xs).key in
-        let a = good.among j (use_of spot number (0 + j) x) (use_there spot number 0 xs j x there) in
+        let number = form_number forms (call_of frame its site c xs).key in
+        let a = good.among j (use_of site number (0 + j) x) (use_there site number 0 xs j x there) in
         let z : j ≡ 0 + j = omega arith in
         record {
           hit = record {
             index = a.0;
-            access = use_of spot number (0 + j) x;
+            access = use_of site number (0 + j) x;
             there = a.1;
             mode = mode;
             array = array;
             block = block;
             rest = [];
-            round = nothing_more spot.iterations;
+            round = nothing_more site.iterations;
             low = omega arith;
             high = omega arith;
           };
@@ -203,10 +204,10 @@ module _ (forms : Forms) (callee : ℕ → Found → Work) (arrays : List (List 
         }
 
     pub whole_hit : (which : Mode → Bool) (n : ℕ) (cs : List ℕ) (j : ℕ) (x : Argument) → slice_get xs j ≡ Some x → which x.mode ≡ true → x.array ≡ n
-        → ((spans : List Span) → LiesIn arrays x.array spans → Share x.rect spans) → CallHit which n cs spot xs
+        → ((spans : List Span) → LiesIn arrays x.array spans → Share x.rect spans) → CallHit which n cs site xs
     whole_hit which n cs j x there mode array all = argument_hit which n cs j x there mode array (inr all)
 
-    pub call_hit : (which : Mode → Bool) (n : ℕ) (cs : List ℕ) → list_any (λ a. which a.mode && has n cs a) xs ≡ true → CallHit which n cs spot xs
+    pub call_hit : (which : Mode → Bool) (n : ℕ) (cs : List ℕ) → list_any (λ a. which a.mode && has n cs a) xs ≡ true → CallHit which n cs site xs
     call_hit which n cs h =
         let s = some_there (λ a. which a.mode && has n cs a) xs h in
         let x = s.1 in
@@ -244,10 +245,10 @@ module _ (forms : Forms) (callee : ℕ → Found → Work) (arrays : List (List 
     blocks_share cs i j u v p q same (inr a) b = a v.rect (subst (λ n. LiesIn arrays n v.rect) (sym same) (lies j v q))
     blocks_share cs i j u v p q same (inl a) (inr b) = share_flipped v.rect u.rect (b u.rect (subst (λ n. LiesIn arrays n u.rect) same (lies i u p)))
 
-    module _ (m : Map) (quiet : Quiet m) (spot : Spot) (place : Place) (kind : MapKind) (calls : ℕ) (depth : m.depth ≡ length spot.iterations)
-        (low : m.calls.lo ≡ spot.call) (high : m.calls.hi ≡ spot.call + calls) where
-      in_run : (which : Mode → Bool) (n : ℕ) (cs : List ℕ) (t : ℕ) (h : Hit which n cs (within spot place kind t) calls) → (m.reduced ≡ Some h.access.arg → ⊥)
-          → IsOf m spot.iterations h.access
+    module _ (m : Map) (quiet : Quiet m) (site : CallSite) (place : Place) (kind : MapKind) (calls : ℕ) (depth : m.depth ≡ length site.iterations)
+        (low : m.calls.lo ≡ site.call) (high : m.calls.hi ≡ site.call + calls) where
+      in_run : (which : Mode → Bool) (n : ℕ) (cs : List ℕ) (t : ℕ) (h : Hit which n cs (within site place kind t) calls) → (m.reduced ≡ Some h.access.arg → ⊥)
+          → IsOf m site.iterations h.access
       in_run which n cs t h kept =
           let above = h.low in
           let under = h.high in
@@ -256,18 +257,18 @@ module _ (forms : Forms) (callee : ℕ → Found → Work) (arrays : List (List 
             kept = kept;
             round_is =
                 ap (λ d. take d h.access.iterations) depth
-                ∙ (ap (take (length spot.iterations)) (h.round ∙ append_assoc spot.iterations (t ∷ []) h.rest) ∙ take-append_seam spot.iterations (t ∷ h.rest));
+                ∙ (ap (take (length site.iterations)) (h.round ∙ append_assoc site.iterations (t ∷ []) h.rest) ∙ take-append_seam site.iterations (t ∷ h.rest));
           }
 
-      turn_of : (which : Mode → Bool) (n : ℕ) (cs : List ℕ) (t : ℕ) (h : Hit which n cs (within spot place kind t) calls)
+      turn_of : (which : Mode → Bool) (n : ℕ) (cs : List ℕ) (t : ℕ) (h : Hit which n cs (within site place kind t) calls)
           → slice_get h.access.iterations m.depth ≡ Some t
       turn_of which n cs t h =
           ap (slice_get h.access.iterations) depth
-          ∙ (ap (λ l. slice_get l (length spot.iterations)) (h.round ∙ append_assoc spot.iterations (t ∷ []) h.rest) ∙ at_seam spot.iterations t h.rest)
+          ∙ (ap (λ l. slice_get l (length site.iterations)) (h.round ∙ append_assoc site.iterations (t ∷ []) h.rest) ∙ at_seam site.iterations t h.rest)
 
       -- an element that one iteration writes is not touched by another
       pub apart : (which : Mode → Bool) (n : ℕ) (cs : List ℕ) (a b : ℕ) → (a ≡ b → ⊥)
-          → (x : Hit is_written n cs (within spot place kind a) calls) (y : Hit which n cs (within spot place kind b) calls)
+          → (x : Hit is_written n cs (within site place kind a) calls) (y : Hit which n cs (within site place kind b) calls)
           → (m.reduced ≡ Some x.access.arg → ⊥) → (m.reduced ≡ Some y.access.arg → ⊥) → ⊥
       apart which n cs a b other x y kept_x kept_y =
           let u = x.access in
@@ -279,7 +280,7 @@ module _ (forms : Forms) (callee : ℕ → Found → Work) (arrays : List (List 
           let write : accesses.writes u.mode ≡ true = writes_same u.mode ∙ x.mode in
           let one = in_run is_written n cs a x kept_x in
           let two = in_run which n cs b y kept_y in
-          let front : IsRace m spot.iterations u v = record {
+          let front : IsRace m site.iterations u v = record {
             one = one;
             other = two;
             iterations = λ e. other (some_same a b (sym at_a ∙ (e ∙ at_b)));
@@ -287,7 +288,7 @@ module _ (forms : Forms) (callee : ℕ → Found → Work) (arrays : List (List 
             share = share;
             write = inl write;
           } in
-          let back : IsRace m spot.iterations v u = record {
+          let back : IsRace m site.iterations v u = record {
             one = two;
             other = one;
             iterations = λ e. other (some_same a b (sym at_a ∙ (sym e ∙ at_b)));
@@ -300,19 +301,19 @@ module _ (forms : Forms) (callee : ℕ → Found → Work) (arrays : List (List 
           order : (i j : ℕ) → (i < j) ⊎ ((j < i) ⊎ (i ≡ j))
           order i j = grind arith
 
-          by_order : (x.index < y.index) ⊎ ((y.index < x.index) ⊎ (x.index ≡ y.index)) → IsRace m spot.iterations x.access y.access
-              → IsRace m spot.iterations y.access x.access → ⊥
-          by_order (inl less) front back = quiet.none spot.iterations x.index y.index x.access y.access x.there y.there less front
-          by_order (inr (inl less)) front back = quiet.none spot.iterations y.index x.index y.access x.access y.there x.there less back
+          by_order : (x.index < y.index) ⊎ ((y.index < x.index) ⊎ (x.index ≡ y.index)) → IsRace m site.iterations x.access y.access
+              → IsRace m site.iterations y.access x.access → ⊥
+          by_order (inl less) front back = quiet.none site.iterations x.index y.index x.access y.access x.there y.there less front
+          by_order (inr (inl less)) front back = quiet.none site.iterations y.index x.index y.access x.access y.there x.there less back
           by_order (inr (inr same)) front back =
               let one : x.access ≡ y.access = some_same x.access y.access (sym x.there ∙ (ap (slice_get uses) same ∙ y.there)) in
               other (some_same a b (sym (turn_of is_written n cs a x) ∙ (ap (λ (u : Use). slice_get u.iterations m.depth) one ∙ turn_of which n cs b y)))
 
   -- ---- within
 
-  pub outer_hit : (which : Mode → Bool) (n : ℕ) (cs : List ℕ) (spot : Spot) (place : Place) (kind : MapKind) (t calls : ℕ)
-      → Hit which n cs (within spot place kind t) calls → Hit which n cs spot calls
-  outer_hit which n cs spot place kind t calls h = record {
+  pub outer_hit : (which : Mode → Bool) (n : ℕ) (cs : List ℕ) (site : CallSite) (place : Place) (kind : MapKind) (t calls : ℕ)
+      → Hit which n cs (within site place kind t) calls → Hit which n cs site calls
+  outer_hit which n cs site place kind t calls h = record {
     index = h.index;
     access = h.access;
     there = h.there;
@@ -320,7 +321,7 @@ module _ (forms : Forms) (callee : ℕ → Found → Work) (arrays : List (List 
     array = h.array;
     block = h.block;
     rest = t ∷ h.rest;
-    round = h.round ∙ append_assoc spot.iterations (t ∷ []) h.rest;
+    round = h.round ∙ append_assoc site.iterations (t ∷ []) h.rest;
     low = h.low;
     high = h.high;
   }

@@ -5,7 +5,7 @@ use Rattle.std.proofs.lemmas.Option.{slice_get_within}
 use Rattle.std.proofs.lemmas.Slice.Eq.{bytes_eq-Decides}
 use Rattle.std.proofs.lemmas.List.{length-take}
 use Rattle.std.specs.Str.{bytes_eq}
-use Rattle.sq_spec.specs.declared.form.Use.{Use}
+use Rattle.sq_forms.specs.declared.form.Use.{Use}
 use Rattle.sq_race.specs.Accesses.{races}
 use Rattle.sq_race.specs.Order.{at_most, round, AreInOrder}
 use Rattle.sq_race.specs.Pairs.{RaceAt, NoneYet, IsEarliest, IsFirstPair}

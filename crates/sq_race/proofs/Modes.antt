@@ -20,9 +20,9 @@ use Rattle.sq_types.specs.Table as table
 use Rattle.sq_types.specs.Table.{most_arrays, keeps_both, is_both, same_mode, same_elem}
 use Rattle.sq_types.specs.Sites.{VariantKey, params_of, param_at, param_known, params_known, with_param, decls_known, is_seen, key_of, with_seen}
 use Rattle.sq_types.specs.Sound.{agrees, is_new, is_as_first, are_sound_extents, is_sound_param, are_sound_params, are_sound_decls, is_sound_body, is_sound_variant, are_sound_variants}
-use Rattle.sq_spec.specs.Args.{mode_of}
-use Rattle.sq_spec.specs.Calls.{is_written}
-use Rattle.sq_spec.specs.Tables.{first_of_kind, same_kind, variant_of, at_index}
+use Rattle.sq_forms.specs.Args.{mode_of}
+use Rattle.sq_ast.specs.Modes.{is_written}
+use Rattle.sq_forms.specs.Tables.{first_of_kind, same_kind, variant_of, at_index}
 use Rattle.sq_race.proofs.Wholes.{both}
 
 some_same : {A : Type 0} (x y : A) → Some x ≡ Some y → x ≡ y

@@ -6,7 +6,7 @@ use Rattle.std.proofs.lemmas.Option.{slice_get_within}
 use Rattle.sq_race.specs.Accesses.{counts}
 use Rattle.sq_race.specs.Order.{at_most, round, not_after, follows, AreInOrder, OrderedTo}
 use Rattle.sq_race.specs.Pairs.{AreTogether}
-use Rattle.sq_spec.specs.declared.form.Use.{Use}
+use Rattle.sq_forms.specs.declared.form.Use.{Use}
 use Rattle.sq_race.specs.declared.map.Map.{Map}
 use Rattle.sq_race.proofs.Steps.{one_there, no_bool, same_numbers, alike_from}
 

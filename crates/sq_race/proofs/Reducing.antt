@@ -14,12 +14,12 @@ use Rattle.sq_types.specs.Table.{is_block_of, uses_of, keeps_both, has_whole}
 use Rattle.sq_types.specs.Sound.{may_be_reduced, may_write}
 use Rattle.sq_blocks.specs.Names.{Numbers}
 use Rattle.sq_blocks.specs.Spans.{wholes}
-use Rattle.sq_spec.specs.declared.args.Argument.{Argument}
-use Rattle.sq_spec.specs.declared.args.Block.{Block}
-use Rattle.sq_spec.specs.declared.known.Array.{Array}
-use Rattle.sq_spec.specs.Faults.{Value, and_then}
-use Rattle.sq_spec.specs.Args.{Names, of_array, all_of_array, whole_array, found, block_by, argument, mode_of, is_reduced}
-use Rattle.sq_spec.specs.Reached.{AreExamined}
+use Rattle.sq_blocks.specs.declared.argument.Argument.{Argument}
+use Rattle.sq_forms.specs.declared.args.Block.{Block}
+use Rattle.sq_forms.specs.declared.known.Array.{Array}
+use Rattle.sq_forms.specs.Faults.{Value, and_then}
+use Rattle.sq_forms.specs.Args.{Names, of_array, all_of_array, whole_array, block_or_fault, block_by, argument, mode_of, is_reduced}
+use Rattle.sq_form_laws.specs.Reached.{AreExamined}
 use Rattle.sq_race.specs.Table.{position_from}
 use Rattle.sq_race.proofs.Wholes.{both}
 
@@ -141,7 +141,7 @@ module _ (names : Names) (numbers : Numbers) (reduced : Option Bytes) (param : O
   placed b = Ok b
 
   by_rect : (c : Array) (b : Block) (o : Option (List Span)) → lookup (same_name (out-ArgUse a).name) names.arrays ≡ Some c → wholes c.extents ≡ o
-      → found a (of_array c.number o) ≡ Ok b → okay (made b) ≡ Ok x → IsWhole names (out-ArgUse a).name param x
+      → block_or_fault a (of_array c.number o) ≡ Ok b → okay (made b) ≡ Ok x → IsWhole names (out-ArgUse a).name param x
   by_rect c b None e w h g = absurd (cc h)
   by_rect c b (Some rect) e w h g =
       let own : Block = record { array = c.number; rect = rect } in
@@ -156,19 +156,19 @@ module _ (names : Names) (numbers : Numbers) (reduced : Option Bytes) (param : O
         mode = sym (ap (λ (y : Argument). y.mode) is);
       }
 
-  by_array : (b : Block) (o : Option Array) → lookup (same_name (out-ArgUse a).name) names.arrays ≡ o → found a (all_of_array o) ≡ Ok b → okay (made b) ≡ Ok x
+  by_array : (b : Block) (o : Option Array) → lookup (same_name (out-ArgUse a).name) names.arrays ≡ o → block_or_fault a (all_of_array o) ≡ Ok b → okay (made b) ≡ Ok x
       → IsWhole names (out-ArgUse a).name param x
   by_array b None e h g = absurd (cc h)
   by_array b (Some c) e h g = by_rect c b (wholes c.extents) e refl h g
 
-  by_block : (v : Value Block) → found a (whole_array names (out-ArgUse a).name) ≡ v → and_then v (λ b. okay (made b)) ≡ Ok x
+  by_block : (v : Value Block) → block_or_fault a (whole_array names (out-ArgUse a).name) ≡ v → and_then v (λ b. okay (made b)) ≡ Ok x
       → IsWhole names (out-ArgUse a).name param x
   by_block (Ok b) e h = by_array b (lookup (same_name (out-ArgUse a).name) names.arrays) refl e h
   by_block (Err f) e h = absurd (cc h)
 
   by_index : (index : List Expr) → index ≡ [] → and_then (block_by names numbers a index) (λ b. okay (made b)) ≡ Ok x
       → IsWhole names (out-ArgUse a).name param x
-  by_index [] e h = by_block (found a (whole_array names (out-ArgUse a).name)) refl h
+  by_index [] e h = by_block (block_or_fault a (whole_array names (out-ArgUse a).name)) refl h
   by_index (y ∷ ys) e h = absurd (cc e)
 
   pub is_whole : (out-ArgUse a).index ≡ [] → argument names numbers reduced param a ≡ Ok x → IsWhole names (out-ArgUse a).name param x

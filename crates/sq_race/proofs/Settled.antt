@@ -4,7 +4,7 @@ use Rattle.std.proofs.lemmas.Grind.{common_steps}
 use Rattle.std.proofs.lemmas.Bool.{cases_eq, cases_lt, eqb-true, eq-eqb}
 use Rattle.sq_text.specs.declared.place.Span.{Span}
 use Rattle.sq_rect.specs.Blocks.{is_within}
-use Rattle.sq_spec.specs.declared.form.Use.{Use}
+use Rattle.sq_forms.specs.declared.form.Use.{Use}
 use Rattle.sq_race.specs.Blocks.{span_overlaps, span_covers}
 use Rattle.sq_race.specs.Accesses.{counts, writes, races, same_run, same_iteration, shares, contains, stands_for, settles}
 use Rattle.sq_race.specs.Pairs.{RaceAt, NoneYet, NoneAt}

@@ -10,7 +10,7 @@ use Rattle.sq_race.specs.Accesses.{counts, writes, block_of, races, same_run, sa
 use Rattle.sq_race.specs.Pairs.{IsKept, IsMarked, AreMarked, marks_of, NoneWith, NoneYet, NoneAt, IsReady, RaceAt, IsEarliest, AreTogether, AreWithin, AreWithinTo, CountsAt, may_race}
 use Rattle.sq_race.specs.Marks.{touched}
 use Rattle.sq_race.specs.declared.marks.Marks.{Marks}
-use Rattle.sq_spec.specs.declared.form.Use.{Use}
+use Rattle.sq_forms.specs.declared.form.Use.{Use}
 use Rattle.sq_race.specs.declared.map.Map.{Map}
 use Rattle.sq_race.proofs.Blocks.{lies_covered}
 use Rattle.sq_race.proofs.Finding.{shared, shared_left, shared_right, any_found}

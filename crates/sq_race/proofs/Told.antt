@@ -4,9 +4,9 @@ use Rattle.std.proofs.lemmas.Bool.{cases_eq, cases_lt}
 use Rattle.std.proofs.lemmas.Option.{slice_get_within}
 use Rattle.sq_ast.specs.declared.program.Variant.{Variant}
 use Rattle.sq_mapfile.specs.declared.mapping.Instance.{Instance}
-use Rattle.sq_spec.specs.Tables.{at_index}
-use Rattle.sq_spec.specs.declared.form.Form.{Form}
-use Rattle.sq_spec.specs.declared.form.Use.{Use}
+use Rattle.sq_forms.specs.Tables.{at_index}
+use Rattle.sq_forms.specs.declared.form.Form.{Form}
+use Rattle.sq_forms.specs.declared.form.Use.{Use}
 use Rattle.sq_spec.specs.declared.resolved.Resolved.{Resolved}
 use Rattle.sq_race.specs.Race.{HoldsIn, HoldsAt, IsFirstIn, IsFirstOf, IsFirstRace, IsFirstOfForm, NoneOfForms, IsTold, maps_of_form, variant_in, variant_by, number_by, number_in, maps_by, all_maps, listed}
 use Rattle.sq_race.specs.declared.map.Map.{Map}

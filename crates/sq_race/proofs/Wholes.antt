@@ -6,7 +6,7 @@ use Rattle.sq_rect.specs.Blocks.{Covers, Share}
 use Rattle.sq_blocks.specs.Insides.{AreSpansIn}
 use Rattle.sq_blocks.specs.Spans.{wholes, span_of}
 use Rattle.sq_blocks.proofs.BlocksHold.{is_span, joined}
-use Rattle.sq_spec.specs.Meaning.{covers}
+use Rattle.sq_work.specs.Meaning.{covers}
 
 pub both : (a b : Bool) → (a && b) ≡ true → (a ≡ true) × (b ≡ true)
 both true b h = (refl, h)

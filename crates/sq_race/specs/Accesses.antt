@@ -4,7 +4,7 @@ use Rattle.std.specs.Str.{bytes_eq}
 use Rattle.sq_text.specs.declared.place.Span.{Span}
 use Rattle.sq_race.specs.Blocks.{whole_span, span_overlaps, span_covers}
 use Rattle.sq_race.specs.declared.block.Block.{Block}
-use Rattle.sq_spec.specs.declared.form.Use.{Use}
+use Rattle.sq_forms.specs.declared.form.Use.{Use}
 use Rattle.sq_race.specs.declared.map.Map.{Map}
 use Rattle.sq_ast.specs.declared.program.Mode.{Mode}
 use Rattle.sq_ast.specs.declared.program.Mode.TheVariants.{Input, Output, Both}

@@ -3,7 +3,7 @@
 use Rattle.std.specs.Prelude.{None}
 use Rattle.sq_spec.specs.declared.resolved.Resolved.{Resolved}
 use Rattle.sq_spec.specs.Works.{work_of}
-use Rattle.sq_spec.specs.InTurn.{IsRaceFree}
+use Rattle.sq_work.specs.InTurn.{IsRaceFree}
 use Rattle.sq_race.specs.Race.{IsFirstRace}
 
 abbrev pub NoRaceIsFree : Type 0

@@ -1,7 +1,7 @@
 -- The race of a map that comes first: by the numbers of the maps round it, then by the later access, then by the
 -- earlier one.
 use Rattle.std.specs.Prelude.{◌≡◌, ℕ, ◌<◌, ◌≤◌, ◌⊎◌, true, List, slice_get, Option, Some, None, if◌then◌else◌}
-use Rattle.sq_spec.specs.declared.form.Use.{Use}
+use Rattle.sq_forms.specs.declared.form.Use.{Use}
 use Rattle.sq_race.specs.Order.{at_most, round}
 use Rattle.sq_race.specs.Pairs.{RaceAt, NoneYet}
 use Rattle.sq_race.specs.declared.map.Map.{Map}

@@ -1,7 +1,7 @@
 -- Lists of numbers, compared number by number; a list comes before those that it begins.
 use Rattle.std.specs.Prelude.{◌≡◌, ℕ, ◌-◌, not, ◌<◌, ◌≤◌, Bool, true, false, ◌&&◌, ◌||◌, ◌==◌, nat_lt, List, [], ◌∷◌, take, slice_get, Some}
 use Rattle.sq_race.specs.Accesses.{counts}
-use Rattle.sq_spec.specs.declared.form.Use.{Use}
+use Rattle.sq_forms.specs.declared.form.Use.{Use}
 use Rattle.sq_race.specs.declared.map.Map.{Map}
 
 abbrev pub at_most : List ℕ → List ℕ → Bool

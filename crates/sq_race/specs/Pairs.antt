@@ -5,7 +5,7 @@ use Rattle.sq_race.specs.Layers.{has_any, meets_any}
 use Rattle.sq_race.specs.Accesses.{counts, races, same_run, same_iteration, writes, block_of}
 use Rattle.sq_race.specs.Marks.{blank, touched}
 use Rattle.sq_race.specs.declared.marks.Marks.{Marks}
-use Rattle.sq_spec.specs.declared.form.Use.{Use}
+use Rattle.sq_forms.specs.declared.form.Use.{Use}
 use Rattle.sq_race.specs.declared.map.Map.{Map}
 use Rattle.sq_race.specs.declared.pairs.Pair.{Pair}
 

@@ -8,9 +8,9 @@ use Rattle.sq_ast.specs.declared.program.Decl.TheVariants as decl
 use Rattle.sq_ast.specs.declared.program.Variant.{Variant}
 use Rattle.sq_mapfile.specs.declared.mapping.Instance.{Instance}
 use Rattle.sq_rect.specs.Blocks.{Share}
-use Rattle.sq_spec.specs.Tables.{variant_of, first_of_kind}
-use Rattle.sq_spec.specs.declared.form.Form.{Form}
-use Rattle.sq_spec.specs.declared.form.Use.{Use}
+use Rattle.sq_forms.specs.Tables.{variant_of, first_of_kind}
+use Rattle.sq_forms.specs.declared.form.Form.{Form}
+use Rattle.sq_forms.specs.declared.form.Use.{Use}
 use Rattle.sq_spec.specs.declared.resolved.Resolved.{Resolved}
 use Rattle.sq_race.specs.Accesses.{writes}
 use Rattle.sq_race.specs.Least.{IsLess}

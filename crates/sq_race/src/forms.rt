@@ -8,7 +8,7 @@ use crate::map::Map;
 use crate::pairs::Pair;
 use crate::plain::race_of;
 use crate::taken::{all_below, of_calls};
-use sq_spec::Use;
+use sq_forms::Use;
 use sq_text::Span;
 use std::alloc::{AllocError, Global};
 

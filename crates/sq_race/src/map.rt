@@ -6,8 +6,8 @@ ghost use Rattle.sq_race.specs.Blocks as blocks;
 
 use crate::block::Block;
 use sq_ast::Mode;
+use sq_forms::Use;
 use sq_rect::{Rect, inside, overlap};
-use sq_spec::Use;
 use sq_text::{Place, Span};
 
 /// A `mappar` or `mapreduce` of a variant.

@@ -6,7 +6,7 @@ ghost use Rattle.sq_race.specs.Pairs.{AreWithin};
 
 use crate::map::{Map, first};
 use crate::taken::{Taken, nth};
-use sq_spec::Use;
+use sq_forms::Use;
 
 /// Whether the runs of the map follow one another by the numbers of the maps round it.
 pub fn are_in_order(map: &Map, uses: &[Taken<'_>]) -> bool

@@ -10,7 +10,7 @@ use crate::map::{Map, block_of, is_write};
 use crate::marks::Marks;
 use crate::recent::Recent;
 use crate::taken::{Taken, nth};
-use sq_spec::Use;
+use sq_forms::Use;
 use std::alloc::{AllocError, Global};
 
 /// Two accesses, by their numbers.

@@ -10,7 +10,7 @@ use crate::map::Map;
 use crate::order::{are_in_order, arrays_of, is_not_after};
 use crate::pairs::{Pair, earliest, first_pair};
 use crate::taken::{Taken, accesses, nth, of_arrays, written};
-use sq_spec::Use;
+use sq_forms::Use;
 use std::alloc::{AllocError, Global};
 
 // The race that comes first of one found before, and of one with a later access.

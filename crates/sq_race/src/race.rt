@@ -2,15 +2,16 @@
 
 ghost use Rattle.std.specs.Prelude.{◌≡◌, ◌<◌, [], length, map, slice_get, get_or, Some, IfOk};
 ghost use Rattle.std.specs.Option.{option_copied};
-ghost use Rattle.sq_spec.specs.Tables.{at_index};
+ghost use Rattle.sq_forms.specs.Tables.{at_index};
 ghost use Rattle.sq_race.specs.Race as spec;
 
 use crate::forms::{Found, first_of};
 use crate::map::Map;
 use crate::table::maps_in;
 use sq_ast::{Body, Decl, Param, Variant};
+use sq_forms::{Form, Use};
 use sq_rect::Rect;
-use sq_spec::{Form, Resolved, Use, variant_number};
+use sq_spec::Resolved;
 use sq_text::{Name, Place};
 use sqlite_items::{Items, at};
 use std::alloc::{AllocError, Global};
@@ -36,11 +37,7 @@ fn number_in(r: &Resolved<'_>, form: &Form) -> Option<usize>
     ensures { result ≡ spec.number_in r.now form.now }
 {
     let instance = at(r.mapping().instances.as_slice(), form.instance as usize)?;
-    variant_number(
-        r.typed().program().tasks.as_slice(),
-        &instance.task,
-        instance.kind,
-    )
+    r.variant_number(&instance.task, instance.kind)
 }
 
 fn variant_at<'a>(variants: &'a [Variant], number: Option<usize>) -> Option<&'a Variant>

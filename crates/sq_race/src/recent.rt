@@ -6,7 +6,7 @@ ghost use Rattle.sq_race.specs.Accesses as spec;
 
 use crate::map::{Map, is_write, settles, stands_for};
 use crate::taken::{Taken, nth};
-use sq_spec::Use;
+use sq_forms::Use;
 use std::alloc::{AllocError, Global};
 
 const MOST_ROWS: usize = 16_384;

@@ -4,7 +4,7 @@ ghost use Rattle.std.specs.Prelude.{◌≡◌, ◌<◌, [], length, slice_get, S
 ghost use Rattle.sq_race.specs.Selection as spec;
 
 use crate::map::{Map, is_write};
-use sq_spec::Use;
+use sq_forms::Use;
 use sq_text::Span;
 use sqlite_items::at;
 use std::alloc::{AllocError, Global};
@@ -17,7 +17,7 @@ pub struct Taken<'a> {
 }
 
 impl<'a> Model for Taken<'a> {
-    ghost use Rattle.sq_spec.specs.declared.form.Use.{Use};
+    ghost use Rattle.sq_forms.specs.declared.form.Use.{Use};
 
     ghost Value = { Use };
 

@@ -6,16 +6,16 @@ use Rattle.std.specs.Coded.{Coded-set, coded_result, coded_option, coded_list, c
 use Rattle.sq_text.specs.contracts.fault.Fault as fault
 use Rattle.sq_ast.specs.declared.program.Variant.{Variant}
 use Rattle.sq_mapfile.specs.declared.mapping.Mapping.{Mapping}
-use Rattle.sq_spec.specs.contracts.form.Found as found
-use Rattle.sq_spec.specs.declared.form.Form.{Form}
+use Rattle.sq_forms.specs.contracts.form.Found as found
+use Rattle.sq_forms.specs.declared.form.Form.{Form}
 use Rattle.sq_spec.specs.declared.resolved.Resolved.{Resolved}
-use Rattle.sq_spec.specs.Faults.{Value, value_or, and_then}
-use Rattle.sq_spec.specs.Steps.{most_forms}
-use Rattle.sq_spec.specs.Resolving.{Resolving, resolved, walk_from, begun, entry_params, entry_extents, entry_form, with_locals}
+use Rattle.sq_forms.specs.Faults.{Value, value_or, and_then}
+use Rattle.sq_forms.specs.Steps.{most_forms}
+use Rattle.sq_forms.specs.Resolving.{Resolving, resolution, walk_from, with_entry, entry_params, entry_extents, entry_form, with_locals}
 use Rattle.sq_spec.specs.Walked.{IsWalked}
 use Rattle.sq_spec.specs.Entry.{EntryIsFirst}
-use Rattle.sq_spec.proofs.AllForms.{forms_limit}
-use Rattle.sq_spec.proofs.FormsHold.{each_walked, went}
+use Rattle.sq_forms.proofs.AllForms.{forms_limit}
+use Rattle.sq_form_laws.proofs.FormsHold.{each_walked, went}
 
 -- the first form of a walk that went through
 record First (variants : List Variant) (mapping : Mapping) (r : Resolving) : Type 0 where
@@ -25,13 +25,13 @@ record First (variants : List Variant) (mapping : Mapping) (r : Resolving) : Typ
 
 first_from : (variants : List Variant) (mapping : Mapping) (r : Resolving) (v : Value (List (List ℕ)))
     → entry_extents mapping.sizes (entry_params variants (slice_get mapping.instances mapping.entry)) ≡ v
-    → and_then v (λ extents. walk_from variants mapping.instances most_forms 0 (begun mapping.entry extents)) ≡ Ok r → First variants mapping r
+    → and_then v (λ extents. walk_from variants mapping.instances most_forms 0 (with_entry mapping.entry extents)) ≡ Ok r → First variants mapping r
 first_from variants mapping r (Err x) e h = absurd (cc h)
 first_from variants mapping r (Ok extents) e h =
-    let w = went variants mapping.instances most_forms 0 (begun mapping.entry extents) r refl refl h in
+    let w = went variants mapping.instances most_forms 0 (with_entry mapping.entry extents) r refl refl h in
     record { extents = extents; fit = e; found = ap (λ l. slice_get l 0) w.found.same }
 
-first_of : (variants : List Variant) (mapping : Mapping) (r : Resolving) → resolved variants mapping ≡ Ok r → First variants mapping r
+first_of : (variants : List Variant) (mapping : Mapping) (r : Resolving) → resolution variants mapping ≡ Ok r → First variants mapping r
 first_of variants mapping r h = first_from variants mapping r (entry_extents mapping.sizes (entry_params variants (slice_get mapping.instances mapping.entry))) refl h
 
 some_same : {A : Type 0} (x y : A) → Some x ≡ Some y → x ≡ y

@@ -1,5 +1,5 @@
 -- Where callees are known by their numbers, the statements of a form do the same, one iteration after another.
-use Rattle.std.proofs.Common.{◌≡◌, ℕ, zero, suc, ◌+◌, ◌<◌, List, [], ◌∷◌, map, slice_get, Option, Some, None, Ok, refl, sym, ap, ◌∙◌, subst, arith}
+use Rattle.std.proofs.Common.{◌≡◌, ℕ, zero, suc, ◌+◌, ◌<◌, nat_eq, Bool, ◌||◌, List, [], ◌∷◌, map, slice_get, Option, Some, None, Ok, refl, sym, ap, ap₂, ◌∙◌, subst, arith}
 use mathlib.Core.Path.{fun_ext}
 use Rattle.sq_num.specs.declared.Elem.{Elem}
 use Rattle.sq_text.specs.declared.place.Place.{Place}
@@ -15,43 +15,87 @@ use Rattle.sq_ast.specs.declared.stmt.Stmt.TheOpen.{Stmt-F}
 use Rattle.sq_ast.specs.declared.stmt.Stmt.TheFolds.{fold-Stmt, fold-roll-Stmt, ind-Stmt, map-Stmt}
 use Rattle.sq_blocks.specs.Names.{Numbers}
 use Rattle.sq_leaf.specs.Source.{Arrays}
-use Rattle.sq_spec.specs.declared.form.Found.{Found}
-use Rattle.sq_spec.specs.declared.begun.Manner.{Manner}
-use Rattle.sq_spec.specs.declared.begun.Manner.TheVariants as manner
-use Rattle.sq_spec.specs.Faults.{value_or}
-use Rattle.sq_spec.specs.Steps.{Step, Part, Called, Forms, Opens, Counts, Tests, Calls, key_number}
-use Rattle.sq_spec.specs.Args.{Names, used, arguments, args_steps}
-use Rattle.sq_spec.specs.Worlds.{Frame, Callee, callee_of}
-use Rattle.sq_spec.specs.Calls.{Spot, called, served_steps, reached_steps}
-use Rattle.sq_spec.specs.Stmts.{Portion, portion, calls_of as portion_calls, all_of, after_calls, bounds, times_of, in_iteration, within, each, opens, outermost, iteration_steps, map_steps, stmts_steps}
-use Rattle.sq_spec.specs.Resolving.{start}
-use Rattle.sq_spec.specs.Reached.{calls_in}
-use Rattle.sq_spec.specs.Begun.{number_or, manner_of}
-use Rattle.sq_spec.specs.Work.{Work, Then}
-use Rattle.sq_spec.specs.Meaning.{Outcome, and_then, entered, returned}
-use Rattle.sq_spec.specs.InTurn.{gathering, serial}
+use Rattle.sq_forms.specs.declared.form.Found.{Found}
+use Rattle.sq_spec.specs.declared.statement.LoopKind.{LoopKind}
+use Rattle.sq_spec.specs.declared.statement.LoopKind.TheVariants as loop_kind
+use Rattle.sq_forms.specs.Faults.{value_or}
+use Rattle.sq_forms.specs.Steps.{Step, Part, Called, Forms, Opens, Counts, Tests, Calls, key_number}
+use Rattle.sq_forms.specs.Args.{Names, use_step, arguments, args_steps}
+use Rattle.sq_forms.specs.Worlds.{Frame, Callee, callee_of}
+use Rattle.sq_forms.specs.Calls.{CallSite, call_of, served_steps, reached_steps}
+use Rattle.sq_forms.specs.Stmts.{Portion, portion, calls_of as portion_calls, all_of, after_calls, bounds, times_of, in_iteration, within, each, opens, outermost, iteration_steps, map_steps, stmts_steps}
+use Rattle.sq_forms.specs.Resolving.{start}
+use Rattle.sq_form_laws.specs.Reached.{calls_in}
+use Rattle.sq_spec.specs.Statements.{number_or, loop_kind_of}
+use Rattle.sq_work.specs.Work.{Work, Then}
+use Rattle.sq_work.specs.Meaning.{Outcome, and_then, at_entry, at_return, any_below, writes, touches}
+use Rattle.sq_work.specs.InTurn.{AreApart, none_aside, its_array, IsRaceFree, gathering, serial}
 use Rattle.sq_spec.specs.Works as works
 use Rattle.sq_spec.specs.Works.{Share, map_work, call_work, stmts_work}
-use Rattle.sq_spec.proofs.OpenedStmt.{portion_call, portion_map}
-use Rattle.sq_spec.proofs.Serial.{in_turn_same}
+use Rattle.sq_forms.proofs.OpenedStmt.{portion_call, portion_map}
+use Rattle.sq_spec.proofs.Rows.{below_same}
+use Rattle.sq_work.proofs.Serial.{in_turn_same}
 
--- works that do the same where all iterations follow one another
+-- works that do the same where all iterations follow one another, with accesses of the same elements; where the first
+-- has no race, the second has none
 pub record RunAlike (w v : Work) : Type 0 where
   pub at : (s : Arrays) → serial w s ≡ serial v s
+  pub written : (n : ℕ) (cs : List ℕ) → writes w n cs ≡ writes v n cs
+  pub touched : (n : ℕ) (cs : List ℕ) → touches w n cs ≡ touches v n cs
+  pub free : IsRaceFree w → IsRaceFree v
+
+pub run_itself : (w : Work) → RunAlike w w
+run_itself w = record { at = λ s. refl; written = λ n cs. refl; touched = λ n cs. refl; free = λ h. h }
 
 then_alike : (a b c d : Work) → RunAlike a b → RunAlike c d → RunAlike (Then a c) (Then b d)
-then_alike a b c d first second =
-    record { at = λ s. ap (λ (o : Outcome). and_then o (serial c)) (first.at s) ∙ ap (and_then (serial b s)) (fun_ext second.at) }
+then_alike a b c d first second = record {
+  at = λ s. ap (λ (o : Outcome). and_then o (serial c)) (first.at s) ∙ ap (and_then (serial b s)) (fun_ext second.at);
+  written = λ n cs. ap₂ (λ x y. x || y) (first.written n cs) (second.written n cs);
+  touched = λ n cs. ap₂ (λ x y. x || y) (first.touched n cs) (second.touched n cs);
+  free = λ h. (first.free h.0, second.free h.1);
+}
 
 pub between : {w x v y : Work} → w ≡ x → v ≡ y → RunAlike x y → RunAlike w v
-between left right h = record { at = λ s. ap (λ (w : Work). serial w s) left ∙ (h.at s ∙ sym (ap (λ (w : Work). serial w s) right)) }
+between left right h = record {
+  at = λ s. ap (λ (w : Work). serial w s) left ∙ (h.at s ∙ sym (ap (λ (w : Work). serial w s) right));
+  written = λ n cs. ap (λ (w : Work). writes w n cs) left ∙ (h.written n cs ∙ sym (ap (λ (w : Work). writes w n cs) right));
+  touched = λ n cs. ap (λ (w : Work). touches w n cs) left ∙ (h.touched n cs ∙ sym (ap (λ (w : Work). touches w n cs) right));
+  free = λ f. subst IsRaceFree (sym right) (h.free (subst IsRaceFree left f));
+}
 
-map_alike : (m : Manner) (place : Place) (count : ℕ) (w v : ℕ → Work) → ((t : ℕ) → t < count → RunAlike (w t) (v t))
-    → RunAlike (map_work m place count w) (map_work m place count v)
-map_alike manner.InTurn place count w v h = record { at = in_turn_same count (λ t. serial (w t)) (λ t. serial (v t)) (λ t lt. fun_ext (h t lt).at) }
-map_alike manner.AtOnce place count w v h = record { at = in_turn_same count (λ t. serial (w t)) (λ t. serial (v t)) (λ t lt. fun_ext (h t lt).at) }
-map_alike (manner.Gathering r) place count w v h =
-    record { at = in_turn_same count (λ t. gathering r (serial (w t))) (λ t. gathering r (serial (v t))) (λ t lt. ap (gathering r) (fun_ext (h t lt).at)) }
+module _ (count : ℕ) (w v : ℕ → Work) (h : (t : ℕ) → t < count → RunAlike (w t) (v t)) where
+  written_below : (n : ℕ) (cs : List ℕ) → any_below count (λ t. writes (w t) n cs) ≡ any_below count (λ t. writes (v t) n cs)
+  written_below n cs = below_same count (λ t. writes (w t) n cs) (λ t. writes (v t) n cs) (λ t lt. (h t lt).written n cs)
+
+  touched_below : (n : ℕ) (cs : List ℕ) → any_below count (λ t. touches (w t) n cs) ≡ any_below count (λ t. touches (v t) n cs)
+  touched_below n cs = below_same count (λ t. touches (w t) n cs) (λ t. touches (v t) n cs) (λ t lt. (h t lt).touched n cs)
+
+  still_apart : (aside : ℕ → Bool) → AreApart count w aside → AreApart count v aside
+  still_apart aside f = record {
+    at = λ a b n cs la lb ne out wr to. f.at a b n cs la lb ne out ((h a la).written n cs ∙ wr) ((h b lb).touched n cs ∙ to);
+  }
+
+  map_alike : (m : LoopKind) (place : Place) → RunAlike (map_work m place count w) (map_work m place count v)
+  map_alike loop_kind.Sequential place = record {
+    at = in_turn_same count (λ t. serial (w t)) (λ t. serial (v t)) (λ t lt. fun_ext (h t lt).at);
+    written = written_below;
+    touched = touched_below;
+    free = λ f t lt. (h t lt).free (f t lt);
+  }
+  map_alike loop_kind.Parallel place = record {
+    at = in_turn_same count (λ t. serial (w t)) (λ t. serial (v t)) (λ t lt. fun_ext (h t lt).at);
+    written = written_below;
+    touched = touched_below;
+    free = λ f. (still_apart none_aside f.0, λ t lt. (h t lt).free (f.1 t lt));
+  }
+  map_alike (loop_kind.Reduction r) place = record {
+    at = in_turn_same count (λ t. gathering r (serial (w t))) (λ t. gathering r (serial (v t))) (λ t lt. ap (gathering r) (fun_ext (h t lt).at));
+    written = λ n cs. below_same count (λ t. nat_eq n r.array || writes (w t) n cs) (λ t. nat_eq n r.array || writes (v t) n cs)
+        (λ t lt. ap (λ x. nat_eq n r.array || x) ((h t lt).written n cs));
+    touched = λ n cs. below_same count (λ t. nat_eq n r.array || touches (w t) n cs) (λ t. nat_eq n r.array || touches (v t) n cs)
+        (λ t lt. ap (λ x. nat_eq n r.array || x) ((h t lt).touched n cs));
+    free = λ f. (still_apart (its_array r) f.0, λ t lt. (h t lt).free (f.1 t lt));
+  }
 
 -- by: the work of a form by its number
 module _ (forms : Forms) (callee : ℕ → Found → Work) (by : ℕ → Work) where
@@ -76,7 +120,7 @@ module _ (forms : Forms) (callee : ℕ → Found → Work) (by : ℕ → Work) w
 
   -- ---- what suits in front of others leaves these
 
-  used_behind : (outer : Option Place) (later : List Step) → AllSuit (used outer later) → AllSuit later
+  used_behind : (outer : Option Place) (later : List Step) → AllSuit (use_step outer later) → AllSuit later
   used_behind None later h = h
   used_behind (Some place) later h = h
 
@@ -137,9 +181,9 @@ module _ (forms : Forms) (callee : ℕ → Found → Work) (by : ℕ → Work) w
     record Serves (p : Portion) (w v : Share) : Type 0 where
       calls : p.calls ≡ w.calls
       same : w.calls ≡ v.calls
-      behind : (names : Names) (spot : Spot) (numbers : Numbers) → Leaves (p.steps frame names spot numbers)
-      works : (names : Names) (spot : Spot) (numbers : Numbers) (later : List Step) → AllSuit (p.steps frame names spot numbers later)
-          → RunAlike (w.work other names spot numbers) (v.work frame names spot numbers)
+      behind : (names : Names) (site : CallSite) (numbers : Numbers) → Leaves (p.steps frame names site numbers)
+      works : (names : Names) (site : CallSite) (numbers : Numbers) (later : List Step) → AllSuit (p.steps frame names site numbers later)
+          → RunAlike (w.work other names site numbers) (v.work frame names site numbers)
 
     abbrev Fits : Stmt → Type 0
     Fits x = Serves (portion x) (wide x) (narrow x)
@@ -161,84 +205,87 @@ module _ (forms : Forms) (callee : ℕ → Found → Work) (by : ℕ → Work) w
           ap (λ n. n + works.calls_of (map wide (stmts xs))) second ∙ ap (λ n. (narrow x.0).calls + n) more.1,
         )
 
-    all_behind : (xs : List Known) (names : Names) (spot : Spot) (numbers : Numbers) → Leaves (all_of (map portion (stmts xs)) frame names spot numbers)
-    all_behind [] names spot numbers later h = h
-    all_behind (x ∷ xs) names spot numbers later h = all_behind xs names (after_calls spot (portion x.0).calls) numbers later (x.1.behind names spot numbers _ h)
+    all_behind : (xs : List Known) (names : Names) (site : CallSite) (numbers : Numbers) → Leaves (all_of (map portion (stmts xs)) frame names site numbers)
+    all_behind [] names site numbers later h = h
+    all_behind (x ∷ xs) names site numbers later h = all_behind xs names (after_calls site (portion x.0).calls) numbers later (x.1.behind names site numbers _ h)
 
-    all_serve : (xs : List Known) (names : Names) (spot : Spot) (numbers : Numbers) (later : List Step)
-        → AllSuit (all_of (map portion (stmts xs)) frame names spot numbers later)
-        → RunAlike (works.all_of (map wide (stmts xs)) other names spot numbers) (works.all_of (map narrow (stmts xs)) frame names spot numbers)
-    all_serve [] names spot numbers later h = record { at = λ s. refl }
-    all_serve (x ∷ xs) names spot numbers later h =
-        let behind = x.1.behind names spot numbers _ h in
-        let rest : RunAlike (works.all_of (map wide (stmts xs)) other names (after_calls spot (portion x.0).calls) numbers)
-        (works.all_of (map narrow (stmts xs)) frame names (after_calls spot (portion x.0).calls) numbers) =
-        all_serve xs names (after_calls spot (portion x.0).calls) numbers later behind in
-        then_alike _ _ _ _ (x.1.works names spot numbers _ h)
-        (subst (λ n. RunAlike (works.all_of (map wide (stmts xs)) other names (after_calls spot (wide x.0).calls) numbers)
-        (works.all_of (map narrow (stmts xs)) frame names (after_calls spot n) numbers)) (x.1.calls ∙ x.1.same)
-        (subst (λ n. RunAlike (works.all_of (map wide (stmts xs)) other names (after_calls spot n) numbers)
-        (works.all_of (map narrow (stmts xs)) frame names (after_calls spot (portion x.0).calls) numbers)) x.1.calls rest))
+    all_serve : (xs : List Known) (names : Names) (site : CallSite) (numbers : Numbers) (later : List Step)
+        → AllSuit (all_of (map portion (stmts xs)) frame names site numbers later)
+        → RunAlike (works.all_of (map wide (stmts xs)) other names site numbers) (works.all_of (map narrow (stmts xs)) frame names site numbers)
+    all_serve [] names site numbers later h = run_itself _
+    all_serve (x ∷ xs) names site numbers later h =
+        let behind = x.1.behind names site numbers _ h in
+        let rest : RunAlike (works.all_of (map wide (stmts xs)) other names (after_calls site (portion x.0).calls) numbers)
+        (works.all_of (map narrow (stmts xs)) frame names (after_calls site (portion x.0).calls) numbers) =
+        all_serve xs names (after_calls site (portion x.0).calls) numbers later behind in
+        then_alike _ _ _ _ (x.1.works names site numbers _ h)
+        (subst (λ n. RunAlike (works.all_of (map wide (stmts xs)) other names (after_calls site (wide x.0).calls) numbers)
+        (works.all_of (map narrow (stmts xs)) frame names (after_calls site n) numbers)) (x.1.calls ∙ x.1.same)
+        (subst (λ n. RunAlike (works.all_of (map wide (stmts xs)) other names (after_calls site n) numbers)
+        (works.all_of (map narrow (stmts xs)) frame names (after_calls site (portion x.0).calls) numbers)) x.1.calls rest))
 
-    call_behind : (names : Names) (spot : Spot) (numbers : Numbers) (c : CallStmt) (o : Option Callee) → Leaves (served_steps frame names spot numbers c o)
-    call_behind names spot numbers c None later h = h
-    call_behind names spot numbers c (Some its) later h = (args_behind spot.outer names numbers spot.reduced its.params 0 c.args _ h).1
+    call_behind : (names : Names) (site : CallSite) (numbers : Numbers) (c : CallStmt) (o : Option Callee) → Leaves (served_steps frame names site numbers c o)
+    call_behind names site numbers c None later h = h
+    call_behind names site numbers c (Some its) later h = (args_behind site.outer names numbers site.reduced its.params 0 c.args _ h).1
 
-    call_serves : (names : Names) (spot : Spot) (numbers : Numbers) (c : CallStmt) (o : Option Callee) (later : List Step)
-        → AllSuit (served_steps frame names spot numbers c o later)
-        → RunAlike (call_work forms callee elems other names spot numbers c o) (call_work forms by_number elems frame names spot numbers c o)
-    call_serves names spot numbers c None later h = record { at = λ s. refl }
-    call_serves names spot numbers c (Some its) later h =
-        let xs = arguments names numbers spot.reduced its.params 0 c.args in
-        let reached = args_behind spot.outer names numbers spot.reduced its.params 0 c.args (reached_steps frame its spot c xs later) h in
+    call_serves : (names : Names) (site : CallSite) (numbers : Numbers) (c : CallStmt) (o : Option Callee) (later : List Step)
+        → AllSuit (served_steps frame names site numbers c o later)
+        → RunAlike (call_work forms callee elems other names site numbers c o) (call_work forms by_number elems frame names site numbers c o)
+    call_serves names site numbers c None later h = run_itself _
+    call_serves names site numbers c (Some its) later h =
+        let xs = arguments names numbers site.reduced its.params 0 c.args in
+        let reached = args_behind site.outer names numbers site.reduced its.params 0 c.args (reached_steps frame its site c xs later) h in
         record {
-          at = λ s. ap (λ (o : Outcome). and_then o (λ inner. Ok (returned 0 xs inner s)))
-              ((reached.0 (called other its spot c xs).form refl refl).at (entered xs s));
+          at = λ s. ap (λ (o : Outcome). and_then o (λ inner. Ok (at_return 0 xs inner s)))
+              ((reached.0 (call_of other its site c xs).form refl refl).at (at_entry xs s));
+          written = λ n cs. refl;
+          touched = λ n cs. refl;
+          free = (reached.0 (call_of other its site c xs).form refl refl).free;
         }
 
-    map_behind : (p : Place) (kind : MapKind) (rs : List Range) (xs : List Known) (names : Names) (spot : Spot) (numbers : Numbers)
-        → Leaves (map_steps p kind rs (all_of (map portion (stmts xs))) frame names spot numbers)
-    map_behind p kind rs xs names spot numbers later h =
+    map_behind : (p : Place) (kind : MapKind) (rs : List Range) (xs : List Known) (names : Names) (site : CallSite) (numbers : Numbers)
+        → Leaves (map_steps p kind rs (all_of (map portion (stmts xs))) frame names site numbers)
+    map_behind p kind rs xs names site numbers later h =
         let ns = bounds rs numbers names.lists in
         each_behind 0 (times_of ns)
-        (iteration_steps (outermost spot.outer p) (within spot p kind) rs (all_of (map portion (stmts xs))) (value_or [] ns) frame names numbers)
-        (λ t more g. all_behind xs names (within spot p kind t) (in_iteration rs (value_or [] ns) t numbers) more g) later (opens_behind spot.outer _ h)
+        (iteration_steps (outermost site.outer p) (within site p kind) rs (all_of (map portion (stmts xs))) (value_or [] ns) frame names numbers)
+        (λ t more g. all_behind xs names (within site p kind t) (in_iteration rs (value_or [] ns) t numbers) more g) later (opens_behind site.outer _ h)
 
-    map_serves : (p : Place) (kind : MapKind) (rs : List Range) (xs : List Known) (names : Names) (spot : Spot) (numbers : Numbers) (later : List Step)
-        → AllSuit (map_steps p kind rs (all_of (map portion (stmts xs))) frame names spot numbers later)
-        → RunAlike ((works.stmt_step forms callee elems (Stmt-F.Map p kind rs (map wide (stmts xs)))).work other names spot numbers)
-        ((works.stmt_step forms by_number elems (Stmt-F.Map p kind rs (map narrow (stmts xs)))).work frame names spot numbers)
-    map_serves p kind rs xs names spot numbers later h =
+    map_serves : (p : Place) (kind : MapKind) (rs : List Range) (xs : List Known) (names : Names) (site : CallSite) (numbers : Numbers) (later : List Step)
+        → AllSuit (map_steps p kind rs (all_of (map portion (stmts xs))) frame names site numbers later)
+        → RunAlike ((works.stmt_step forms callee elems (Stmt-F.Map p kind rs (map wide (stmts xs)))).work other names site numbers)
+        ((works.stmt_step forms by_number elems (Stmt-F.Map p kind rs (map narrow (stmts xs)))).work frame names site numbers)
+    map_serves p kind rs xs names site numbers later h =
         let ns = bounds rs numbers names.lists in
-        map_alike (manner_of elems names kind) p (times_of ns) _ _ (λ t lt.
-        let part = iteration_steps (outermost spot.outer p) (within spot p kind) rs (all_of (map portion (stmts xs))) (value_or [] ns) frame names numbers in
-        let found = each_at 0 (times_of ns) part (λ i more g. all_behind xs names (within spot p kind i) (in_iteration rs (value_or [] ns) i numbers) more g) later
-        (opens_behind spot.outer _ h) t lt in
+        map_alike (times_of ns) _ _ (λ t lt.
+        let part = iteration_steps (outermost site.outer p) (within site p kind) rs (all_of (map portion (stmts xs))) (value_or [] ns) frame names numbers in
+        let found = each_at 0 (times_of ns) part (λ i more g. all_behind xs names (within site p kind i) (in_iteration rs (value_or [] ns) i numbers) more g) later
+        (opens_behind site.outer _ h) t lt in
         let e : 0 + t ≡ t = omega arith in
-        all_serve xs names (within spot p kind t) (in_iteration rs (value_or [] ns) t numbers) found.0 (subst (λ k. AllSuit (part k found.0)) e found.1))
+        all_serve xs names (within site p kind t) (in_iteration rs (value_or [] ns) t numbers) found.0 (subst (λ k. AllSuit (part k found.0)) e found.1)) (loop_kind_of elems names kind) p
 
     fits_step : (y : Stmt-F Known) → Fits (roll-Stmt (map-Stmt Known Stmt (λ q. q.0) y))
     fits_step (Stmt-F.Call c) = subst Fits (sym (s.rolls-Call c)) (record {
       calls = ap (λ (p : Portion). p.calls) (portion_call c) ∙ sym (ap (λ (w : Share). w.calls) (wide_call c));
       same = ap (λ (w : Share). w.calls) (wide_call c) ∙ sym (ap (λ (w : Share). w.calls) (narrow_call c));
-      behind = λ names spot numbers. subst (λ (p : Portion). Leaves (p.steps frame names spot numbers)) (sym (portion_call c))
-          (call_behind names spot numbers c (callee_of frame c.task));
-      works = λ names spot numbers later h.
-          let left = ap (λ (w : Share). w.work other names spot numbers) (wide_call c) in
-          let right = ap (λ (w : Share). w.work frame names spot numbers) (narrow_call c) in
-          let its = subst (λ (p : Portion). AllSuit (p.steps frame names spot numbers later)) (portion_call c) h in
-          between left right (call_serves names spot numbers c (callee_of frame c.task) later its);
+      behind = λ names site numbers. subst (λ (p : Portion). Leaves (p.steps frame names site numbers)) (sym (portion_call c))
+          (call_behind names site numbers c (callee_of frame c.task));
+      works = λ names site numbers later h.
+          let left = ap (λ (w : Share). w.work other names site numbers) (wide_call c) in
+          let right = ap (λ (w : Share). w.work frame names site numbers) (narrow_call c) in
+          let its = subst (λ (p : Portion). AllSuit (p.steps frame names site numbers later)) (portion_call c) h in
+          between left right (call_serves names site numbers c (callee_of frame c.task) later its);
     })
     fits_step (Stmt-F.Map p kind rs xs) = subst Fits (sym (s.rolls-Map p kind rs (stmts xs))) (record {
       calls = ap (λ (q : Portion). q.calls) (portion_map p kind rs (stmts xs)) ∙ ((all_calls xs).0 ∙ sym (ap (λ (w : Share). w.calls) (wide_map p kind rs (stmts xs))));
       same = ap (λ (w : Share). w.calls) (wide_map p kind rs (stmts xs)) ∙ ((all_calls xs).1 ∙ sym (ap (λ (w : Share). w.calls) (narrow_map p kind rs (stmts xs))));
-      behind = λ names spot numbers. subst (λ (q : Portion). Leaves (q.steps frame names spot numbers)) (sym (portion_map p kind rs (stmts xs)))
-          (map_behind p kind rs xs names spot numbers);
-      works = λ names spot numbers later h.
-          let left = ap (λ (w : Share). w.work other names spot numbers) (wide_map p kind rs (stmts xs)) in
-          let right = ap (λ (w : Share). w.work frame names spot numbers) (narrow_map p kind rs (stmts xs)) in
-          let its = subst (λ (q : Portion). AllSuit (q.steps frame names spot numbers later)) (portion_map p kind rs (stmts xs)) h in
-          between left right (map_serves p kind rs xs names spot numbers later its);
+      behind = λ names site numbers. subst (λ (q : Portion). Leaves (q.steps frame names site numbers)) (sym (portion_map p kind rs (stmts xs)))
+          (map_behind p kind rs xs names site numbers);
+      works = λ names site numbers later h.
+          let left = ap (λ (w : Share). w.work other names site numbers) (wide_map p kind rs (stmts xs)) in
+          let right = ap (λ (w : Share). w.work frame names site numbers) (narrow_map p kind rs (stmts xs)) in
+          let its = subst (λ (q : Portion). AllSuit (q.steps frame names site numbers later)) (portion_map p kind rs (stmts xs)) h in
+          between left right (map_serves p kind rs xs names site numbers later its);
     })
 
     fits : (x : Stmt) → Fits x

@@ -3,12 +3,12 @@ use Rattle.std.proofs.Common.{◌≡◌, ℕ, zero, suc, ◌+◌, ◌<◌, nat_e
 use mathlib.Core.Path.{fun_ext}
 use Rattle.sq_text.specs.declared.place.Place.{Place}
 use Rattle.sq_leaf.specs.Source.{Arrays}
-use Rattle.sq_spec.specs.declared.begun.Reduction.{Reduction}
-use Rattle.sq_spec.specs.Begun.{over}
-use Rattle.sq_spec.specs.Work.{Work, Then, Each, AtOnce, Gathers}
-use Rattle.sq_spec.specs.Meaning.{Outcome, and_then, numbered, any_below, writes, apart, taken, cleared, gathered, meaning}
-use Rattle.sq_spec.specs.InTurn.{gathering, serial}
-use Rattle.sq_spec.proofs.Serial.{in_turn_same}
+use Rattle.sq_work.specs.declared.reduction.Reduction.{Reduction}
+use Rattle.sq_spec.specs.Statements.{over}
+use Rattle.sq_work.specs.Work.{Work, Then, Each, AtOnce, Gathers}
+use Rattle.sq_work.specs.Meaning.{Outcome, and_then, with_turn, any_below, writes, touches, apart, with_writes, with_identity, with_reduced, meaning}
+use Rattle.sq_work.specs.InTurn.{AreApart, none_aside, its_array, IsRaceFree, gathering, serial}
+use Rattle.sq_work.proofs.Serial.{in_turn_same}
 
 -- the iterations of a map in the k times before
 abbrev pub begun_before : ℕ → List ℕ → ℕ
@@ -18,14 +18,16 @@ begun_before (suc k) (n ∷ counts) = n + begun_before k counts
 
 -- ---- works that mean the same
 
--- and do the same where all iterations follow one another
+-- and do the same where all iterations follow one another; where the second has no race, the first has none
 pub record Alike (w v : Work) : Type 0 where
   pub means : meaning w ≡ meaning v
   pub written : writes w ≡ writes v
+  pub touched : touches w ≡ touches v
   pub runs : serial w ≡ serial v
+  pub free : IsRaceFree v → IsRaceFree w
 
 pub alike_itself : (w : Work) → Alike w w
-alike_itself w = record { means = refl; written = refl; runs = refl }
+alike_itself w = record { means = refl; written = refl; touched = refl; runs = refl; free = λ h. h }
 
 pub alike_then : (a b c d : Work) → Alike a b → Alike c d → Alike (Then a c) (Then b d)
 alike_then a b c d first second = record {
@@ -33,10 +35,13 @@ alike_then a b c d first second = record {
       ∙ ap (and_then (meaning b s)) second.means);
   written = fun_ext (λ n. fun_ext (λ cs. ap₂ (λ x y. x || y) (ap (λ (f : ℕ → List ℕ → Bool). f n cs) first.written)
       (ap (λ (f : ℕ → List ℕ → Bool). f n cs) second.written)));
+  touched = fun_ext (λ n. fun_ext (λ cs. ap₂ (λ x y. x || y) (ap (λ (f : ℕ → List ℕ → Bool). f n cs) first.touched)
+      (ap (λ (f : ℕ → List ℕ → Bool). f n cs) second.touched)));
+  free = λ h. (first.free h.0, second.free h.1);
   runs = fun_ext (λ s. ap (λ (o : Outcome). and_then o (serial c)) (ap (λ (f : Arrays → Outcome). f s) first.runs) ∙ ap (and_then (serial b s)) second.runs);
 }
 
-below_same : (count : ℕ) (f g : ℕ → Bool) → ((t : ℕ) → t < count → f t ≡ g t) → any_below count f ≡ any_below count g
+pub below_same : (count : ℕ) (f g : ℕ → Bool) → ((t : ℕ) → t < count → f t ≡ g t) → any_below count f ≡ any_below count g
 below_same zero f g h = refl
 below_same (suc count) f g h = ap₂ (λ x y. x || y) (h count (omega arith)) (below_same count f g (λ t lt. h t (omega (arith, lt))))
 
@@ -44,18 +49,29 @@ apart_same : (count : ℕ) (join link : ℕ → Arrays → Arrays → Arrays) (f
     → ((t : ℕ) → t < count → f t ≡ g t) → (s : Arrays) → apart count join f s ≡ apart count link g s
 apart_same zero join link f g j h s = refl
 apart_same (suc count) join link f g j h s =
-    ap (λ (o : Outcome). and_then o (λ below. and_then (numbered count (f count)) (λ own. Ok (join count own below))))
+    ap (λ (o : Outcome). and_then o (λ below. and_then (with_turn count (f count)) (λ own. Ok (join count own below))))
     (apart_same count join link f g (λ t lt. j t (omega (arith, lt))) (λ t lt. h t (omega (arith, lt))) s)
-    ∙ (ap (λ (o : Outcome). and_then (apart count link g s) (λ below. and_then (numbered count o) (λ own. Ok (join count own below)))) (h count (omega arith))
-    ∙ ap (λ (l : Arrays → Arrays → Arrays). and_then (apart count link g s) (λ below. and_then (numbered count (g count)) (λ own. Ok (l own below))))
+    ∙ (ap (λ (o : Outcome). and_then (apart count link g s) (λ below. and_then (with_turn count o) (λ own. Ok (join count own below)))) (h count (omega arith))
+    ∙ ap (λ (l : Arrays → Arrays → Arrays). and_then (apart count link g s) (λ below. and_then (with_turn count (g count)) (λ own. Ok (l own below))))
     (j count (omega arith)))
 
 module _ (count : ℕ) (w v : ℕ → Work) (alike : (t : ℕ) → t < count → Alike (w t) (v t)) where
   some_written : (n : ℕ) (cs : List ℕ) → any_below count (λ t. writes (w t) n cs) ≡ any_below count (λ t. writes (v t) n cs)
   some_written n cs = below_same count (λ t. writes (w t) n cs) (λ t. writes (v t) n cs) (λ t lt. ap (λ (f : ℕ → List ℕ → Bool). f n cs) (alike t lt).written)
 
+  some_touched : (n : ℕ) (cs : List ℕ) → any_below count (λ t. touches (w t) n cs) ≡ any_below count (λ t. touches (v t) n cs)
+  some_touched n cs = below_same count (λ t. touches (w t) n cs) (λ t. touches (v t) n cs) (λ t lt. ap (λ (f : ℕ → List ℕ → Bool). f n cs) (alike t lt).touched)
+
+  still_apart : (aside : ℕ → Bool) → AreApart count v aside → AreApart count w aside
+  still_apart aside h = record {
+    at = λ a b n cs la lb ne out wr to.
+        h.at a b n cs la lb ne out (sym (ap (λ (f : ℕ → List ℕ → Bool). f n cs) (alike a la).written) ∙ wr) (sym (ap (λ (f : ℕ → List ℕ → Bool). f n cs) (alike b lb).touched) ∙ to);
+  }
+
   pub alike_each : Alike (Each count w) (Each count v)
   alike_each = record {
+    touched = fun_ext (λ n. fun_ext (λ cs. some_touched n cs));
+    free = λ h t lt. (alike t lt).free (h t lt);
     means = fun_ext (in_turn_same count (λ t. meaning (w t)) (λ t. meaning (v t)) (λ t lt. (alike t lt).means));
     written = fun_ext (λ n. fun_ext (λ cs. some_written n cs));
     runs = fun_ext (in_turn_same count (λ t. serial (w t)) (λ t. serial (v t)) (λ t lt. (alike t lt).runs));
@@ -63,17 +79,22 @@ module _ (count : ℕ) (w v : ℕ → Work) (alike : (t : ℕ) → t < count →
 
   pub alike_at_once : (place : Place) → Alike (AtOnce place count w) (AtOnce place count v)
   alike_at_once place = record {
-    means = fun_ext (λ s. apart_same count (λ t. taken (writes (w t))) (λ t. taken (writes (v t))) (λ t. meaning (w t) s) (λ t. meaning (v t) s)
-        (λ t lt. ap taken (alike t lt).written) (λ t lt. ap (λ (f : Arrays → Outcome). f s) (alike t lt).means) s);
+    touched = fun_ext (λ n. fun_ext (λ cs. some_touched n cs));
+    free = λ h. (still_apart none_aside h.0, λ t lt. (alike t lt).free (h.1 t lt));
+    means = fun_ext (λ s. apart_same count (λ t. with_writes (writes (w t))) (λ t. with_writes (writes (v t))) (λ t. meaning (w t) s) (λ t. meaning (v t) s)
+        (λ t lt. ap with_writes (alike t lt).written) (λ t lt. ap (λ (f : Arrays → Outcome). f s) (alike t lt).means) s);
     written = fun_ext (λ n. fun_ext (λ cs. some_written n cs));
     runs = fun_ext (in_turn_same count (λ t. serial (w t)) (λ t. serial (v t)) (λ t lt. (alike t lt).runs));
   }
 
   pub alike_gathers : (r : Reduction) (place : Place) → Alike (Gathers r place count w) (Gathers r place count v)
   alike_gathers r place = record {
-    means = fun_ext (λ s. apart_same count (λ t. gathered r (writes (w t))) (λ t. gathered r (writes (v t))) (λ t. meaning (w t) (cleared r s))
-        (λ t. meaning (v t) (cleared r s)) (λ t lt. ap (gathered r) (alike t lt).written)
-        (λ t lt. ap (λ (f : Arrays → Outcome). f (cleared r s)) (alike t lt).means) s);
+    touched = fun_ext (λ n. fun_ext (λ cs. below_same count (λ t. nat_eq n r.array || touches (w t) n cs) (λ t. nat_eq n r.array || touches (v t) n cs)
+        (λ t lt. ap (λ (f : ℕ → List ℕ → Bool). nat_eq n r.array || f n cs) (alike t lt).touched)));
+    free = λ h. (still_apart (its_array r) h.0, λ t lt. (alike t lt).free (h.1 t lt));
+    means = fun_ext (λ s. apart_same count (λ t. with_reduced r (writes (w t))) (λ t. with_reduced r (writes (v t))) (λ t. meaning (w t) (with_identity r s))
+        (λ t. meaning (v t) (with_identity r s)) (λ t lt. ap (with_reduced r) (alike t lt).written)
+        (λ t lt. ap (λ (f : Arrays → Outcome). f (with_identity r s)) (alike t lt).means) s);
     written = fun_ext (λ n. fun_ext (λ cs. below_same count (λ t. nat_eq n r.array || writes (w t) n cs) (λ t. nat_eq n r.array || writes (v t) n cs)
         (λ t lt. ap (λ (f : ℕ → List ℕ → Bool). nat_eq n r.array || f n cs) (alike t lt).written)));
     runs = fun_ext (in_turn_same count (λ t. gathering r (serial (w t))) (λ t. gathering r (serial (v t))) (λ t lt. ap (gathering r) (alike t lt).runs));

@@ -11,54 +11,54 @@ use Rattle.sq_ast.specs.declared.stmt.Stmt.TheOpen.{Stmt-F}
 use Rattle.sq_ast.specs.declared.stmt.Stmt.TheFolds.{fold-Stmt, fold-roll-Stmt, ind-Stmt, map-Stmt}
 use Rattle.sq_blocks.specs.Names.{Numbers, Lists}
 use Rattle.sq_leaf.specs.Source.{Arrays}
-use Rattle.sq_spec.specs.declared.form.Found.{Found}
-use Rattle.sq_spec.specs.declared.begun.Manner.{Manner}
-use Rattle.sq_spec.specs.declared.begun.Manner.TheVariants as manner
-use Rattle.sq_spec.specs.declared.begun.Reached.{Reached}
-use Rattle.sq_spec.specs.declared.begun.Begun.{Begun}
-use Rattle.sq_spec.specs.declared.begun.Begun.TheVariants as b
-use Rattle.sq_spec.specs.declared.begun.Begun.TheOpen.{Begun-F}
-use Rattle.sq_spec.specs.declared.begun.Begun.TheFolds.{fold-roll-Begun}
-use Rattle.sq_spec.specs.Faults.{value_or}
-use Rattle.sq_spec.specs.Steps.{Forms}
-use Rattle.sq_spec.specs.Args.{Names}
-use Rattle.sq_spec.specs.Worlds.{Frame, Callee, callee_of}
-use Rattle.sq_spec.specs.Calls.{Spot}
-use Rattle.sq_spec.specs.Stmts.{bounds, in_iteration, within, after_calls, reduced_by}
-use Rattle.sq_spec.specs.Resolving.{start}
-use Rattle.sq_spec.specs.Begun.{starts_from, moments, count_at, reached, manner_of, Tabled, calls_of, all_of, call_table, tabled}
-use Rattle.sq_spec.specs.Work.{Work, Nothing}
-use Rattle.sq_spec.specs.Meaning.{Outcome}
+use Rattle.sq_forms.specs.declared.form.Found.{Found}
+use Rattle.sq_spec.specs.declared.statement.LoopKind.{LoopKind}
+use Rattle.sq_spec.specs.declared.statement.LoopKind.TheVariants as loop_kind
+use Rattle.sq_spec.specs.declared.statement.CallInstance.{CallInstance}
+use Rattle.sq_spec.specs.declared.statement.Statement.{Statement}
+use Rattle.sq_spec.specs.declared.statement.Statement.TheVariants as b
+use Rattle.sq_spec.specs.declared.statement.Statement.TheOpen.{Statement-F}
+use Rattle.sq_spec.specs.declared.statement.Statement.TheFolds.{fold-roll-Statement}
+use Rattle.sq_forms.specs.Faults.{value_or}
+use Rattle.sq_forms.specs.Steps.{Forms}
+use Rattle.sq_forms.specs.Args.{Names}
+use Rattle.sq_forms.specs.Worlds.{Frame, Callee, callee_of}
+use Rattle.sq_forms.specs.Calls.{CallSite}
+use Rattle.sq_forms.specs.Stmts.{bounds, in_iteration, within, after_calls, reduced_by}
+use Rattle.sq_forms.specs.Resolving.{start}
+use Rattle.sq_spec.specs.Statements.{starts_from, iteration_points, count_at, call_instance, loop_kind_of, StatementTable, calls_of, all_of, call_table, table_of}
+use Rattle.sq_work.specs.Work.{Work, Nothing}
+use Rattle.sq_work.specs.Meaning.{Outcome}
 use Rattle.sq_spec.specs.Works as works
 use Rattle.sq_spec.specs.Works.{Share, map_work, call_work}
-use Rattle.sq_spec.specs.BegunWork.{row_work, all_work, begun_step, begun_work, TablesMeanStatements}
-use Rattle.sq_spec.proofs.OpenedBegun.{tabled_call, tabled_map}
+use Rattle.sq_spec.specs.StatementsWork.{row_work, all_work, statement_step, statement_work, TablesMeanStatements}
+use Rattle.sq_spec.proofs.OpenedStatement.{table_of_call, table_of_map}
 use Rattle.sq_spec.proofs.Rows.{begun_before, Alike, alike_itself, alike_then, alike_each, alike_at_once, alike_gathers, slice_get_map, get_or_map, flat_over, over_same, singles, inner_at}
 
 -- ---- one map more
 
-abbrev turn : List Range → Lists → Numbers → ℕ → Numbers
+abbrev pub turn : List Range → Lists → Numbers → ℕ → Numbers
 turn ranges lists e t = in_iteration ranges (value_or [] (bounds ranges e lists)) t e
 
-abbrev turns_of : List Range → Lists → Numbers → List Numbers
+abbrev pub turns_of : List Range → Lists → Numbers → List Numbers
 turns_of ranges lists e = singles (count_at ranges lists e) (turn ranges lists e)
 
-moments_deeper : (nest : List (List Range)) (ranges : List Range) (lists : Lists) (numbers : Numbers)
-    → moments (nest ++ ranges ∷ []) lists numbers ≡ flat_map (turns_of ranges lists) (moments nest lists numbers)
-moments_deeper [] ranges lists numbers = sym (append-nil (turns_of ranges lists numbers))
-moments_deeper (r ∷ nest) ranges lists numbers =
-    over_same 0 (count_at r lists numbers) (λ t. moments (nest ++ ranges ∷ []) lists (turn r lists numbers t))
-    (λ t. flat_map (turns_of ranges lists) (moments nest lists (turn r lists numbers t))) (λ t. moments_deeper nest ranges lists (turn r lists numbers t))
-    ∙ sym (flat_over (turns_of ranges lists) 0 (count_at r lists numbers) (λ t. moments nest lists (turn r lists numbers t)))
+pub iteration_points_deeper : (nest : List (List Range)) (ranges : List Range) (lists : Lists) (numbers : Numbers)
+    → iteration_points (nest ++ ranges ∷ []) lists numbers ≡ flat_map (turns_of ranges lists) (iteration_points nest lists numbers)
+iteration_points_deeper [] ranges lists numbers = sym (append-nil (turns_of ranges lists numbers))
+iteration_points_deeper (r ∷ nest) ranges lists numbers =
+    over_same 0 (count_at r lists numbers) (λ t. iteration_points (nest ++ ranges ∷ []) lists (turn r lists numbers t))
+    (λ t. flat_map (turns_of ranges lists) (iteration_points nest lists (turn r lists numbers t))) (λ t. iteration_points_deeper nest ranges lists (turn r lists numbers t))
+    ∙ sym (flat_over (turns_of ranges lists) 0 (count_at r lists numbers) (λ t. iteration_points nest lists (turn r lists numbers t)))
 
-alike_map : (m : Manner) (place : Place) (n count : ℕ) (w v : ℕ → Work) → n ≡ count → ((t : ℕ) → t < count → Alike (w t) (v t))
+alike_map : (m : LoopKind) (place : Place) (n count : ℕ) (w v : ℕ → Work) → n ≡ count → ((t : ℕ) → t < count → Alike (w t) (v t))
     → Alike (map_work m place n w) (map_work m place count v)
-alike_map manner.InTurn place n count w v same h = subst (λ k. Alike (map_work manner.InTurn place k w) (map_work manner.InTurn place count v)) (sym same)
+alike_map loop_kind.Sequential place n count w v same h = subst (λ k. Alike (map_work loop_kind.Sequential place k w) (map_work loop_kind.Sequential place count v)) (sym same)
     (alike_each count w v h)
-alike_map manner.AtOnce place n count w v same h = subst (λ k. Alike (map_work manner.AtOnce place k w) (map_work manner.AtOnce place count v)) (sym same)
+alike_map loop_kind.Parallel place n count w v same h = subst (λ k. Alike (map_work loop_kind.Parallel place k w) (map_work loop_kind.Parallel place count v)) (sym same)
     (alike_at_once count w v h place)
-alike_map (manner.Gathering r) place n count w v same h = subst (λ k. Alike (map_work (manner.Gathering r) place k w)
-    (map_work (manner.Gathering r) place count v)) (sym same) (alike_gathers count w v h r place)
+alike_map (loop_kind.Reduction r) place n count w v same h = subst (λ k. Alike (map_work (loop_kind.Reduction r) place k w)
+    (map_work (loop_kind.Reduction r) place count v)) (sym same) (alike_gathers count w v h r place)
 
 alike_between : (w x v y : Work) → w ≡ x → v ≡ y → Alike x y → Alike w v
 alike_between w x v y first second h = subst (λ z. Alike z v) (sym first) (subst (λ z. Alike x z) (sym second) h)
@@ -69,19 +69,19 @@ start_is n f [] k e at = cc
 start_is n f (x ∷ times) zero e at = omega arith
 start_is n f (x ∷ times) (suc k) e at = start_is (n + f x) f times k e at ∙ omega arith
 
-first_start : {A : Type 0} (f : A → ℕ) (times : List A) (k : ℕ) (e : A) → slice_get times k ≡ Some e → get_or (starts_from 0 (map f times)) k 0 ≡ begun_before k (map f times)
+pub first_start : {A : Type 0} (f : A → ℕ) (times : List A) (k : ℕ) (e : A) → slice_get times k ≡ Some e → get_or (starts_from 0 (map f times)) k 0 ≡ begun_before k (map f times)
 first_start f times k e at = start_is 0 f times k e at ∙ omega arith
 
 -- ---- the equations of the folds
 
 module _ (callee : ℕ → Work) where
-  begun_call : (lower : Bool) (times : List Reached) → begun_work callee (b.Call lower times) ≡ begun_step callee (Begun-F.Call lower times)
-  begun_call lower times = ap (begun_work callee) (sym (b.rolls-Call lower times)) ∙ fold-roll-Begun (ℕ → Work) (begun_step callee) (Begun-F.Call lower times)
+  pub begun_call : (lower : Bool) (times : List CallInstance) → statement_work callee (b.Call lower times) ≡ statement_step callee (Statement-F.Call lower times)
+  begun_call lower times = ap (statement_work callee) (sym (b.rolls-Call lower times)) ∙ fold-roll-Statement (ℕ → Work) (statement_step callee) (Statement-F.Call lower times)
 
-  begun_map : (place : Place) (m : Manner) (counts starts : List ℕ) (body : List Begun) → begun_work callee (b.Map place m counts starts body) ≡ begun_step callee
-      (Begun-F.Map place m counts starts (map (begun_work callee) body))
-  begun_map place m counts starts body = ap (begun_work callee) (sym (b.rolls-Map place m counts starts body))
-      ∙ fold-roll-Begun (ℕ → Work) (begun_step callee) (Begun-F.Map place m counts starts body)
+  pub begun_map : (place : Place) (m : LoopKind) (counts starts : List ℕ) (body : List Statement) → statement_work callee (b.Map place m counts starts body) ≡ statement_step callee
+      (Statement-F.Map place m counts starts (map (statement_work callee) body))
+  begun_map place m counts starts body = ap (statement_work callee) (sym (b.rolls-Map place m counts starts body))
+      ∙ fold-roll-Statement (ℕ → Work) (statement_step callee) (Statement-F.Map place m counts starts body)
 
 module _ (forms : Forms) (frame : Frame) (names : Names) (elems : List Elem) (numbers : Numbers) (callee : ℕ → Work) where
   abbrev by_number : ℕ → Found → Work
@@ -90,8 +90,8 @@ module _ (forms : Forms) (frame : Frame) (names : Names) (elems : List Elem) (nu
   abbrev share : Stmt → Share
   share = fold-Stmt Share (works.stmt_step forms by_number elems)
 
-  abbrev table : Stmt → Tabled
-  table = tabled forms frame names elems numbers
+  abbrev table : Stmt → StatementTable
+  table = table_of forms frame names elems numbers
 
   share_call : (c : CallStmt) → share (s.Call c) ≡ works.stmt_step forms by_number elems (Stmt-F.Call c)
   share_call c = ap share (sym (s.rolls-Call c)) ∙ fold-roll-Stmt Share (works.stmt_step forms by_number elems) (Stmt-F.Call c)
@@ -103,10 +103,10 @@ module _ (forms : Forms) (frame : Frame) (names : Names) (elems : List Elem) (nu
   -- ---- statements
 
   -- at its k-th time a statement does what it does with the numbers of that time
-  record Agrees (t : Tabled) (w : Share) : Type 0 where
+  record Agrees (t : StatementTable) (w : Share) : Type 0 where
     calls : t.calls ≡ w.calls
-    works : (nest : List (List Range)) (spot : Spot) (k : ℕ) (e : Numbers) → slice_get (moments nest names.lists numbers) k ≡ Some e
-        → Alike (begun_work callee (t.table spot.call spot.reduced nest) k) (w.work frame names spot e)
+    works : (nest : List (List Range)) (site : CallSite) (k : ℕ) (e : Numbers) → slice_get (iteration_points nest names.lists numbers) k ≡ Some e
+        → Alike (statement_work callee (t.table site.call site.reduced nest) k) (w.work frame names site e)
 
   abbrev Known : Type 0
   Known = (x : Stmt) × Agrees (table x) (share x)
@@ -118,42 +118,42 @@ module _ (forms : Forms) (frame : Frame) (names : Names) (elems : List Elem) (nu
   same_calls [] = refl
   same_calls (x ∷ xs) = ap₂ (λ n m. n + m) x.1.calls (same_calls xs)
 
-  all_agree : (xs : List Known) (nest : List (List Range)) (spot : Spot) (k : ℕ) (e : Numbers) → slice_get (moments nest names.lists numbers) k ≡ Some e
-      → Alike (all_work (map (begun_work callee) (all_of (map table (stmts xs)) spot.call spot.reduced nest)) k)
-      (works.all_of (map share (stmts xs)) frame names spot e)
-  all_agree [] nest spot k e at = alike_itself Nothing
-  all_agree (x ∷ xs) nest spot k e at =
-      alike_then _ _ _ _ (x.1.works nest spot k e at)
-      (subst (λ n. Alike (all_work (map (begun_work callee) (all_of (map table (stmts xs)) (spot.call + n) spot.reduced nest)) k)
-      (works.all_of (map share (stmts xs)) frame names (after_calls spot (share x.0).calls) e))
-      (sym x.1.calls) (all_agree xs nest (after_calls spot (share x.0).calls) k e at))
+  all_agree : (xs : List Known) (nest : List (List Range)) (site : CallSite) (k : ℕ) (e : Numbers) → slice_get (iteration_points nest names.lists numbers) k ≡ Some e
+      → Alike (all_work (map (statement_work callee) (all_of (map table (stmts xs)) site.call site.reduced nest)) k)
+      (works.all_of (map share (stmts xs)) frame names site e)
+  all_agree [] nest site k e at = alike_itself Nothing
+  all_agree (x ∷ xs) nest site k e at =
+      alike_then _ _ _ _ (x.1.works nest site k e at)
+      (subst (λ n. Alike (all_work (map (statement_work callee) (all_of (map table (stmts xs)) (site.call + n) site.reduced nest)) k)
+      (works.all_of (map share (stmts xs)) frame names (after_calls site (share x.0).calls) e))
+      (sym x.1.calls) (all_agree xs nest (after_calls site (share x.0).calls) k e at))
 
-  call_agrees : (c : CallStmt) (o : Option Callee) (nest : List (List Range)) (spot : Spot) (k : ℕ) (e : Numbers)
-      → slice_get (moments nest names.lists numbers) k ≡ Some e
-      → begun_work callee (call_table forms frame names elems numbers c o spot.call spot.reduced nest) k ≡ call_work forms by_number elems frame names spot e
+  call_agrees : (c : CallStmt) (o : Option Callee) (nest : List (List Range)) (site : CallSite) (k : ℕ) (e : Numbers)
+      → slice_get (iteration_points nest names.lists numbers) k ≡ Some e
+      → statement_work callee (call_table forms frame names elems numbers c o site.call site.reduced nest) k ≡ call_work forms by_number elems frame names site e
       c o
-  call_agrees c None nest spot k e at = ap (λ (f : ℕ → Work). f k) (begun_call callee false [])
-  call_agrees c (Some its) nest spot k e at =
-      let row : Numbers → Reached = reached forms frame names spot.call spot.reduced its c.args in
+  call_agrees c None nest site k e at = ap (λ (f : ℕ → Work). f k) (begun_call callee false [])
+  call_agrees c (Some its) nest site k e at =
+      let row : Numbers → CallInstance = call_instance forms frame names site.call site.reduced its c.args in
       let lower = its.level == suc frame.level in
-      ap (λ (f : ℕ → Work). f k) (begun_call callee lower (map row (moments nest names.lists numbers)))
-      ∙ ap (row_work callee lower) (slice_get_map row (moments nest names.lists numbers) k e at)
+      ap (λ (f : ℕ → Work). f k) (begun_call callee lower (map row (iteration_points nest names.lists numbers)))
+      ∙ ap (row_work callee lower) (slice_get_map row (iteration_points nest names.lists numbers) k e at)
 
-  map_agrees : (p : Place) (kind : MapKind) (rs : List Range) (xs : List Known) (nest : List (List Range)) (spot : Spot) (k : ℕ) (e : Numbers)
-      → slice_get (moments nest names.lists numbers) k ≡ Some e
-      → Alike (begun_step callee (Begun-F.Map p (manner_of elems names kind) (map (count_at rs names.lists) (moments nest names.lists numbers))
-      (starts_from 0 (map (count_at rs names.lists) (moments nest names.lists numbers)))
-      (map (begun_work callee) (all_of (map table (stmts xs)) spot.call (reduced_by kind) (nest ++ rs ∷ [])))) k)
-      ((works.stmt_step forms by_number elems (Stmt-F.Map p kind rs (map share (stmts xs)))).work frame names spot e)
-  map_agrees p kind rs xs nest spot k e at =
-      let times = moments nest names.lists numbers in
+  map_agrees : (p : Place) (kind : MapKind) (rs : List Range) (xs : List Known) (nest : List (List Range)) (site : CallSite) (k : ℕ) (e : Numbers)
+      → slice_get (iteration_points nest names.lists numbers) k ≡ Some e
+      → Alike (statement_step callee (Statement-F.Map p (loop_kind_of elems names kind) (map (count_at rs names.lists) (iteration_points nest names.lists numbers))
+      (starts_from 0 (map (count_at rs names.lists) (iteration_points nest names.lists numbers)))
+      (map (statement_work callee) (all_of (map table (stmts xs)) site.call (reduced_by kind) (nest ++ rs ∷ [])))) k)
+      ((works.stmt_step forms by_number elems (Stmt-F.Map p kind rs (map share (stmts xs)))).work frame names site e)
+  map_agrees p kind rs xs nest site k e at =
+      let times = iteration_points nest names.lists numbers in
       let counts = map (count_at rs names.lists) times in
-      alike_map (manner_of elems names kind) p (get_or counts k 0) (count_at rs names.lists e) _ _ (get_or_map (count_at rs names.lists) times k e 0 at)
+      alike_map (loop_kind_of elems names kind) p (get_or counts k 0) (count_at rs names.lists e) _ _ (get_or_map (count_at rs names.lists) times k e 0 at)
       (λ t lt.
-      subst (λ n. Alike (all_work (map (begun_work callee) (all_of (map table (stmts xs)) spot.call (reduced_by kind) (nest ++ rs ∷ []))) (n + t))
-      (works.all_of (map share (stmts xs)) frame names (within spot p kind t) (turn rs names.lists e t))) (sym (first_start (count_at rs names.lists) times k e at)) (
-      all_agree xs (nest ++ rs ∷ []) (within spot p kind t) (begun_before k counts + t) (turn rs names.lists e t)
-      (ap (λ ms. slice_get ms (begun_before k counts + t)) (moments_deeper nest rs names.lists numbers)
+      subst (λ n. Alike (all_work (map (statement_work callee) (all_of (map table (stmts xs)) site.call (reduced_by kind) (nest ++ rs ∷ []))) (n + t))
+      (works.all_of (map share (stmts xs)) frame names (within site p kind t) (turn rs names.lists e t))) (sym (first_start (count_at rs names.lists) times k e at)) (
+      all_agree xs (nest ++ rs ∷ []) (within site p kind t) (begun_before k counts + t) (turn rs names.lists e t)
+      (ap (λ ms. slice_get ms (begun_before k counts + t)) (iteration_points_deeper nest rs names.lists numbers)
       ∙ inner_at (count_at rs names.lists) (turn rs names.lists) times k t e at lt)))
 
   abbrev Fits : Stmt → Type 0
@@ -161,24 +161,24 @@ module _ (forms : Forms) (frame : Frame) (names : Names) (elems : List Elem) (nu
 
   fits_step : (y : Stmt-F Known) → Fits (roll-Stmt (map-Stmt Known Stmt (λ p. p.0) y))
   fits_step (Stmt-F.Call c) = subst Fits (sym (s.rolls-Call c)) (record {
-    calls = ap (λ (t : Tabled). t.calls) (tabled_call forms frame names elems numbers c) ∙ sym (ap (λ (w : Share). w.calls) (share_call c));
-    works = λ nest spot k e at.
-        let left = ap (λ (t : Tabled). begun_work callee (t.table spot.call spot.reduced nest) k) (tabled_call forms frame names elems numbers c) in
-        let right = ap (λ (w : Share). w.work frame names spot e) (share_call c) in
-        subst (λ (w : Work). Alike w ((share (s.Call c)).work frame names spot e))
-        (sym (left ∙ (call_agrees c (callee_of frame c.task) nest spot k e at ∙ sym right))) (alike_itself _);
+    calls = ap (λ (t : StatementTable). t.calls) (table_of_call forms frame names elems numbers c) ∙ sym (ap (λ (w : Share). w.calls) (share_call c));
+    works = λ nest site k e at.
+        let left = ap (λ (t : StatementTable). statement_work callee (t.table site.call site.reduced nest) k) (table_of_call forms frame names elems numbers c) in
+        let right = ap (λ (w : Share). w.work frame names site e) (share_call c) in
+        subst (λ (w : Work). Alike w ((share (s.Call c)).work frame names site e))
+        (sym (left ∙ (call_agrees c (callee_of frame c.task) nest site k e at ∙ sym right))) (alike_itself _);
   })
   fits_step (Stmt-F.Map p kind rs xs) = subst Fits (sym (s.rolls-Map p kind rs (stmts xs))) (record {
-    calls = ap (λ (t : Tabled). t.calls) (tabled_map forms frame names elems numbers p kind rs (stmts xs))
+    calls = ap (λ (t : StatementTable). t.calls) (table_of_map forms frame names elems numbers p kind rs (stmts xs))
         ∙ (same_calls xs ∙ sym (ap (λ (w : Share). w.calls) (share_map p kind rs (stmts xs))));
-    works = λ nest spot k e at.
-        let left = ap (λ (t : Tabled). begun_work callee (t.table spot.call spot.reduced nest) k)
-        (tabled_map forms frame names elems numbers p kind rs (stmts xs))
-        ∙ ap (λ (f : ℕ → Work). f k) (begun_map callee p (manner_of elems names kind) (map (count_at rs names.lists) (moments nest names.lists numbers))
-        (starts_from 0 (map (count_at rs names.lists) (moments nest names.lists numbers)))
-        (all_of (map table (stmts xs)) spot.call (reduced_by kind) (nest ++ rs ∷ []))) in
-        let right = ap (λ (w : Share). w.work frame names spot e) (share_map p kind rs (stmts xs)) in
-        alike_between _ _ _ _ left right (map_agrees p kind rs xs nest spot k e at);
+    works = λ nest site k e at.
+        let left = ap (λ (t : StatementTable). statement_work callee (t.table site.call site.reduced nest) k)
+        (table_of_map forms frame names elems numbers p kind rs (stmts xs))
+        ∙ ap (λ (f : ℕ → Work). f k) (begun_map callee p (loop_kind_of elems names kind) (map (count_at rs names.lists) (iteration_points nest names.lists numbers))
+        (starts_from 0 (map (count_at rs names.lists) (iteration_points nest names.lists numbers)))
+        (all_of (map table (stmts xs)) site.call (reduced_by kind) (nest ++ rs ∷ []))) in
+        let right = ap (λ (w : Share). w.work frame names site e) (share_map p kind rs (stmts xs)) in
+        alike_between _ _ _ _ left right (map_agrees p kind rs xs nest site k e at);
   })
 
   fits : (x : Stmt) → Fits x
@@ -192,10 +192,10 @@ module _ (forms : Forms) (frame : Frame) (names : Names) (elems : List Elem) (nu
   known_are [] = refl
   known_are (x ∷ xs) = ap (λ ys. x ∷ ys) (known_are xs)
 
-  pub list_agrees : (list : List Stmt) → Alike (all_work (map (begun_work callee) (all_of (map table list) 0 None [])) 0)
+  pub list_agrees : (list : List Stmt) → Alike (all_work (map (statement_work callee) (all_of (map table list) 0 None [])) 0)
       (works.all_of (map share list) frame names start numbers)
   list_agrees list =
-      subst (λ xs. Alike (all_work (map (begun_work callee) (all_of (map table xs) 0 None [])) 0) (works.all_of (map share xs) frame names start numbers))
+      subst (λ xs. Alike (all_work (map (statement_work callee) (all_of (map table xs) 0 None [])) 0) (works.all_of (map share xs) frame names start numbers))
       (known_are list)
       (all_agree (known list) [] start 0 numbers refl)
 

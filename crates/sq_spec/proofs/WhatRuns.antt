@@ -16,25 +16,25 @@ use Rattle.sq_types.specs.Nesting.{HasLoops}
 use Rattle.sq_types.specs.Sound.{is_sound}
 use Rattle.sq_leaf.specs.declared.shape.Shape.{Shape}
 use Rattle.sq_leaf.specs.Leaf.{Leaf, IsLeaf, is_leaf_body}
-use Rattle.sq_spec.specs.declared.form.LocalArray.{LocalArray}
+use Rattle.sq_forms.specs.declared.form.LocalArray.{LocalArray}
 use Rattle.sq_spec.specs.Works.{local_shapes}
-use Rattle.sq_spec.specs.declared.begun.Begun.{Begun}
+use Rattle.sq_spec.specs.declared.statement.Statement.{Statement}
 use Rattle.sq_spec.specs.declared.body.Body.TheVariants as body
-use Rattle.sq_spec.specs.Steps.{Forms}
-use Rattle.sq_spec.specs.Tables.{at_index, first_of_kind, variant_of}
-use Rattle.sq_spec.specs.Worlds.{Frame}
-use Rattle.sq_spec.specs.Decls.{Scope}
-use Rattle.sq_spec.specs.Begun.{elems_of, tables}
+use Rattle.sq_forms.specs.Steps.{Forms}
+use Rattle.sq_forms.specs.Tables.{at_index, first_of_kind, variant_of}
+use Rattle.sq_forms.specs.Worlds.{Frame}
+use Rattle.sq_forms.specs.Decls.{Scope}
+use Rattle.sq_spec.specs.Statements.{elems_of, tables}
 use Rattle.sq_spec.specs.Bodies.{MayCompile, AllCompile, what_runs}
 
 -- statements with their tables
-pub inner_is : (forms : Forms) (frame : Frame) (v : Variant) (b : Text) (scope : Scope) (list seen : List Stmt) (elems : List Elem) (made : List Begun)
+pub inner_is : (forms : Forms) (frame : Frame) (v : Variant) (b : Text) (scope : Scope) (list seen : List Stmt) (elems : List Elem) (made : List Statement)
     → made ≡ tables forms frame scope.names elems scope.numbers seen → b ≡ text.Inner list → seen ≡ list → elems ≡ elems_of v scope
     → body.Inner made ≡ what_runs forms frame v b scope
 inner_is forms frame v b scope list seen elems made is inner same types =
-    let tabled : made ≡ tables forms frame scope.names (elems_of v scope) scope.numbers list =
+    let table_of : made ≡ tables forms frame scope.names (elems_of v scope) scope.numbers list =
     is ∙ (ap (tables forms frame scope.names elems scope.numbers) same ∙ ap (λ es. tables forms frame scope.names es scope.numbers list) types) in
-    ap (λ bs. body.Inner bs) tabled ∙ ap (λ x. what_runs forms frame v x scope) (sym inner)
+    ap (λ bs. body.Inner bs) table_of ∙ ap (λ x. what_runs forms frame v x scope) (sym inner)
 
 -- leaf code with its numbers
 pub leaf_is : (forms : Forms) (frame : Frame) (v : Variant) (b : Text) (scope : Scope) (list : List LeafStmt) (code : Leaf)

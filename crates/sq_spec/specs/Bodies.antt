@@ -9,17 +9,17 @@ use Rattle.sq_leaf.specs.Leaf.{IsLeaf, is_leaf_body, leaf_value}
 use Rattle.sq_spec.specs.declared.body.Body.{Body}
 use Rattle.sq_spec.specs.declared.body.Body.TheVariants as body
 use Rattle.sq_spec.specs.declared.body.FormBody.{FormBody}
-use Rattle.sq_spec.specs.declared.form.Found.{Found}
-use Rattle.sq_spec.specs.Faults.{Value}
-use Rattle.sq_spec.specs.Steps.{Forms, Key}
-use Rattle.sq_spec.specs.Tables.{variant_of}
-use Rattle.sq_spec.specs.Worlds.{Frame}
-use Rattle.sq_spec.specs.Decls.{Scope, empty_scope, params_from, all_declared}
-use Rattle.sq_spec.specs.Resolving.{frame_in}
-use Rattle.sq_spec.specs.Begun.{elems_of, tables}
-use Rattle.sq_spec.specs.Work.{Work, Nothing, Leaf}
+use Rattle.sq_forms.specs.declared.form.Found.{Found}
+use Rattle.sq_forms.specs.Faults.{Value}
+use Rattle.sq_forms.specs.Steps.{Forms, Key}
+use Rattle.sq_forms.specs.Tables.{variant_of}
+use Rattle.sq_forms.specs.Worlds.{Frame}
+use Rattle.sq_forms.specs.Decls.{Scope, empty_scope, params_from, all_declared}
+use Rattle.sq_forms.specs.Resolving.{frame_in}
+use Rattle.sq_spec.specs.Statements.{elems_of, tables}
+use Rattle.sq_work.specs.Work.{Work, Nothing, Leaf}
 use Rattle.sq_spec.specs.Works.{shapes_of}
-use Rattle.sq_spec.specs.BegunWork.{statements_work}
+use Rattle.sq_spec.specs.StatementsWork.{statements_work}
 
 -- a form without a variant does nothing
 abbrev pub no_body : FormBody
@@ -29,7 +29,8 @@ no_body = record { arrays = []; body = body.Inner [] }
 module _ (forms : Forms) where
   -- leaf code keeps the form's sizes and tunables
   abbrev pub what_runs : Frame → Variant → Text → Scope → Body
-  what_runs frame v (text.Inner list) scope = body.Inner (tables forms frame scope.names (elems_of v scope) scope.numbers list)
+  what_runs frame v (text.Inner list) scope =
+      body.Inner (tables forms frame scope.names (elems_of v scope) scope.numbers list)
   what_runs frame v (text.Leaf list) scope = body.Leaf (record { variant = v; numbers = scope.numbers })
 
   abbrev pub declared_body : Frame → Variant → Found → Value Scope → FormBody
@@ -42,15 +43,18 @@ module _ (forms : Forms) where
 
   abbrev pub variant_body : List Variant → List Instance → Instance → ℕ → Found → Option Variant → FormBody
   variant_body variants instances x k f None = no_body
-  variant_body variants instances x k f (Some v) = scope_body (frame_in variants instances x k f) x v f (params_from empty_scope v.params 0 f.extents)
+  variant_body variants instances x k f (Some v) =
+      scope_body (frame_in variants instances x k f) x v f (params_from empty_scope v.params 0 f.extents)
 
   abbrev pub instance_body : List Variant → List Instance → ℕ → Found → Option Instance → FormBody
   instance_body variants instances k f None = no_body
-  instance_body variants instances k f (Some x) = variant_body variants instances x k f (variant_of variants x.task x.kind)
+  instance_body variants instances k f (Some x) =
+      variant_body variants instances x k f (variant_of variants x.task x.kind)
 
   abbrev pub found_body : List Variant → List Instance → ℕ → Option (Key × Found) → FormBody
   found_body variants instances k None = no_body
-  found_body variants instances k (Some form) = instance_body variants instances k form.1 (slice_get instances form.1.instance)
+  found_body variants instances k (Some form) =
+      instance_body variants instances k form.1 (slice_get instances form.1.instance)
 
 -- what the form with this number does
 abbrev pub body_of : List Variant → List Instance → Forms → ℕ → FormBody

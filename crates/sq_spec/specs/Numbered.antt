@@ -3,14 +3,14 @@ use Rattle.std.specs.Prelude.{◌≡◌, false, List, length, Option, Some, None
 use Rattle.sq_ast.specs.declared.program.Variant.{Variant}
 use Rattle.sq_mapfile.specs.declared.mapping.Mapping.{Mapping}
 use Rattle.sq_leaf.specs.Source.{Arrays}
-use Rattle.sq_spec.specs.Steps.{Forms, Key}
-use Rattle.sq_spec.specs.declared.form.Found.{Found}
+use Rattle.sq_forms.specs.Steps.{Forms, Key}
+use Rattle.sq_forms.specs.declared.form.Found.{Found}
 use Rattle.sq_spec.specs.declared.resolved.Resolved.{Resolved}
-use Rattle.sq_spec.specs.Resolving.{entry_params}
+use Rattle.sq_forms.specs.Resolving.{entry_params}
 use Rattle.sq_spec.specs.Bodies.{body_of, numbered_work}
-use Rattle.sq_spec.specs.Work.{Work, Nothing, Call}
+use Rattle.sq_work.specs.Work.{Work, Nothing, Call}
 use Rattle.sq_spec.specs.Works.{entry_arguments, work_of, flat}
-use Rattle.sq_spec.specs.InTurn.{IsRaceFree, serial}
+use Rattle.sq_work.specs.InTurn.{IsRaceFree, serial}
 
 abbrev pub called_entry : List Variant → Mapping → Forms → Option (Key × Found) → Work
 called_entry variants mapping forms None = Nothing
@@ -26,3 +26,8 @@ entry_call variants mapping forms = called_entry variants mapping forms (slice_g
 abbrev pub TablesMeanProgram : Type 0
 TablesMeanProgram = (r : Resolved) → IsRaceFree (work_of r.typed.now.tasks r.mapping.now r.found.entries) → (s : Arrays)
     → flat r.typed.now r.mapping.now s ≡ serial (entry_call r.typed.now.tasks r.mapping.now r.found.entries) s
+
+-- And where the program has no race, its forms have none by their tables.
+abbrev pub TablesAreRaceFree : Type 0
+TablesAreRaceFree = (r : Resolved) → IsRaceFree (work_of r.typed.now.tasks r.mapping.now r.found.entries)
+    → IsRaceFree (entry_call r.typed.now.tasks r.mapping.now r.found.entries)

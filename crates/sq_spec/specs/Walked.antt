@@ -8,16 +8,17 @@ use Rattle.sq_types.specs.Sound.{is_sound}
 use Rattle.sq_machfile.specs.declared.level.Level.{Level}
 use Rattle.sq_mapfile.specs.declared.mapping.Mapping.{Mapping}
 use Rattle.sq_mapfile.specs.Sound.{Sound}
-use Rattle.sq_spec.specs.declared.form.Form.{Form}
-use Rattle.sq_spec.specs.declared.form.Use.{Use}
-use Rattle.sq_spec.specs.Steps.{Forms}
-use Rattle.sq_spec.specs.Resolving.{resolved}
+use Rattle.sq_forms.specs.declared.form.Form.{Form}
+use Rattle.sq_forms.specs.declared.form.Use.{Use}
+use Rattle.sq_forms.specs.Steps.{Forms}
+use Rattle.sq_forms.specs.Resolving.{resolution}
 
 -- what the walk over the forms of a program gives, under a mapping that was read with it and with a machine of these
 -- levels
-pub record IsWalked (program : Program) (levels : List Level) (mapping : Mapping) (found : Forms) (forms : List Form) (uses : List (List Use)) : Type 0 where
+pub record IsWalked (program : Program) (levels : List Level) (mapping : Mapping) (found : Forms) (forms : List Form)
+    (uses : List (List Use)) : Type 0 where
   pub formed : is_formed program ≡ true
   pub faultless : is_sound program ≡ true
   pub loops : HasLoops most_levels program.tasks
   pub read : Sound program levels mapping
-  pub through : resolved program.tasks mapping ≡ Ok (record { found = found; forms = forms; uses = uses })
+  pub through : resolution program.tasks mapping ≡ Ok (record { found = found; forms = forms; uses = uses })

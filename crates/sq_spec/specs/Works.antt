@@ -18,27 +18,27 @@ use Rattle.sq_blocks.specs.Names.{Numbers}
 use Rattle.sq_leaf.specs.declared.shape.Shape.{Shape}
 use Rattle.sq_leaf.specs.Source.{Arrays}
 use Rattle.sq_leaf.specs.Leaf.{leaf_value}
-use Rattle.sq_spec.specs.declared.args.Argument.{Argument}
-use Rattle.sq_spec.specs.declared.form.Found.{Found}
-use Rattle.sq_spec.specs.declared.form.LocalArray.{LocalArray}
-use Rattle.sq_spec.specs.declared.begun.Manner.{Manner}
-use Rattle.sq_spec.specs.declared.begun.Manner.TheVariants as manner
-use Rattle.sq_spec.specs.Faults.{Value, value_or}
-use Rattle.sq_spec.specs.Steps.{Forms, Called, Key, key_number}
-use Rattle.sq_spec.specs.Tables.{variant_of}
-use Rattle.sq_spec.specs.Args.{Names, arguments}
-use Rattle.sq_spec.specs.Worlds.{Frame, Callee, callee_of}
-use Rattle.sq_spec.specs.Calls.{Spot, called}
-use Rattle.sq_spec.specs.Stmts.{bounds, times_of, in_iteration, within, after_calls}
-use Rattle.sq_spec.specs.Decls.{Scope, empty_scope, params_from, all_declared}
-use Rattle.sq_spec.specs.Resolving.{Resolving, frame_in, start, resolved, entry_params}
-use Rattle.sq_spec.specs.Begun.{number_or, manner_of, elems_of}
-use Rattle.sq_spec.specs.Work.{Work, Nothing, Then, Each, AtOnce, Gathers, Call, Leaf}
-use Rattle.sq_spec.specs.Meaning.{Outcome, meaning}
+use Rattle.sq_blocks.specs.declared.argument.Argument.{Argument}
+use Rattle.sq_forms.specs.declared.form.Found.{Found}
+use Rattle.sq_forms.specs.declared.form.LocalArray.{LocalArray}
+use Rattle.sq_spec.specs.declared.statement.LoopKind.{LoopKind}
+use Rattle.sq_spec.specs.declared.statement.LoopKind.TheVariants as loop_kind
+use Rattle.sq_forms.specs.Faults.{Value, value_or}
+use Rattle.sq_forms.specs.Steps.{Forms, Called, Key, key_number}
+use Rattle.sq_forms.specs.Tables.{variant_of}
+use Rattle.sq_forms.specs.Args.{Names, arguments}
+use Rattle.sq_forms.specs.Worlds.{Frame, Callee, callee_of}
+use Rattle.sq_forms.specs.Calls.{CallSite, call_of}
+use Rattle.sq_forms.specs.Stmts.{bounds, times_of, in_iteration, within, after_calls}
+use Rattle.sq_forms.specs.Decls.{Scope, empty_scope, params_from, all_declared}
+use Rattle.sq_forms.specs.Resolving.{Resolving, frame_in, start, resolution, entry_params}
+use Rattle.sq_spec.specs.Statements.{number_or, loop_kind_of, elems_of}
+use Rattle.sq_work.specs.Work.{Work, Nothing, Then, Each, AtOnce, Gathers, Call, Leaf}
+use Rattle.sq_work.specs.Meaning.{Outcome, meaning}
 
 -- the work of a part of a form's statements
 abbrev pub Working : Type 0
-Working = Frame → Names → Spot → Numbers → Work
+Working = Frame → Names → CallSite → Numbers → Work
 
 -- how many calls stand in it, and its work
 pub record Share : Type 0 where
@@ -50,15 +50,16 @@ calls_of [] = 0
 calls_of (p ∷ ps) = p.calls + calls_of ps
 
 abbrev pub all_of : List Share → Working
-all_of [] frame names spot numbers = Nothing
-all_of (p ∷ ps) frame names spot numbers = Then (p.work frame names spot numbers) (all_of ps frame names (after_calls spot p.calls) numbers)
+all_of [] frame names site numbers = Nothing
+all_of (p ∷ ps) frame names site numbers =
+    Then (p.work frame names site numbers) (all_of ps frame names (after_calls site p.calls) numbers)
 
 -- ---- statements
 
-abbrev pub map_work : Manner → Place → ℕ → (ℕ → Work) → Work
-map_work manner.InTurn place count work = Each count work
-map_work manner.AtOnce place count work = AtOnce place count work
-map_work (manner.Gathering r) place count work = Gathers r place count work
+abbrev pub map_work : LoopKind → Place → ℕ → (ℕ → Work) → Work
+map_work loop_kind.Sequential place count work = Each count work
+map_work loop_kind.Parallel place count work = AtOnce place count work
+map_work (loop_kind.Reduction r) place count work = Gathers r place count work
 
 -- forms: all that were found; callee: the work of a form, by its number and by what is known of it; elems: the element
 -- types of the form's arrays
@@ -68,20 +69,24 @@ module _ (forms : Forms) (callee : ℕ → Found → Work) (elems : List Elem) w
       let number = number_or (key_number forms reached.key) in
       Call number (c.level == suc frame.level) xs (callee number reached.form)
 
-  abbrev pub call_work : Frame → Names → Spot → Numbers → CallStmt → Option Callee → Work
-  call_work frame names spot numbers c None = Nothing
-  call_work frame names spot numbers c (Some its) =
-      let xs = arguments names numbers spot.reduced its.params 0 c.args in
-      reached_work frame its (called frame its spot c xs) xs
+  abbrev pub call_work : Frame → Names → CallSite → Numbers → CallStmt → Option Callee → Work
+  call_work frame names site numbers c None = Nothing
+  call_work frame names site numbers c (Some its) =
+      let xs = arguments names numbers site.reduced its.params 0 c.args in
+      reached_work frame its (call_of frame its site c xs) xs
 
   abbrev pub stmt_step : Stmt-F Share → Share
-  stmt_step (Stmt-F.Call c) = record { calls = 1; work = λ frame names spot numbers. call_work frame names spot numbers c (callee_of frame c.task) }
+  stmt_step (Stmt-F.Call c) = record {
+    calls = 1;
+    work =
+        λ frame names site numbers. call_work frame names site numbers c (callee_of frame c.task);
+  }
   stmt_step (Stmt-F.Map place kind ranges parts) = record {
     calls = calls_of parts;
-    work = λ frame names spot numbers.
+    work = λ frame names site numbers.
         let ns = bounds ranges numbers names.lists in
-        map_work (manner_of elems names kind) place (times_of ns) (λ t.
-        all_of parts frame names (within spot place kind t) (in_iteration ranges (value_or [] ns) t numbers));
+        map_work (loop_kind_of elems names kind) place (times_of ns) (λ t.
+        all_of parts frame names (within site place kind t) (in_iteration ranges (value_or [] ns) t numbers));
   }
 
   abbrev pub stmts_work : List Stmt → Working
@@ -96,7 +101,8 @@ extents_at (Some extents) = extents
 
 abbrev pub param_shapes : List Param → ℕ → List (List ℕ) → List Shape
 param_shapes [] i extents = []
-param_shapes (p ∷ ps) i extents = record { elem = p.elem; extents = extents_at (slice_get extents i) } ∷ param_shapes ps (i + 1) extents
+param_shapes (p ∷ ps) i extents =
+    record { elem = p.elem; extents = extents_at (slice_get extents i) } ∷ param_shapes ps (i + 1) extents
 
 abbrev pub local_shapes : List LocalArray → List Shape
 local_shapes locals = map (λ l. record { elem = l.elem; extents = l.extents }) locals
@@ -106,8 +112,10 @@ shapes_of v f scope = param_shapes v.params 0 f.extents ++ local_shapes scope.lo
 
 module _ (forms : Forms) (callee : ℕ → Found → Work) where
   abbrev pub body_work : Variant → Body → Found → Frame → Scope → Work
-  body_work v (body.Inner list) f frame scope = stmts_work forms callee (elems_of v scope) list frame scope.names start scope.numbers
-  body_work v (body.Leaf list) f frame scope = Leaf (leaf_value (record { variant = v; numbers = scope.numbers }) (shapes_of v f scope))
+  body_work v (body.Inner list) f frame scope =
+      stmts_work forms callee (elems_of v scope) list frame scope.names start scope.numbers
+  body_work v (body.Leaf list) f frame scope =
+      Leaf (leaf_value (record { variant = v; numbers = scope.numbers }) (shapes_of v f scope))
 
   abbrev pub declared_work : Frame → Variant → Found → Value Scope → Work
   declared_work frame v f (Ok scope) = body_work v v.body f frame scope
@@ -119,11 +127,13 @@ module _ (forms : Forms) (callee : ℕ → Found → Work) where
 
   abbrev pub variant_work : List Variant → List Instance → Instance → ℕ → Found → Option Variant → Work
   variant_work variants instances x k f None = Nothing
-  variant_work variants instances x k f (Some v) = scope_work (frame_in variants instances x k f) x v f (params_from empty_scope v.params 0 f.extents)
+  variant_work variants instances x k f (Some v) =
+      scope_work (frame_in variants instances x k f) x v f (params_from empty_scope v.params 0 f.extents)
 
   abbrev pub instance_work : List Variant → List Instance → ℕ → Found → Option Instance → Work
   instance_work variants instances k f None = Nothing
-  instance_work variants instances k f (Some x) = variant_work variants instances x k f (variant_of variants x.task x.kind)
+  instance_work variants instances k f (Some x) =
+      variant_work variants instances x k f (variant_of variants x.task x.kind)
 
 -- the work of the form with this number, round which no more than n forms are called within one another
 abbrev pub form_work : List Variant → List Instance → Forms → ℕ → ℕ → Found → Work
@@ -141,7 +151,8 @@ whole extents = map (λ n. record { lo = 0; hi = n }) extents
 abbrev pub entry_arguments : List Param → ℕ → List (List ℕ) → List Argument
 entry_arguments [] i extents = []
 entry_arguments (p ∷ ps) i extents =
-    record { mode = p.mode; is_reduced = false; array = i; rect = whole (extents_at (slice_get extents i)) } ∷ entry_arguments ps (i + 1) extents
+    record { mode = p.mode; is_reduced = false; array = i; rect = whole (extents_at (slice_get extents i)) }
+    ∷ entry_arguments ps (i + 1) extents
 
 -- the entry is the first form; a call leads to a form behind its caller's, so there are no longer chains than there are
 -- forms
@@ -161,4 +172,4 @@ found_in (Err fault) = []
 -- The meaning of a program: from its input arrays, by the numbers of the parameters, the arrays after it, in which the
 -- `out` and `inout` ones are its outputs; or the first trap with its path.
 abbrev pub flat : Program → Mapping → Arrays → Outcome
-flat program mapping = meaning (work_of program.tasks mapping (found_in (resolved program.tasks mapping)))
+flat program mapping = meaning (work_of program.tasks mapping (found_in (resolution program.tasks mapping)))

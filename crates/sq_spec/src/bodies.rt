@@ -2,23 +2,21 @@
 
 ghost use Rattle.std.specs.Prelude.{◌≡◌, ◌++◌, ◌∷◌, [], Ok, slice_get, IfOk, OnOk};
 ghost use Rattle.std.specs.Option.{option_copied};
-ghost use Rattle.sq_spec.specs.Faults.{Makes};
-ghost use Rattle.sq_spec.specs.Args as argued;
-ghost use Rattle.sq_spec.specs.Worlds as worlds;
-ghost use Rattle.sq_spec.specs.Decls as decls;
-ghost use Rattle.sq_spec.specs.Begun as begun;
+ghost use Rattle.sq_forms.specs.Faults.{Makes};
+ghost use Rattle.sq_forms.specs.Args as argued;
+ghost use Rattle.sq_forms.specs.Worlds as worlds;
+ghost use Rattle.sq_forms.specs.Decls as decls;
+ghost use Rattle.sq_spec.specs.Statements as tables;
 ghost use Rattle.sq_spec.specs.Works as works;
 ghost use Rattle.sq_spec.specs.Bodies as spec;
 
-use crate::begun::{Begun, Level, Setting, statements};
 use crate::body::{Body, FormBody};
-use crate::decls::{Scope, declare_all, params};
-use crate::form::{Found, Key, LocalArray};
-use crate::tables::{RoutesByTask, SettingsByName, Variants};
-use crate::world::Frame;
+use crate::statement::{EnclosingMap, FormContext, Statement, statements};
 use indexmap::IndexMap;
 use sq_ast::{Body as Text, Param, Stmt, Variant};
 use sq_blocks::{Bindings, Env};
+use sq_forms::decls::{Scope, declare_all, params};
+use sq_forms::{Found, Frame, Key, LocalArray, RoutesByTask, SettingsByName, Variants};
 use sq_leaf::{Shape, compile_leaf};
 use sq_mapfile::Instance;
 use sq_num::Elem;
@@ -33,7 +31,7 @@ fn elems_of(
     params: &[Param],
     locals: &[LocalArray],
 ) -> Result<Items<Elem>, AllocError>
-    ensures { Makes result (begun.param_elems params.now ++ begun.local_elems locals.now) }
+    ensures { Makes result (tables.param_elems params.now ++ tables.local_elems locals.now) }
 {
     let mut elems = Items::new(alloc);
     for p in params {
@@ -60,7 +58,8 @@ fn push_param(
     extents: Option<&Dims>,
     shapes: &mut Items<Shape>,
 ) -> Result<(), AllocError>
-    ensures { OnOk result (shapes.new ≡ shapes.old ++ record { elem = p.now.elem; extents = works.extents_at (option_copied extents.entry) } ∷ []) }
+    ensures { OnOk result (shapes.new ≡ shapes.old
+        ++ record { elem = p.now.elem; extents = works.extents_at (option_copied extents.entry) } ∷ []) }
 {
     match extents {
         Some(extents) => push_shape(p.elem, extents, shapes),
@@ -89,14 +88,16 @@ fn shapes_of(
 
 fn list_tables(
     alloc: Global,
-    setting: &Setting<'_>,
+    context: &FormContext<'_>,
     numbers: &mut Bindings,
     list: &[Stmt],
-) -> Result<Items<Begun>, AllocError>
-    ensures { IfOk result (λ bs. bs ≡ begun.tables setting.now.forms.now.entries (worlds.frame_of setting.now.frame.now) (argued.names_of setting.now.known.now) setting.now.elems.now numbers.old list.now) }
+) -> Result<Items<Statement>, AllocError>
+    ensures { IfOk result (λ bs. bs ≡ tables.tables context.now.forms.now.entries
+        (worlds.frame_of context.now.frame.now)
+        (argued.names_of context.now.known.now) context.now.elems.now numbers.old list.now) }
 {
-    let nest: Items<Level<'_>> = Items::new(alloc);
-    let tables = statements(alloc, setting, numbers, nest.as_slice(), None, 0, list)?;
+    let nest: Items<EnclosingMap<'_>> = Items::new(alloc);
+    let tables = statements(alloc, context, numbers, nest.as_slice(), None, 0, list)?;
     Ok(tables)
 }
 
@@ -108,18 +109,19 @@ fn what_runs(
     scope: &mut Scope,
 ) -> Result<Body, AllocError>
     requires { spec.MayCompile v.now }
-    ensures { IfOk result (λ b. b ≡ spec.what_runs forms.now.entries (worlds.frame_of frame.now) v.now v.now.body (decls.scope_of scope.old)) }
+    ensures { IfOk result (λ b. b ≡ spec.what_runs forms.now.entries (worlds.frame_of frame.now) v.now v.now.body
+        (decls.scope_of scope.old)) }
 {
     match &v.body {
         Text::Inner(list) => {
             let elems = elems_of(alloc, v.params.as_slice(), scope.locals.as_slice())?;
-            let setting = Setting {
+            let context = FormContext {
                 frame,
                 known: &scope.known,
                 forms,
                 elems: elems.as_slice(),
             };
-            let tables = list_tables(alloc, &setting, &mut scope.numbers, list.as_slice())?;
+            let tables = list_tables(alloc, &context, &mut scope.numbers, list.as_slice())?;
             Ok(Body::Inner(tables))
         }
         Text::Leaf(_) => {
@@ -143,7 +145,8 @@ fn declared_body(
     scope: &mut Scope,
 ) -> Result<FormBody, AllocError>
     requires { spec.MayCompile v.now }
-    ensures { IfOk result (λ b. b ≡ spec.declared_body forms.now.entries (worlds.frame_of frame.now) v.now form.now (Ok (decls.scope_of scope.old))) }
+    ensures { IfOk result (λ b. b ≡ spec.declared_body forms.now.entries (worlds.frame_of frame.now) v.now form.now
+        (Ok (decls.scope_of scope.old))) }
 {
     let arrays = shapes_of(
         alloc,
@@ -175,7 +178,8 @@ fn scope_body(
     mut scope: Scope,
 ) -> Result<FormBody, AllocError>
     requires { spec.MayCompile v.now }
-    ensures { IfOk result (λ b. b ≡ spec.declared_body forms.now.entries (worlds.frame_of frame.now) v.now form.now (decls.all_declared x.now.tunings (decls.scope_of scope) v.now.decls)) }
+    ensures { IfOk result (λ b. b ≡ spec.declared_body forms.now.entries (worlds.frame_of frame.now) v.now form.now
+        (decls.all_declared x.now.tunings (decls.scope_of scope) v.now.decls)) }
 {
     let settings = SettingsByName::new(alloc, x.tunings.as_slice())?;
     match declare_all(alloc, &mut scope, &settings, v.decls.as_slice()) {
@@ -194,7 +198,8 @@ fn found_body(
     form: &Found,
 ) -> Result<FormBody, AllocError>
     requires { spec.AllCompile variants.now.list.now }
-    ensures { IfOk result (λ b. b ≡ spec.instance_body forms.now.entries variants.now.list.now instances.now k form.now (slice_get instances.now form.now.instance)) }
+    ensures { IfOk result (λ b. b ≡ spec.instance_body forms.now.entries variants.now.list.now instances.now k form.now
+        (slice_get instances.now form.now.instance)) }
 {
     let Some(x) = at(instances, form.instance as usize) else {
         return Ok(no_body(alloc));

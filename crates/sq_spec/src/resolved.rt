@@ -7,26 +7,25 @@ ghost use Rattle.sq_ast.specs.Grammar.{most_levels};
 ghost use Rattle.sq_types.specs.Nesting.{HasLoops};
 ghost use Rattle.sq_types.specs.Sound.{is_sound};
 ghost use Rattle.sq_mapfile.specs.Sound.{Sound};
-ghost use Rattle.sq_spec.specs.Forms.{AreForms, IsFirstMet};
-ghost use Rattle.sq_spec.specs.Resolving.{Resolves, resolved, entry_params};
+ghost use Rattle.sq_forms.specs.Forms.{AreForms, IsFirstMet};
+ghost use Rattle.sq_forms.specs.Resolving.{Resolves, resolution, entry_params};
+ghost use Rattle.sq_forms.specs.Tables.{first_of_kind};
 ghost use Rattle.sq_spec.specs.Bodies.{body_of};
 ghost use Rattle.sq_spec.specs.Walked.{IsWalked};
 ghost use Rattle.sq_spec.specs.Works.{found_in};
 
 use crate::bodies;
 use crate::body::FormBody;
-use crate::form::{Form, Found, Key, Use};
-use crate::forms::{Resolving, resolve_forms};
-use crate::tables::{Variants, variant_in};
 use indexmap::IndexMap;
 use sq_ast::laws::given_programs_are_formed;
-use sq_ast::{Param, Program};
+use sq_ast::{Param, Program, VariantKind};
+use sq_forms::{Form, Found, Key, Resolving, Use, Variants, entry_params, resolve_forms};
 use sq_leaf::laws::leaf_variants_may_be_compiled;
 use sq_machfile::Machine;
 use sq_mapfile::{Instance, Mapping};
-use sq_text::Stop;
+use sq_text::{Name, Stop};
 use sq_types::Typed;
-use sqlite_items::{Items, at};
+use sqlite_items::Items;
 use std::alloc::{AllocError, Global};
 
 /// A program, its mapping and its machine, with the forms in the order in which they are found, and the accesses of
@@ -36,9 +35,11 @@ pub struct Resolved<'a> {
     typed: &'a Typed,
     mapping: &'a Mapping,
     machine: &'a Machine,
+    variants: Variants<'a>,
     found: IndexMap<Key, Found>,
     forms: Items<Form>,
     uses: Items<Items<Use>>,
+    ghost listed: { variants.list.now ≡ typed.now.tasks },
     ghost paired: { length uses ≡ length forms },
     ghost walked: { ∥ IsWalked typed.now machine.now.levels mapping.now found.entries forms uses ∥₁ },
 }
@@ -82,18 +83,28 @@ impl<'a> Resolved<'a> {
 
     /// The parameters of the entry.
     pub fn entry_params(&self) -> &'a [Param]
-        ensures { result.now ≡ entry_params self.now.typed.now.tasks (slice_get self.now.mapping.now.instances self.now.mapping.now.entry) }
+        ensures { result.now ≡ entry_params self.now.typed.now.tasks
+            (slice_get self.now.mapping.now.instances self.now.mapping.now.entry) }
     {
-        params_of(self.typed.program(), self.mapping)
+        entry_params(&self.variants, self.mapping)
+    }
+
+    /// The number of the first variant of a task and kind, looked up in a table.
+    pub fn variant_number(&self, task: &Name, kind: VariantKind) -> Option<usize>
+        ensures { result ≡ first_of_kind kind 0 self.now.typed.now.tasks task.now }
+    {
+        self.variants.number(task, kind)
     }
 
     /// The arrays of a form and what it does; of statements, with what each is begun with in one run of the form.
     pub fn body(&self, alloc: Global, form: u32) -> Result<FormBody, AllocError>
-        ensures { IfOk result (λ b. b ≡ body_of self.now.typed.now.tasks self.now.mapping.now.instances self.now.found.entries form) }
+        ensures { IfOk result (λ b. b ≡ body_of self.now.typed.now.tasks self.now.mapping.now.instances
+            self.now.found.entries form) }
     {
         form_body(
             alloc,
             self.typed.program(),
+            &self.variants,
             self.mapping.instances.as_slice(),
             &self.found,
             form,
@@ -101,40 +112,39 @@ impl<'a> Resolved<'a> {
     }
 }
 
-fn params_of<'a>(program: &'a Program, mapping: &Mapping) -> &'a [Param]
-    ensures { result.now ≡ entry_params program.now.tasks (slice_get mapping.now.instances mapping.now.entry) }
-{
-    match at(mapping.instances.as_slice(), mapping.entry as usize) {
-        Some(x) => match variant_in(program.tasks.as_slice(), &x.task, x.kind) {
-            Some(v) => v.params.as_slice(),
-            None => &[],
-        },
-        None => &[],
-    }
-}
-
 fn form_body(
     alloc: Global,
     program: &Program,
+    variants: &Variants<'_>,
     instances: &[Instance],
     found: &IndexMap<Key, Found>,
     form: u32,
 ) -> Result<FormBody, AllocError>
     requires sound { is_sound program.now ≡ true }
     requires loops { HasLoops most_levels program.now.tasks }
+    requires listed { variants.now.list.now ≡ program.now.tasks }
     ensures { IfOk result (λ b. b ≡ body_of program.now.tasks instances.now found.now.entries form) }
 {
     leaf_variants_may_be_compiled();
-    let variants = Variants::new(alloc, program.tasks.as_slice())?;
-    bodies::body_of(alloc, &variants, instances, found, form)
+    bodies::body_of(alloc, variants, instances, found, form)
 }
 
-fn resolve_program(alloc: Global, program: &Program, mapping: &Mapping) -> Result<Resolving, Stop>
-    ensures { Resolves result (resolved program.now.tasks mapping.now) }
+fn variants_of<'a>(alloc: Global, program: &'a Program) -> Result<Variants<'a>, AllocError>
+    ensures { IfOk result (λ v. v.list.now ≡ program.now.tasks) }
 {
-    let variants = Variants::new(alloc, program.tasks.as_slice())?;
-    let found = resolve_forms(alloc, &variants, mapping)?;
-    Ok(found)
+    Variants::new(alloc, program.tasks.as_slice())
+}
+
+fn resolve_program(
+    alloc: Global,
+    program: &Program,
+    variants: &Variants<'_>,
+    mapping: &Mapping,
+) -> Result<Resolving, Stop>
+    requires { variants.now.list.now ≡ program.now.tasks }
+    ensures { Resolves result (resolution program.now.tasks mapping.now) }
+{
+    resolve_forms(alloc, variants, mapping)
 }
 
 /// The forms of a program under its mapping, or the first fault that the walk over them meets.
@@ -146,19 +156,22 @@ pub fn resolve<'a>(
 ) -> Result<Resolved<'a>, Stop>
     requires { Sound typed.now machine.now.levels mapping.now }
     ensures forms { IfOk result (λ r. AreForms typed.now mapping.now r.forms r.uses) }
-    ensures found { IfOk result (λ r. found_in (resolved typed.now.tasks mapping.now) ≡ r.found.entries) }
+    ensures found { IfOk result (λ r. found_in (resolution typed.now.tasks mapping.now) ≡ r.found.entries) }
     ensures first { IfRefused result (λ its. IsFirstMet typed.now mapping.now its) }
     ensures program { IfOk result (λ r. r.typed.now ≡ typed.now) }
     ensures mapping { IfOk result (λ r. r.mapping.now ≡ mapping.now) }
     ensures machine { IfOk result (λ r. r.machine.now ≡ machine.now) }
 {
     given_programs_are_formed();
-    let found = resolve_program(alloc, typed.program(), mapping)?;
+    let program = typed.program();
+    let variants = variants_of(alloc, program)?;
+    let found = resolve_program(alloc, program, &variants, mapping)?;
     let walk = found.walk;
     Ok(Resolved {
         typed,
         mapping,
         machine,
+        variants,
         found: walk.forms,
         forms: found.forms,
         uses: found.uses,

@@ -11,9 +11,8 @@ use crate::small::names::names_of;
 use crate::small::sum::terms_of;
 use crate::small::{SmallEnd, SmallMachine, SmallName, SmallTask};
 use sq_lexer::{Sign, Token};
+use sq_text::limits::NODE_BYTES;
 use std::alloc::Global;
-
-const MOST_CAPACITY: u64 = 1 << 30;
 
 const MOST_ELEMENTS: u64 = 1 << 24;
 
@@ -37,7 +36,7 @@ pub fn machine_of(alloc: Global, tokens: &[Token]) -> Result<SmallMachine, Small
         Wanted::Sign(Sign::BraceClose),
         Wanted::End,
     ];
-    if capacity > MOST_CAPACITY || !spells(tokens, &form) {
+    if capacity > NODE_BYTES || !spells(tokens, &form) {
         return Err(SmallEnd::NotYet);
     }
     let level = SmallName::new(alloc, level)?;

@@ -1,6 +1,6 @@
 use Rattle.std.proofs.Common.{◌≡◌, ◌<◌, ◌∙◌, Ok, Some, List, length, slice_get, refl, sym, ap, subst}
 use Rattle.std.proofs.lemmas.Option.{slice_get_read}
-use Rattle.sq_spec.specs.declared.form.Form.{Form}
+use Rattle.sq_forms.specs.declared.form.Form.{Form}
 use Rattle.sq_cli.proofs.Entries.{forms_there, first_extents, found_extents}
 use Rattle.sq_cli.proofs.entry.entry_dims.Goals as goal
 

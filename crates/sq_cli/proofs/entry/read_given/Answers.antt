@@ -2,7 +2,7 @@ use Rattle.std.proofs.Common.{◌∙◌, ℕ, List, length, map, sym, ap, subst}
 use Rattle.sq_ast.specs.declared.program.Param.{Param}
 use Rattle.sq_arrays.specs.Arrays.{wanted}
 use Rattle.sq_arrays.specs.Targets.{HasRoom}
-use Rattle.sq_spec.specs.Meaning.{is_read}
+use Rattle.sq_ast.specs.Modes.{is_read}
 use Rattle.sq_spec.specs.Works.{param_shapes}
 use Rattle.sq_flat.specs.Held.{zero_bytes}
 use Rattle.sq_cli.specs.Entry.{params_of, wants_of}

@@ -1,6 +1,6 @@
 use Rattle.std.proofs.Common.{◌≡◌, ◌++◌, drop, map}
 use Rattle.sq_arrays.specs.Arrays.{wanted}
-use Rattle.sq_spec.specs.Meaning.{is_read}
+use Rattle.sq_ast.specs.Modes.{is_read}
 use Rattle.sq_cli.specs.Entry.{wants_of}
 use Rattle.sq_cli.proofs.entry.wants_in.Given as goal
 

@@ -1,15 +1,15 @@
 use Rattle.std.proofs.Common.{rules, ◌≡◌, ◌∙◌, sym, ap, subst, ℕ, ◌+◌, ◌-◌, List, ◌∷◌, drop, map, length, slice_get, Some, Ok, Err}
 use Rattle.sq_rect.specs.declared.view.View.{View}
 use Rattle.sq_leaf.specs.Views.{Shows, shape_of}
-use Rattle.sq_spec.specs.Work.{Work, Call}
-use Rattle.sq_spec.specs.Meaning.{Outcome, and_then, cleared, entered, returned}
-use Rattle.sq_spec.specs.InTurn.{combined, serial}
-use Rattle.sq_spec.specs.declared.begun.Begun.{Begun}
+use Rattle.sq_work.specs.Work.{Work, Call}
+use Rattle.sq_work.specs.Meaning.{Outcome, and_then, with_identity, at_entry, at_return}
+use Rattle.sq_work.specs.InTurn.{with_combined, serial}
+use Rattle.sq_spec.specs.declared.statement.Statement.{Statement}
 use Rattle.sq_flat.specs.Memory.{AreSmall, ArePlaced, ArgsFit, start_bytes, end_bytes, bytes_of, combined_bytes}
 use Rattle.sq_flat.specs.Ready.{IsForm}
 use Rattle.sq_spec.specs.Bodies.{running}
 use Rattle.sq_flat.specs.Works.{list_work, turn_of, form_work, Follows}
-use Rattle.sq_spec.specs.BegunWork.{row_work, begun_work}
+use Rattle.sq_spec.specs.StatementsWork.{row_work, statement_work}
 use Rattle.sq_flat.proofs.Fitting.{placed_still}
 use Rattle.sq_flat.proofs.Opened.{begun_call, next_item, ready_item, ready_rest, ready_call}
 use Rattle.sq_flat.proofs.Following.{Reached, reached, trapped_first, trap_stays}
@@ -54,13 +54,13 @@ call-returns-in-Ok-run t c = λ lower s shows.
     (kept ∙ (ap length made ∙ calling.memory_long c.args.views.now c.in-Some.f.now.views c.args.bytes.now c.args.r.now.args form.line c.requires.placed fit)) in
     let work = running (form_work c.args.setting.now.forms.now (c.args.calls - 1)) (map shape_of c.in-Some.f.now.views) c.in-Some.f.now.body in
     let is : form_work c.args.setting.now.forms.now c.args.calls c.args.r.now.form ≡ work = calling.form_of c.args.setting.now.forms.now c.args.calls c.args.r.now.form c.in-Some.f.now (search rules) there in
-    let starts : Shows c.in-Some.f.now.views c.as_mut_slice-inside.result.now (entered c.args.r.now.args s) =
-    subst (λ (b : List ℕ). Shows c.in-Some.f.now.views b (entered c.args.r.now.args s)) (sym made) (calling.memory_shows c.args.views.now c.in-Some.f.now.views c.args.bytes.now c.args.r.now.args s form.line c.requires.placed fit shows) in
-    let ends : Follows c.in-Some.f.now.views c.run.new.bytes (Ok tt) (serial work (entered c.args.r.now.args s)) =
-    subst (λ r. Follows c.in-Some.f.now.views c.run.new.bytes r (serial work (entered c.args.r.now.args s))) c.in-Ok-run.is (c.run.ensures (entered c.args.r.now.args s) starts) in
+    let starts : Shows c.in-Some.f.now.views c.as_mut_slice-inside.result.now (at_entry c.args.r.now.args s) =
+    subst (λ (b : List ℕ). Shows c.in-Some.f.now.views b (at_entry c.args.r.now.args s)) (sym made) (calling.memory_shows c.args.views.now c.in-Some.f.now.views c.args.bytes.now c.args.r.now.args s form.line c.requires.placed fit shows) in
+    let ends : Follows c.in-Some.f.now.views c.run.new.bytes (Ok tt) (serial work (at_entry c.args.r.now.args s)) =
+    subst (λ r. Follows c.in-Some.f.now.views c.run.new.bytes r (serial work (at_entry c.args.r.now.args s))) c.in-Ok-run.is (c.run.ensures (at_entry c.args.r.now.args s) starts) in
     let put : c.leave.new.bytes ≡ end_bytes c.args.views.now c.in-Some.f.now.views c.run.new.bytes 0 c.args.r.now.args c.args.bytes.now = search rules in
-    subst (λ (w : Work). Follows c.args.views.now c.leave.new.bytes (Ok tt) (and_then (serial w (entered c.args.r.now.args s)) (λ inner. Ok (returned 0 c.args.r.now.args inner s)))) (sym is)
-    (calling.call_ends c.args.views.now c.in-Some.f.now.views c.args.bytes.now c.run.new.bytes c.leave.new.bytes c.args.r.now.args s (serial work (entered c.args.r.now.args s)) c.requires.line c.requires.placed placed fit shows ends put)
+    subst (λ (w : Work). Follows c.args.views.now c.leave.new.bytes (Ok tt) (and_then (serial w (at_entry c.args.r.now.args s)) (λ inner. Ok (at_return 0 c.args.r.now.args inner s)))) (sym is)
+    (calling.call_ends c.args.views.now c.in-Some.f.now.views c.args.bytes.now c.run.new.bytes c.leave.new.bytes c.args.r.now.args s (serial work (at_entry c.args.r.now.args s)) c.requires.line c.requires.placed placed fit shows ends put)
 
 pub call-returns : goal.call-returns
 call-returns t c = λ lower s shows.
@@ -70,12 +70,12 @@ call-returns t c = λ lower s shows.
     let made : c.as_mut_slice-inside.result.now ≡ start_bytes c.args.views.now c.args.bytes.now c.args.r.now.args 0 c.in-Some.f.now.views = search rules in
     let work = running (form_work c.args.setting.now.forms.now (c.args.calls - 1)) (map shape_of c.in-Some.f.now.views) c.in-Some.f.now.body in
     let is : form_work c.args.setting.now.forms.now c.args.calls c.args.r.now.form ≡ work = calling.form_of c.args.setting.now.forms.now c.args.calls c.args.r.now.form c.in-Some.f.now (search rules) there in
-    let starts : Shows c.in-Some.f.now.views c.as_mut_slice-inside.result.now (entered c.args.r.now.args s) =
-    subst (λ (b : List ℕ). Shows c.in-Some.f.now.views b (entered c.args.r.now.args s)) (sym made) (calling.memory_shows c.args.views.now c.in-Some.f.now.views c.args.bytes.now c.args.r.now.args s form.line c.requires.placed fit shows) in
-    let ends : Follows c.in-Some.f.now.views c.run.new.bytes (Err c.in-Err.end) (serial work (entered c.args.r.now.args s)) =
-    subst (λ r. Follows c.in-Some.f.now.views c.run.new.bytes r (serial work (entered c.args.r.now.args s))) c.in-Err.is (c.run.ensures (entered c.args.r.now.args s) starts) in
-    subst (λ (w : Work). Follows c.args.views.now c.args.bytes.now (Err c.in-Err.end) (and_then (serial w (entered c.args.r.now.args s)) (λ inner. Ok (returned 0 c.args.r.now.args inner s)))) (sym is)
-    (calling.call_traps c.args.views.now c.in-Some.f.now.views c.args.bytes.now c.run.new.bytes c.args.r.now.args s (serial work (entered c.args.r.now.args s)) c.in-Err.end ends)
+    let starts : Shows c.in-Some.f.now.views c.as_mut_slice-inside.result.now (at_entry c.args.r.now.args s) =
+    subst (λ (b : List ℕ). Shows c.in-Some.f.now.views b (at_entry c.args.r.now.args s)) (sym made) (calling.memory_shows c.args.views.now c.in-Some.f.now.views c.args.bytes.now c.args.r.now.args s form.line c.requires.placed fit shows) in
+    let ends : Follows c.in-Some.f.now.views c.run.new.bytes (Err c.in-Err.end) (serial work (at_entry c.args.r.now.args s)) =
+    subst (λ r. Follows c.in-Some.f.now.views c.run.new.bytes r (serial work (at_entry c.args.r.now.args s))) c.in-Err.is (c.run.ensures (at_entry c.args.r.now.args s) starts) in
+    subst (λ (w : Work). Follows c.args.views.now c.args.bytes.now (Err c.in-Err.end) (and_then (serial w (at_entry c.args.r.now.args s)) (λ inner. Ok (at_return 0 c.args.r.now.args inner s)))) (sym is)
+    (calling.call_traps c.args.views.now c.in-Some.f.now.views c.args.bytes.now c.run.new.bytes c.args.r.now.args s (serial work (at_entry c.args.r.now.args s)) c.in-Err.end ends)
 
 pub run-statements-requires : goal.run-statements-requires
 run-statements-requires t c =
@@ -83,16 +83,16 @@ run-statements-requires t c =
 
 pub statement-call-requires : goal.statement-call-requires
 statement-call-requires t c =
-    let there : slice_get c.in-Call.times c.args.k ≡ Some c.in-Some.r.now = search rules in
-    (search rules, (c.requires.line, (c.requires.placed, (c.requires.forms, ready_call c.args.setting.now.forms.now c.args.views.now c.args.s.now c.in-Call.lower c.in-Call.times c.args.k c.in-Some.r.now c.in-Call.is c.requires.rows there))))
+    let there : slice_get c.in-Call.instances c.args.k ≡ Some c.in-Some.r.now = search rules in
+    (search rules, (c.requires.line, (c.requires.placed, (c.requires.forms, ready_call c.args.setting.now.forms.now c.args.views.now c.args.s.now c.in-Call.lower c.in-Call.instances c.args.k c.in-Some.r.now c.in-Call.is c.requires.rows there))))
 
 pub statement-returns-in-Some : goal.statement-returns-in-Some
 statement-returns-in-Some t c = λ a shows.
-    let there : slice_get c.in-Call.times c.args.k ≡ Some c.in-Some.r.now = search rules in
+    let there : slice_get c.in-Call.instances c.args.k ≡ Some c.in-Some.r.now = search rules in
     let callee = form_work c.args.setting.now.forms.now c.args.calls in
-    let is : begun_work callee c.args.s.now c.args.k ≡ Call c.in-Some.r.now.form c.in-Call.lower c.in-Some.r.now.args (callee c.in-Some.r.now.form) =
-    ap (λ (b : Begun). begun_work callee b c.args.k) c.in-Call.is
-    ∙ (ap (λ f. f c.args.k) (begun_call callee c.in-Call.lower c.in-Call.times) ∙ ap (row_work callee c.in-Call.lower) there) in
+    let is : statement_work callee c.args.s.now c.args.k ≡ Call c.in-Some.r.now.form c.in-Call.lower c.in-Some.r.now.args (callee c.in-Some.r.now.form) =
+    ap (λ (b : Statement). statement_work callee b c.args.k) c.in-Call.is
+    ∙ (ap (λ f. f c.args.k) (begun_call callee c.in-Call.lower c.in-Call.instances) ∙ ap (row_work callee c.in-Call.lower) there) in
     subst (λ (w : Work). Follows c.args.views.now c.call.new.bytes c.call.result (serial w a)) (sym is) (c.call.ensures c.in-Call.lower a shows)
 
 pub statements-statement-requires : goal.statements-statement-requires
@@ -113,12 +113,12 @@ statements-returns-in-Err t c = λ s shows.
     let next : drop c.loop-s.s-index c.args.list.now ≡ c.s-item.result ∷ drop (c.loop-s.s-index + 1) c.args.list.now = next_item c.args.list.now c.loop-s.s-index c.s-item.result c.loop-s-test.true c.s-item.is in
     let callee = form_work c.args.setting.now.forms.now c.args.calls in
     let its = c.loop-s.invariant.goes s shows in
-    let ends : Follows c.args.views.now c.statement.new.bytes (Err c.in-Err.end) (serial (begun_work callee c.s-item.result c.args.k) its.0) =
-    subst (λ r. Follows c.args.views.now c.statement.new.bytes r (serial (begun_work callee c.s-item.result c.args.k) its.0)) c.in-Err.is (c.statement.ensures its.0 its.1) in
+    let ends : Follows c.args.views.now c.statement.new.bytes (Err c.in-Err.end) (serial (statement_work callee c.s-item.result c.args.k) its.0) =
+    subst (λ r. Follows c.args.views.now c.statement.new.bytes r (serial (statement_work callee c.s-item.result c.args.k) its.0)) c.in-Err.is (c.statement.ensures its.0 its.1) in
     let rest : Follows c.args.views.now c.statement.new.bytes (Err c.in-Err.end) (serial (list_work callee (c.s-item.result ∷ drop (c.loop-s.s-index + 1) c.args.list.now) c.args.k) its.0) =
-    trapped_first c.args.views.now c.statement.new.bytes c.in-Err.end (serial (begun_work callee c.s-item.result c.args.k) its.0) (serial (list_work callee (drop (c.loop-s.s-index + 1) c.args.list.now) c.args.k)) ends in
+    trapped_first c.args.views.now c.statement.new.bytes c.in-Err.end (serial (statement_work callee c.s-item.result c.args.k) its.0) (serial (list_work callee (drop (c.loop-s.s-index + 1) c.args.list.now) c.args.k)) ends in
     subst (Follows c.args.views.now c.statement.new.bytes (Err c.in-Err.end)) its.2
-    (subst (λ (l : List Begun). Follows c.args.views.now c.statement.new.bytes (Err c.in-Err.end) (serial (list_work callee l c.args.k) its.0)) (sym next) rest)
+    (subst (λ (l : List Statement). Follows c.args.views.now c.statement.new.bytes (Err c.in-Err.end) (serial (list_work callee l c.args.k) its.0)) (sym next) rest)
 
 pub statements-loop-s-preserved : goal.statements-loop-s-preserved
 statements-loop-s-preserved t c =
@@ -129,13 +129,13 @@ statements-loop-s-preserved t c =
       rows = ready_rest c.args.setting.now.forms.now c.args.views.now (drop c.loop-s.s-index c.args.list.now) (drop (c.loop-s.s-index + 1) c.args.list.now) c.s-item.result next c.loop-s.invariant.rows;
       goes = λ a shows.
           let its = c.loop-s.invariant.goes a shows in
-          let here : Reached c.args.views.now c.statement.new.bytes (serial (begun_work callee c.s-item.result c.args.k) its.0) =
-          reached c.args.views.now c.statement.new.bytes c.in-Ok.field-0 (serial (begun_work callee c.s-item.result c.args.k) its.0)
-          (subst (λ r. Follows c.args.views.now c.statement.new.bytes r (serial (begun_work callee c.s-item.result c.args.k) its.0)) c.in-Ok.is (c.statement.ensures its.0 its.1)) in (
+          let here : Reached c.args.views.now c.statement.new.bytes (serial (statement_work callee c.s-item.result c.args.k) its.0) =
+          reached c.args.views.now c.statement.new.bytes c.in-Ok.field-0 (serial (statement_work callee c.s-item.result c.args.k) its.0)
+          (subst (λ r. Follows c.args.views.now c.statement.new.bytes r (serial (statement_work callee c.s-item.result c.args.k) its.0)) c.in-Ok.is (c.statement.ensures its.0 its.1)) in (
             here.state,
             here.shows,
             sym (ap (λ (o : Outcome). and_then o (serial (list_work callee (drop (c.loop-s.s-index + 1) c.args.list.now) c.args.k))) here.is)
-                ∙ (ap (λ (l : List Begun). serial (list_work callee l c.args.k) its.0) (sym next) ∙ its.2),
+                ∙ (ap (λ (l : List Statement). serial (list_work callee l c.args.k) its.0) (sym next) ∙ its.2),
           );
     }
 
@@ -146,13 +146,13 @@ turns-turn-requires t c =
 pub turns-returns-in-Err : goal.turns-returns-in-Err
 turns-returns-in-Err t c = λ s shows.
     let callee = form_work c.args.setting.now.forms.now c.args.calls in
-    let turn = λ (i : ℕ). turn_of c.args.manner.now (serial (list_work callee c.args.body.now (c.args.from + i))) in
+    let turn = λ (i : ℕ). turn_of c.args.kind.now (serial (list_work callee c.args.body.now (c.args.from + i))) in
     let its = c.loop-t.invariant.goes s shows in
     let number : c.in-Some.k ≡ c.args.from + c.loop-t.t = search rules in
-    let ends : Follows c.args.views.now c.turn.new.bytes (Err c.in-Err.end) (turn_of c.args.manner.now (serial (list_work callee c.args.body.now c.in-Some.k)) its.0) =
-    subst (λ r. Follows c.args.views.now c.turn.new.bytes r (turn_of c.args.manner.now (serial (list_work callee c.args.body.now c.in-Some.k)) its.0)) c.in-Err.is (c.turn.ensures its.0 its.1) in
+    let ends : Follows c.args.views.now c.turn.new.bytes (Err c.in-Err.end) (turn_of c.args.kind.now (serial (list_work callee c.args.body.now c.in-Some.k)) its.0) =
+    subst (λ r. Follows c.args.views.now c.turn.new.bytes r (turn_of c.args.kind.now (serial (list_work callee c.args.body.now c.in-Some.k)) its.0)) c.in-Err.is (c.turn.ensures its.0 its.1) in
     let here : Follows c.args.views.now c.turn.new.bytes (Err c.in-Err.end) (turn c.loop-t.t its.0) =
-    subst (λ (k : ℕ). Follows c.args.views.now c.turn.new.bytes (Err c.in-Err.end) (turn_of c.args.manner.now (serial (list_work callee c.args.body.now k)) its.0)) number ends in
+    subst (λ (k : ℕ). Follows c.args.views.now c.turn.new.bytes (Err c.in-Err.end) (turn_of c.args.kind.now (serial (list_work callee c.args.body.now k)) its.0)) number ends in
     trap_stays c.args.views.now c.turn.new.bytes c.in_iteration.result turn s its.0 c.loop-t.t c.args.count c.loop-t-test.true its.2
     (c.in_iteration.ensures c.args.views.now c.turn.new.bytes (turn c.loop-t.t its.0) here)
 
@@ -195,15 +195,15 @@ gather-returns-in-Ok-statements t c = λ s shows.
     let same : c.args.r.now.elem ≡ c.in-Some.view.now.elem = search rules in
     let work = list_work (form_work c.args.setting.now.forms.now c.args.calls) c.args.body.now c.args.k in
     let r = c.args.r.now in
-    let starts : Shows c.args.views.now c.clear.new.bytes (cleared r s) =
-    subst (λ (b : List ℕ). Shows c.args.views.now b (cleared r s)) (sym c.clear.ensures) (cleared_shows c.args.views.now c.args.bytes.now c.in-Some.view.now r s c.requires.line c.requires.placed there same shows) in
-    let ends : Follows c.args.views.now c.statements.new.bytes (Ok tt) (serial work (cleared r s)) =
-    subst (λ q. Follows c.args.views.now c.statements.new.bytes q (serial work (cleared r s))) c.in-Ok-statements.is (c.statements.ensures (cleared r s) starts) in
-    let its = reached c.args.views.now c.statements.new.bytes tt (serial work (cleared r s)) ends in
+    let starts : Shows c.args.views.now c.clear.new.bytes (with_identity r s) =
+    subst (λ (b : List ℕ). Shows c.args.views.now b (with_identity r s)) (sym c.clear.ensures) (cleared_shows c.args.views.now c.args.bytes.now c.in-Some.view.now r s c.requires.line c.requires.placed there same shows) in
+    let ends : Follows c.args.views.now c.statements.new.bytes (Ok tt) (serial work (with_identity r s)) =
+    subst (λ q. Follows c.args.views.now c.statements.new.bytes q (serial work (with_identity r s))) c.in-Ok-statements.is (c.statements.ensures (with_identity r s) starts) in
+    let its = reached c.args.views.now c.statements.new.bytes tt (serial work (with_identity r s)) ends in
     let put : c.combine.new.bytes ≡ combined_bytes r.op c.in-Some.view.now (bytes_of c.in-Some.view.now c.args.bytes.now) c.statements.new.bytes =
     c.combine.ensures ∙ ap (λ (b : List ℕ). combined_bytes r.op c.in-Some.view.now b c.statements.new.bytes) made in
-    subst (λ (o : Outcome). Follows c.args.views.now c.combine.new.bytes (Ok tt) (and_then o (λ own. Ok (combined r s own)))) (sym its.is)
-    (subst (λ (b : List ℕ). Shows c.args.views.now b (combined r s its.state)) (sym put)
+    subst (λ (o : Outcome). Follows c.args.views.now c.combine.new.bytes (Ok tt) (and_then o (λ own. Ok (with_combined r s own)))) (sym its.is)
+    (subst (λ (b : List ℕ). Shows c.args.views.now b (with_combined r s its.state)) (sym put)
     (combined_shows c.args.views.now c.args.bytes.now c.statements.new.bytes c.in-Some.view.now r s its.state c.requires.line c.requires.placed placed there same shows its.shows))
 
 pub gather-returns : goal.gather-returns
@@ -212,8 +212,8 @@ gather-returns t c = λ s shows.
     let same : c.args.r.now.elem ≡ c.in-Some.view.now.elem = search rules in
     let work = list_work (form_work c.args.setting.now.forms.now c.args.calls) c.args.body.now c.args.k in
     let r = c.args.r.now in
-    let starts : Shows c.args.views.now c.clear.new.bytes (cleared r s) =
-    subst (λ (b : List ℕ). Shows c.args.views.now b (cleared r s)) (sym c.clear.ensures) (cleared_shows c.args.views.now c.args.bytes.now c.in-Some.view.now r s c.requires.line c.requires.placed there same shows) in
-    let ends : Follows c.args.views.now c.statements.new.bytes (Err c.in-Err.end) (serial work (cleared r s)) =
-    subst (λ q. Follows c.args.views.now c.statements.new.bytes q (serial work (cleared r s))) c.in-Err.is (c.statements.ensures (cleared r s) starts) in
-    trapped_first c.args.views.now c.statements.new.bytes c.in-Err.end (serial work (cleared r s)) (λ own. Ok (combined r s own)) ends
+    let starts : Shows c.args.views.now c.clear.new.bytes (with_identity r s) =
+    subst (λ (b : List ℕ). Shows c.args.views.now b (with_identity r s)) (sym c.clear.ensures) (cleared_shows c.args.views.now c.args.bytes.now c.in-Some.view.now r s c.requires.line c.requires.placed there same shows) in
+    let ends : Follows c.args.views.now c.statements.new.bytes (Err c.in-Err.end) (serial work (with_identity r s)) =
+    subst (λ q. Follows c.args.views.now c.statements.new.bytes q (serial work (with_identity r s))) c.in-Err.is (c.statements.ensures (with_identity r s) starts) in
+    trapped_first c.args.views.now c.statements.new.bytes c.in-Err.end (serial work (with_identity r s)) (λ own. Ok (with_combined r s own)) ends

@@ -1,8 +1,8 @@
 use Rattle.std.proofs.Common.{◌≡◌, ◌+◌, ◌*◌, length, drop, Ok}
 use Rattle.sq_leaf.specs.Source.{Arrays}
 use Rattle.sq_leaf.specs.Views.{Shows}
-use Rattle.sq_spec.specs.InTurn.{serial}
-use Rattle.sq_spec.specs.Meaning.{in_turn}
+use Rattle.sq_work.specs.InTurn.{serial}
+use Rattle.sq_work.specs.Meaning.{in_turn}
 use Rattle.sq_flat.specs.Ready as ready
 use Rattle.sq_flat.specs.Works as spec
 use Rattle.sq_flat.proofs.eval.+run.Given as goal
@@ -34,7 +34,7 @@ abbrev pub invariant-turns-loop-t : goal.invariant-turns-loop-t
 invariant-turns-loop-t l = record {
   size : length l.bytes ≡ length l.fn.bytes;
   goes : (a : Arrays) → Shows l.views l.fn.bytes a → (b : Arrays) × Shows l.views l.bytes b
-      × (in_turn l.t (λ t. spec.turn_of l.manner (serial (spec.list_work (spec.form_work l.setting.forms.now l.calls) l.body (l.from + t)))) a ≡ Ok b);
+      × (in_turn l.t (λ t. spec.turn_of l.kind (serial (spec.list_work (spec.form_work l.setting.forms.now l.calls) l.body (l.from + t)))) a ≡ Ok b);
 }
 
 abbrev pub decreases-turn : goal.decreases-turn

@@ -1,6 +1,6 @@
 use Rattle.std.proofs.Common.{rules, ◌≡◌, sym, subst, ◌<◌, false, length, Ok, Err}
-use Rattle.sq_spec.specs.InTurn.{serial}
-use Rattle.sq_spec.specs.Work.{Call}
+use Rattle.sq_work.specs.InTurn.{serial}
+use Rattle.sq_work.specs.Work.{Call}
 use Rattle.sq_spec.specs.Works.{flat}
 use Rattle.sq_flat.specs.Ends.{HoldsInside}
 use Rattle.sq_flat.specs.Held.{entry_args}

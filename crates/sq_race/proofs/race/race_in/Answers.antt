@@ -1,6 +1,6 @@
 use Rattle.std.proofs.Common.{rules, ◌≡◌, Option, subst}
 use Rattle.std.specs.Option.{option_copied}
-use Rattle.sq_spec.specs.Tables.{at_index}
+use Rattle.sq_forms.specs.Tables.{at_index}
 use Rattle.sq_race.specs.Race.{IsFirstOf}
 use Rattle.sq_race.specs.declared.forms.Found.{Found}
 use Rattle.sq_race.proofs.Told.{none_here, first_here, its_maps, its_variant, within}

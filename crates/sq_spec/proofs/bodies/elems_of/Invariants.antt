@@ -1,5 +1,5 @@
 use Rattle.std.proofs.Common.{◌≡◌, ◌++◌, drop}
-use Rattle.sq_spec.specs.Begun.{param_elems, local_elems}
+use Rattle.sq_spec.specs.Statements.{param_elems, local_elems}
 use Rattle.sq_spec.proofs.bodies.elems_of.Given as goal
 
 abbrev pub invariant-loop-p : goal.invariant-loop-p

@@ -1,0 +1,4 @@
+//! What is true of forms, their calls and their accesses.
+#![tactic(auto)]
+
+pub mod laws;

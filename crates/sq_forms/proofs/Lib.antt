@@ -1,0 +1,9 @@
+pub mod Options
+pub mod Argued
+pub mod OpenedStmt
+pub mod Products
+pub mod Joins
+pub mod Statements
+pub mod Scopes
+pub mod AllForms
+pub mod Tallies

@@ -1,0 +1,10 @@
+pub mod Faults
+pub mod Steps
+pub mod Args
+pub mod Tables
+pub mod Worlds
+pub mod Calls
+pub mod Stmts
+pub mod Decls
+pub mod Resolving
+pub mod Forms

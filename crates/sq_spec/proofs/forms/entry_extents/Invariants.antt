@@ -1,7 +1,0 @@
-use Rattle.std.proofs.Common.{◌≡◌, ◌++◌, drop, Ok}
-use Rattle.sq_spec.specs.Faults.{and_then}
-use Rattle.sq_spec.specs.Resolving as spec
-use Rattle.sq_spec.proofs.forms.entry_extents.Given as goal
-
-abbrev pub invariant-loop-p : goal.invariant-loop-p
-invariant-loop-p l = spec.entry_extents l.sizes l.list ≡ and_then (spec.entry_extents l.sizes (drop l.p-index l.list)) (λ es. Ok (l.extents ++ es))

@@ -1,6 +1,0 @@
-use Rattle.std.proofs.Common.{◌≡◌, drop}
-use Rattle.sq_spec.specs.Resolving as spec
-use Rattle.sq_spec.proofs.forms.size_of.Given as goal
-
-abbrev pub invariant-loop-size : goal.invariant-loop-size
-invariant-loop-size l = spec.size_of (drop l.size-index l.sizes) l.name ≡ spec.size_of l.sizes l.name

@@ -1,5 +1,0 @@
-use Rattle.sq_spec.proofs.Exact.{alias_is_exact}
-use Rattle.sq_spec.proofs.laws.alias_is_exact.Goals as goal
-
-pub returns : goal.returns
-returns c = alias_is_exact

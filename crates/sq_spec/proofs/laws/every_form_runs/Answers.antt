@@ -1,5 +1,0 @@
-use Rattle.sq_spec.proofs.FitHold.{forms_fit, forms_run}
-use Rattle.sq_spec.proofs.laws.every_form_runs.Goals as goal
-
-pub returns : goal.returns
-returns c = record { fit = forms_fit; run = forms_run }

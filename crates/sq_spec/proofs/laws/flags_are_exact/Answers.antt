@@ -1,5 +1,0 @@
-use Rattle.sq_spec.proofs.Exact.{flags_are_exact}
-use Rattle.sq_spec.proofs.laws.flags_are_exact.Goals as goal
-
-pub returns : goal.returns
-returns c = flags_are_exact

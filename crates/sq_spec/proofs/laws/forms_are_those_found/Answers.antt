@@ -1,6 +1,0 @@
-use Rattle.sq_spec.proofs.AnswerHold.{forms_are_found}
-use Rattle.sq_spec.proofs.RanHold.{as_many_forms}
-use Rattle.sq_spec.proofs.laws.forms_are_those_found.Goals as goal
-
-pub returns : goal.returns
-returns c = record { many = as_many_forms; each = forms_are_found }

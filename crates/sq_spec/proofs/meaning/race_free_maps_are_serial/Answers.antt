@@ -1,5 +1,0 @@
-use Rattle.sq_spec.proofs.Serial.{race_free_is_serial}
-use Rattle.sq_spec.proofs.meaning.race_free_maps_are_serial.Goals as goal
-
-pub returns : goal.returns
-returns c = race_free_is_serial

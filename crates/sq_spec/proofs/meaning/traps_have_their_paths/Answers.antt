@@ -1,5 +1,0 @@
-use Rattle.sq_spec.proofs.Computed.{traps_have_paths}
-use Rattle.sq_spec.proofs.meaning.traps_have_their_paths.Goals as goal
-
-pub returns : goal.returns
-returns c = traps_have_paths

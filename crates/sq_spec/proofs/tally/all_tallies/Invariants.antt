@@ -1,6 +1,0 @@
-use Rattle.std.proofs.Common.{◌≡◌, ◌++◌, drop}
-use Rattle.sq_spec.specs.Stmts as spec
-use Rattle.sq_spec.proofs.tally.all_tallies.Given as goal
-
-abbrev pub invariant-loop-v : goal.invariant-loop-v
-invariant-loop-v l = l.tallies ++ spec.all_tallies (drop l.v-index l.variants) ≡ spec.all_tallies l.variants

@@ -1,0 +1,13 @@
+pub mod NeedsHold
+pub mod LevelsHold
+pub mod ReachedHold
+pub mod NamedHold
+pub mod Sorted
+pub mod OneName
+pub mod TypedHold
+pub mod FilledHold
+pub mod TableRowsHold
+pub mod SumsHold
+pub mod ReachedFactsHold
+pub mod OnesHold
+pub mod FuelHold

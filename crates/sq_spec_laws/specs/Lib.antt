@@ -1,0 +1,9 @@
+pub mod Needs
+pub mod Named
+pub mod Typed
+pub mod Filled
+pub mod TableRows
+pub mod Summing
+pub mod ReachedFacts
+pub mod Ones
+pub mod Fuel

@@ -1,0 +1,4 @@
+//! What is true of the forms of a program without a fault, and of their tables: what a compiler over them stands on.
+#![tactic(auto)]
+
+pub mod laws;

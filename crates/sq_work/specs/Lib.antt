@@ -1,0 +1,4 @@
+pub mod Work
+pub mod Meaning
+pub mod InTurn
+pub mod Examples

@@ -1,0 +1,7 @@
+//! What a program means: its work, with every constant known, on the arrays of one flat memory.
+#![tactic(auto)]
+
+pub mod laws;
+mod reduction;
+
+pub use reduction::Reduction;

@@ -1,0 +1,21 @@
+" Vim syntax file: mappings and machines of sq.
+if exists("b:current_syntax")
+  finish
+endif
+
+syntax keyword sqFileHead mapping machine entry instance level levels node
+syntax keyword sqFileItem tunable call spread cyclic blocked capacity children
+syntax keyword sqFileKind inner leaf
+syntax match sqFileNumber "\<\d\+\>"
+syntax match sqFileSign "->\|::\|@"
+syntax region sqFileComment start="/\*" end="\*/"
+syntax match sqFileComment "//.*$"
+
+highlight default link sqFileHead Keyword
+highlight default link sqFileItem StorageClass
+highlight default link sqFileKind Type
+highlight default link sqFileNumber Number
+highlight default link sqFileSign Operator
+highlight default link sqFileComment Comment
+
+let b:current_syntax = "sqfile"
