@@ -10,7 +10,7 @@ use Rattle.sq_cli.specs.Small.{not_yet, fault}
 use Rattle.sq_cli.specs.Meaning.{Answer, done, refused, trapped, usage, file_fault, no_memory, absent}
 use Rattle.sq_cli.specs.Banks.{Writing, whole, cut_out, cut_err}
 use Rattle.sq_cli.specs.Outcome.{IsDone, HasEvents, IsEndOf, Outside, Puts, ResultFor, Ended, trace_for}
-use Rattle.sq_tree.specs.Bank.{BankSeen}
+use Rattle.sq_small.specs.Bank.{BankSeen}
 use Rattle.sq_cli.specs.Top.{BankOf, FilesFor, Executed, Finished, Answered}
 
 pub executed_of : (command : Option Command) (its : Command) (old now : Outside) (result : Result (Unit {0}) End) → command ≡ Some its → Ended its old now result → Executed command old now result

@@ -8,7 +8,7 @@ use Rattle.sq_text.specs.declared.fault.Stop.TheVariants.{Refused as Refusal}
 use Rattle.sq_text.specs.Answers.{Answers}
 use Rattle.sq_ast.specs.declared.program.Program.{Program as Tree}
 use Rattle.sq_types.specs.Sites.{TypeFault}
-use Rattle.sq_tree.specs.Bank.{BankSeen}
+use Rattle.sq_small.specs.Bank.{BankSeen}
 use Rattle.sq_cli.specs.declared.end.End.TheVariants.{Refused}
 use Rattle.sq_cli.specs.Words.{check_of}
 use Rattle.sq_cli.specs.Meaning.{done, Means}

@@ -7,8 +7,8 @@ use Rattle.std.proofs.Math.Seq.{drop_at, drop-drop, take-take}
 use Rattle.sq_num.specs.declared.Elem.{Elem}
 use Rattle.sq_num.specs.Elements.{width, value, cell, cut, values_in}
 use Rattle.sq_num.proofs.Cutting.{length-cell, value-cell}
-use Rattle.sq_tree.specs.Source.{Numbers}
-use Rattle.sq_tree.specs.Bytes.{put_at, array_at, array_bytes}
+use Rattle.sq_small.specs.Source.{Numbers}
+use Rattle.sq_small.specs.Bytes.{put_at, array_at, array_bytes}
 use Rattle.sq_cli.specs.Data.{numbers_of, listed}
 
 pub length-array_bytes : (e : Elem) (n : ℕ) (array : Numbers) → length (array_bytes e n array) ≡ width e * n

@@ -20,7 +20,7 @@ use Rattle.sq_spec.specs.declared.resolved.Resolved.{Resolved}
 use Rattle.sq_race.specs.Race.{IsFirstRace}
 use Rattle.sq_flat.specs.Held.{Stored, Holds, AreWhole, entry_shapes}
 use Rattle.sq_flat.specs.Ends.{HoldsEnd}
-use Rattle.sq_tree.specs.Bank.{BankSeen}
+use Rattle.sq_small.specs.Bank.{BankSeen}
 use Rattle.sq_cli.specs.declared.words.Kind.TheVariants.{Eval}
 use Rattle.sq_cli.specs.declared.trap.Trap.{Trap}
 use Rattle.sq_cli.specs.declared.end.End.{End}

@@ -25,7 +25,7 @@ use Rattle.sq_flat.specs.Held.{Stored, Holds, AreWhole, entry_shapes, extents_in
 use Rattle.sq_flat.specs.declared.flat.FlatEnd.TheVariants.{Trap as FlatTrap}
 use Rattle.sq_flat.specs.declared.flat.Trapped.{Trapped as FlatTrapped}
 use Rattle.sq_leaf.specs.declared.trap.Trap.{Trap as LeafTrap}
-use Rattle.sq_tree.specs.Bank.{BankSeen}
+use Rattle.sq_small.specs.Bank.{BankSeen}
 use Rattle.sq_cli.specs.declared.words.Kind.TheVariants.{Eval}
 use Rattle.sq_cli.specs.declared.trap.Trap.{Trap}
 use Rattle.sq_cli.specs.declared.end.End.{End}

@@ -3,7 +3,7 @@ use Rattle.std.proofs.Common.{◌≡◌, ◌≤◌, inl, ℕ, zero, suc, List, [
 use Rattle.sq_port.specs.Ports.{Content, Gains, GainsPrefix, Rose}
 use Rattle.std.proofs.lemmas.List.{append-nil}
 use Rattle.sq_port.proofs.Gained.{gains_both, prefix_behind}
-use Rattle.sq_tree.specs.Bank.{BankSeen}
+use Rattle.sq_small.specs.Bank.{BankSeen}
 use Rattle.sq_cli.specs.declared.status.Status.{Status}
 use Rattle.sq_cli.specs.declared.status.Status.TheVariants.{Done, SinkFault}
 use Rattle.sq_cli.specs.declared.end.End.{End}

@@ -4,12 +4,12 @@ use Rattle.std.specs.Prelude.{ℤ, pos}
 use Rattle.sq_num.specs.declared.Elem.TheVariants.{Int}
 use Rattle.sq_num.specs.Elements.{cut}
 use Rattle.sq_num.proofs.Cutting.{cut-cut}
-use Rattle.sq_tree.specs.declared.plan.Plan.{Plan}
-use Rattle.sq_tree.specs.declared.plan.SmallEvent.{SmallEvent}
-use Rattle.sq_tree.specs.declared.plan.SmallEvent.TheVariants.{Fill, Leaf}
-use Rattle.sq_tree.specs.Source.{signed_sum, outputs}
-use Rattle.sq_tree.specs.Bytes.{put_at, array_at, array_bytes}
-use Rattle.sq_tree.specs.Bank.{BankSeen, node_at, put_node, leaf_put, counted, IsReady, FillsRow, RunsLeaf}
+use Rattle.sq_small.specs.declared.plan.Plan.{Plan}
+use Rattle.sq_small.specs.declared.plan.SmallEvent.{SmallEvent}
+use Rattle.sq_small.specs.declared.plan.SmallEvent.TheVariants.{Fill, Leaf}
+use Rattle.sq_small.specs.Source.{signed_sum, outputs}
+use Rattle.sq_small.specs.Bytes.{put_at, array_at, array_bytes}
+use Rattle.sq_small.specs.Bank.{BankSeen, node_at, put_node, leaf_put, counted, IsReady, FillsRow, RunsLeaf}
 use Rattle.sq_cli.specs.Placing.{IsLaidOut}
 use Rattle.sq_cli.specs.Steps.{IsHeld, Ran}
 use Rattle.sq_cli.proofs.Elements.{put_at-length, length-array_bytes, element-put, element-stays}

@@ -8,7 +8,7 @@ use Rattle.sq_text.specs.declared.fault.Fault.{Fault}
 use Rattle.sq_parser.specs.declared.small.SmallTask.{SmallTask}
 use Rattle.sq_parser.specs.declared.small.SmallMachine.{SmallMachine}
 use Rattle.sq_parser.specs.Texts.{IsSmallProgram, IsSmallMachine, IsSmallMapping}
-use Rattle.sq_tree.specs.Bank.{BankSeen}
+use Rattle.sq_small.specs.Bank.{BankSeen}
 use Rattle.sq_cli.specs.declared.end.End.{End}
 use Rattle.sq_cli.specs.declared.end.End.TheVariants.{Usage, Absent, FileFault, NotYet, Refused, Trapped, NoMemory, SinkFault}
 use Rattle.sq_cli.specs.declared.plan.Planned.{Planned}

@@ -6,7 +6,7 @@ use Rattle.sq_text.specs.declared.code.Phase.TheVariants.{Program, Types}
 use Rattle.sq_text.specs.declared.fault.Fault.{Fault}
 use Rattle.sq_ast.specs.declared.program.Program.{Program as Tree}
 use Rattle.sq_types.specs.Sites.{TypeFault}
-use Rattle.sq_tree.specs.Bank.{BankSeen}
+use Rattle.sq_small.specs.Bank.{BankSeen}
 use Rattle.sq_cli.specs.declared.end.End.{End}
 use Rattle.sq_cli.specs.Words.{Command}
 use Rattle.sq_cli.specs.Phases.{phases, Inputs, text_of, inputs_of, IsTold}

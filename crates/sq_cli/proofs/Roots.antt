@@ -24,10 +24,10 @@ use Rattle.sq_arrays.specs.Arrays.{Wanted, DataFault, array_of_text, of_array, a
 use Rattle.sq_arrays.specs.Targets.{put_in, array_at, HasRange, HasRoom, cells_of, GivesArrays, Refuses, name_at}
 use Rattle.sq_arrays.specs.Window.{IsTold, IsThere, IsMissing}
 use Rattle.sq_arrays.specs.Causes.{IsThereUnlessFailed}
-use Rattle.sq_tree.specs.declared.plan.Plan.{Plan}
-use Rattle.sq_tree.specs.Bytes.{put_at, array_bytes}
-use Rattle.sq_tree.specs.Bytes as bytes
-use Rattle.sq_tree.specs.Bank.{BankSeen, node_at, put_node}
+use Rattle.sq_small.specs.declared.plan.Plan.{Plan}
+use Rattle.sq_small.specs.Bytes.{put_at, array_bytes}
+use Rattle.sq_small.specs.Bytes as bytes
+use Rattle.sq_small.specs.Bank.{BankSeen, node_at, put_node}
 use Rattle.sq_cli.specs.declared.end.End.TheVariants.{Refused as RefusedEnd}
 use Rattle.sq_cli.specs.Placing.{IsLaidOut}
 use Rattle.sq_cli.specs.Data.{int_array, code_for, numbers_of}

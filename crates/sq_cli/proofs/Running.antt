@@ -10,12 +10,12 @@ use Rattle.sq_text.specs.declared.fault.Fault.{Fault}
 use Rattle.sq_parser.specs.declared.small.SmallTask.{SmallTask}
 use Rattle.sq_arrays.specs.Written.{array_text}
 use Rattle.sq_arrays.specs.Arrays.{DataFault, arrays_of}
-use Rattle.sq_tree.specs.declared.plan.Plan.{Plan}
-use Rattle.sq_tree.specs.declared.plan.SmallEvent.{SmallEvent}
-use Rattle.sq_tree.specs.Source.{signed_sum, outputs}
-use Rattle.sq_tree.specs.Bytes.{array_at}
-use Rattle.sq_tree.specs.Bank.{BankSeen, node_at, put_node, IsOpened}
-use Rattle.sq_tree.specs.Run.{events_of, nodes_left, counted_all}
+use Rattle.sq_small.specs.declared.plan.Plan.{Plan}
+use Rattle.sq_small.specs.declared.plan.SmallEvent.{SmallEvent}
+use Rattle.sq_small.specs.Source.{signed_sum, outputs}
+use Rattle.sq_small.specs.Bytes.{array_at}
+use Rattle.sq_small.specs.Bank.{BankSeen, node_at, put_node, IsOpened}
+use Rattle.sq_small.specs.Run.{events_of, nodes_left, counted_all}
 use Rattle.sq_cli.specs.declared.end.End.{End}
 use Rattle.sq_cli.specs.declared.plan.Planned.{Planned}
 use Rattle.sq_cli.specs.Words.{run_of}

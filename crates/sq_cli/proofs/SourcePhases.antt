@@ -14,7 +14,7 @@ use Rattle.sq_forms.specs.declared.form.Use.{Use}
 use Rattle.sq_spec.specs.declared.resolved.Resolved.{Resolved}
 use Rattle.sq_race.specs.declared.forms.Found.{Found}
 use Rattle.sq_race.specs.Race.{variant_by, maps_by, HoldsIn, HoldsAt, IsFirstRace}
-use Rattle.sq_tree.specs.Bank.{BankSeen}
+use Rattle.sq_small.specs.Bank.{BankSeen}
 use Rattle.sq_cli.specs.declared.words.Kind.{Kind}
 use Rattle.sq_cli.specs.declared.end.End.{End}
 use Rattle.sq_cli.specs.declared.end.End.TheVariants.{Refused}

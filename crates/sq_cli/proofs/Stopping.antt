@@ -3,7 +3,7 @@ use Rattle.std.proofs.Common.{◌≡◌, inl, inr, ℕ, List, [], false, Option,
 use Rattle.sq_port.specs.Ports.{Content, Gains}
 use Rattle.sq_port.proofs.Gained.{gains_nothing}
 use Rattle.sq_text.specs.declared.code.Phase.{Phase}
-use Rattle.sq_tree.specs.Bank.{BankSeen}
+use Rattle.sq_small.specs.Bank.{BankSeen}
 use Rattle.sq_cli.specs.declared.end.End.{End}
 use Rattle.sq_cli.specs.declared.end.End.TheVariants.{Usage, Absent, FileFault, NotYet, Refused, Trapped, NoMemory, SinkFault}
 use Rattle.sq_cli.specs.Words.{Files, Command}

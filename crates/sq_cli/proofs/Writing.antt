@@ -6,7 +6,7 @@ use Rattle.sq_num.specs.declared.Elem.TheVariants.{Int}
 use Rattle.sq_num.specs.Elements.{values_in}
 use Rattle.sq_rect.specs.Extents.{product}
 use Rattle.sq_arrays.specs.Written.{array_text}
-use Rattle.sq_tree.specs.Bytes.{array_at}
+use Rattle.sq_small.specs.Bytes.{array_at}
 use Rattle.sq_cli.specs.Data.{int_array, output_text}
 use Rattle.sq_cli.proofs.Elements.{values_of_part}
 

@@ -1,10 +1,10 @@
 -- What a command leaves of the bank.
 use Rattle.std.specs.Prelude.{◌≡◌, ◌⊎◌, List, ℕ, [], ◌∷◌, ◌++◌, ◌*◌, length, Bool, true, false, Option, Some}
 use Rattle.sq_port.specs.Ports.{Content}
-use Rattle.sq_tree.specs.declared.plan.Plan.{Plan}
-use Rattle.sq_tree.specs.declared.plan.SmallEvent.{SmallEvent}
-use Rattle.sq_tree.specs.Bank.{BankSeen, one_more}
-use Rattle.sq_tree.specs.Run.{events_of, HasPerformed}
+use Rattle.sq_small.specs.declared.plan.Plan.{Plan}
+use Rattle.sq_small.specs.declared.plan.SmallEvent.{SmallEvent}
+use Rattle.sq_small.specs.Bank.{BankSeen, one_more}
+use Rattle.sq_small.specs.Run.{events_of, HasPerformed}
 use Rattle.sq_cli.specs.declared.words.Kind.{Kind}
 use Rattle.sq_cli.specs.declared.words.Kind.TheVariants.{Check, Fmt, Eval, Run}
 use Rattle.sq_cli.specs.Words.{input, Command}

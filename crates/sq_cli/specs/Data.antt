@@ -11,7 +11,7 @@ use Rattle.sq_arrays.specs.declared.refusal.InputCode.{InputCode}
 use Rattle.sq_arrays.specs.declared.refusal.InputCode.TheVariants.{LimitFile, Syntax, Name, Shape, Range, Short, Extra}
 use Rattle.sq_arrays.specs.Arrays.{Wanted, DataFault}
 use Rattle.sq_arrays.specs.Written.{array_text}
-use Rattle.sq_tree.specs.Source.{Numbers}
+use Rattle.sq_small.specs.Source.{Numbers}
 
 -- an array of n `int`s
 abbrev pub int_array : List ℕ → ℕ → Wanted

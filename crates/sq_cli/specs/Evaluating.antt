@@ -8,7 +8,7 @@ use Rattle.sq_types.specs.Sites.{TypeFault}
 use Rattle.sq_machfile.specs.declared.level.Level.{Level}
 use Rattle.sq_machfile.specs.Machines.{Hierarchy}
 use Rattle.sq_mapfile.specs.declared.mapping.Mapping.{Mapping}
-use Rattle.sq_tree.specs.Bank.{BankSeen}
+use Rattle.sq_small.specs.Bank.{BankSeen}
 use Rattle.sq_leaf.specs.declared.shape.Shape.{Shape}
 use Rattle.sq_work.specs.Meaning.{Outcome}
 use Rattle.sq_flat.specs.Held.{Stored}

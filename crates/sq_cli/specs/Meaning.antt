@@ -2,7 +2,7 @@
 use Rattle.std.specs.Prelude.{◌≡◌, ℕ, List, [], ◌∷◌, ◌++◌, Option, Some, None, codes}
 use Rattle.sq_port.specs.Ports.{Content}
 use Rattle.sq_text.specs.declared.code.Phase.{Phase}
-use Rattle.sq_tree.specs.declared.plan.Plan.{Plan}
+use Rattle.sq_small.specs.declared.plan.Plan.{Plan}
 use Rattle.sq_ast.specs.declared.program.Program.{Program as Tree}
 use Rattle.sq_ast.specs.Canonical.{canonical}
 use Rattle.sq_cli.specs.declared.words.Kind.{Kind}

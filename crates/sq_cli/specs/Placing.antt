@@ -4,8 +4,8 @@ use Rattle.sq_text.specs.declared.code.Phase.TheVariants.{Capacity as CapacityPh
 use Rattle.sq_text.specs.declared.code.Code.TheVariants.{Capacity as CapacityCode}
 use Rattle.sq_text.specs.declared.fault.Arg.TheVariants.{Word, Number}
 use Rattle.sq_text.specs.declared.fault.Fault.{Fault}
-use Rattle.sq_tree.specs.declared.plan.Plan.{Plan}
-use Rattle.sq_tree.specs.Bank.{IsPlaced}
+use Rattle.sq_small.specs.declared.plan.Plan.{Plan}
+use Rattle.sq_small.specs.Bank.{IsPlaced}
 
 -- bytes rounded up to a multiple of 8
 abbrev pub rounded : ℕ → ℕ

@@ -6,8 +6,8 @@ use Rattle.sq_arrays.specs.declared.refusal.ArraysEnd.{ArraysEnd}
 use Rattle.sq_arrays.specs.Arrays.{arrays_of}
 use Rattle.sq_arrays.specs.Targets.{GivesArrays}
 use Rattle.sq_arrays.specs.Window.{IsTold}
-use Rattle.sq_tree.specs.declared.plan.Plan.{Plan}
-use Rattle.sq_tree.specs.Bank.{BankSeen, put_node}
+use Rattle.sq_small.specs.declared.plan.Plan.{Plan}
+use Rattle.sq_small.specs.Bank.{BankSeen, put_node}
 use Rattle.sq_cli.specs.Data.{int_array}
 use Rattle.sq_cli.specs.Steps.{IsUnperformed}
 

@@ -10,10 +10,10 @@ use Rattle.sq_parser.specs.declared.small.SmallTask.{SmallTask}
 use Rattle.sq_parser.specs.declared.small.SmallMachine.{SmallMachine}
 use Rattle.sq_parser.specs.Texts.{IsSmallProgram, IsSmallMachine, IsSmallMapping}
 use Rattle.sq_arrays.specs.Arrays.{DataFault, arrays_of}
-use Rattle.sq_tree.specs.declared.plan.Plan.{Plan}
-use Rattle.sq_tree.specs.Source.{outputs}
-use Rattle.sq_tree.specs.Bytes.{array_at}
-use Rattle.sq_tree.specs.Bank.{BankSeen, node_at, put_node}
+use Rattle.sq_small.specs.declared.plan.Plan.{Plan}
+use Rattle.sq_small.specs.Source.{outputs}
+use Rattle.sq_small.specs.Bytes.{array_at}
+use Rattle.sq_small.specs.Bank.{BankSeen, node_at, put_node}
 use Rattle.sq_cli.specs.Words.{program, mapping, machine, input}
 use Rattle.sq_cli.specs.Phases.{Inputs}
 use Rattle.sq_cli.specs.Holding.{Holds, HoldsNone}

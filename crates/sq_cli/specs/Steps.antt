@@ -9,10 +9,10 @@ use Rattle.sq_text.specs.declared.fault.Fault.{Fault}
 use Rattle.sq_parser.specs.declared.small.SmallTask.{SmallTask}
 use Rattle.sq_parser.specs.declared.small.SmallMachine.{SmallMachine}
 use Rattle.sq_arrays.specs.Arrays.{DataFault, arrays_of, AreValuesOf}
-use Rattle.sq_tree.specs.declared.plan.Plan.{Plan}
-use Rattle.sq_tree.specs.declared.plan.SmallEvent.{SmallEvent}
-use Rattle.sq_tree.specs.Bank.{BankSeen, node_at, put_node}
-use Rattle.sq_tree.specs.Run.{events_of, nodes_left, counted_all}
+use Rattle.sq_small.specs.declared.plan.Plan.{Plan}
+use Rattle.sq_small.specs.declared.plan.SmallEvent.{SmallEvent}
+use Rattle.sq_small.specs.Bank.{BankSeen, node_at, put_node}
+use Rattle.sq_small.specs.Run.{events_of, nodes_left, counted_all}
 use Rattle.sq_ast.specs.declared.program.Program.{Program as Tree}
 use Rattle.sq_cli.specs.declared.end.End.{End}
 use Rattle.sq_cli.specs.declared.end.End.TheVariants.{Usage, Absent, FileFault, NotYet, Refused, Trapped, NoMemory, SinkFault}

@@ -4,7 +4,7 @@ use Rattle.sq_port.specs.Ports.{Content, Rose}
 use Rattle.sq_cli.specs.declared.status.Status.{Status}
 use Rattle.sq_cli.specs.declared.status.Status.TheVariants.{Usage, FileFault, SinkFault, NoMemory, Absent}
 use Rattle.sq_cli.specs.declared.end.End.{End}
-use Rattle.sq_tree.specs.Bank.{BankSeen}
+use Rattle.sq_small.specs.Bank.{BankSeen}
 use Rattle.sq_cli.specs.Words.{Command}
 use Rattle.sq_cli.specs.Phases.{IsTold}
 use Rattle.sq_cli.specs.Meaning.{Answer, done, refused, trapped, usage, file_fault, absent, IsCause, Means}

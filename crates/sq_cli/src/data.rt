@@ -17,7 +17,7 @@ use sq_num::Elem;
 use sq_port::Files;
 use sq_rect::Dims;
 use sq_text::{Args, Code, Fault, Phase};
-use sq_tree::{Bank, Plan};
+use sq_small::{Bank, Plan};
 
 /// Puts the numbers of the data into the `in` array. It takes no memory: `args` are those of a fault.
 pub fn fill_input<'a, F: Files, B: Bank>(

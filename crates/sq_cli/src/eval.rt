@@ -34,7 +34,7 @@ use sq_race::laws::without_a_race;
 use sq_spec::laws::entry_is_first;
 use sq_spec::{Resolved, resolve};
 use sq_text::Stop;
-use sq_tree::Bank;
+use sq_small::Bank;
 use sq_types::{Typed, check};
 use std::alloc::Global;
 

@@ -7,7 +7,7 @@ use crate::words::Fmt;
 use crate::world::{Perform, World};
 use sq_ast::print_program;
 use sq_port::{Failed, Files, Sink, put_all};
-use sq_tree::Bank;
+use sq_small::Bank;
 use std::alloc::Global;
 
 impl<'a> Perform<'a> for Fmt<'a> {

@@ -25,7 +25,7 @@ mod world;
 
 use adapters::{DiskFiles, StreamSink};
 use end::put_usage;
-use sq_tree::RawBank;
+use sq_small::RawBank;
 use status::Status;
 use std::process::ExitCode;
 use std::{env, io};

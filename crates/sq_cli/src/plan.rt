@@ -12,7 +12,7 @@ use crate::words::Run;
 use sq_parser::{SmallMachine, SmallTask};
 use sq_port::Files;
 use sq_text::{Arg, Args, Code, Fault, Name, Phase};
-use sq_tree::Plan;
+use sq_small::Plan;
 use std::alloc::{AllocError, Global};
 use std::rc::Rc;
 

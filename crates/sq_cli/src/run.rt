@@ -1,8 +1,8 @@
 //! The command `run`: the leaf's `out` array, by way of the bank.
 ghost use Rattle.std.specs.Prelude.{◌≡◌, OnOk, OnErr, ◌*◌, ℕ, List, take, drop};
 ghost use Rattle.sq_num.specs.declared.Elem.TheVariants.{Int};
-ghost use Rattle.sq_tree.specs.Bytes.{array_at};
-ghost use Rattle.sq_tree.specs.Bank.{IsOpened, node_at};
+ghost use Rattle.sq_small.specs.Bytes.{array_at};
+ghost use Rattle.sq_small.specs.Bank.{IsOpened, node_at};
 ghost use Rattle.sq_cli.specs.Words.{run_of};
 ghost use Rattle.sq_cli.specs.Ends.{ending, FileCauses};
 ghost use Rattle.sq_cli.specs.Placing.{IsLaidOut};
@@ -18,7 +18,7 @@ use sq_arrays::{Want, write_array};
 use sq_num::Elem;
 use sq_port::{Failed, Files, Sink};
 use sq_rect::Dims;
-use sq_tree::{Bank, Plan, Spot};
+use sq_small::{Bank, Plan, Spot};
 use std::alloc::{AllocError, Global};
 use std::rc::Rc;
 

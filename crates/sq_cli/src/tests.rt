@@ -2,7 +2,7 @@
 use crate::status::Status;
 use crate::top::sq_top;
 use sq_port::{MemFiles, MemSink};
-use sq_tree::RawBank;
+use sq_small::RawBank;
 use std::test::Fail;
 
 const PROGRAM: &[u8] =

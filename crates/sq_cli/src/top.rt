@@ -13,7 +13,7 @@ use crate::status::Status;
 use crate::words::{Command, parse};
 use crate::world::{Perform, World};
 use sq_port::{Failed, Files, Sink};
-use sq_tree::Bank;
+use sq_small::Bank;
 use std::alloc::Global;
 
 /// Does what the words say.

@@ -6,7 +6,7 @@ ghost use Rattle.sq_cli.specs.Outcome.{Ended};
 
 use crate::end::End;
 use sq_port::{Files, Sink};
-use sq_tree::Bank;
+use sq_small::Bank;
 use std::alloc::Global;
 
 /// The files, standard output, standard error and the bank.

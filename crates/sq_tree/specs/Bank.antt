@@ -1,23 +1,17 @@
 -- What a bank holds and has performed, and what its calls do to that.
-use Rattle.std.specs.Prelude.{◌≡◌, ◌⊎◌, ℕ, zero, suc, ◌+◌, ◌-◌, ◌*◌, ◌^◌, ◌<◌, ◌≤◌, min, List, [], ◌∷◌, ◌++◌, Option, Some, length, replicate, ℤ}
-use Rattle.sq_num.specs.declared.Elem.{Elem}
-use Rattle.sq_num.specs.declared.Elem.TheVariants.{Int}
-use Rattle.sq_tree.specs.declared.plan.Plan.{Plan}
-use Rattle.sq_tree.specs.declared.plan.Spot.{Spot}
-use Rattle.sq_tree.specs.declared.plan.SmallEvent.{SmallEvent}
-use Rattle.sq_tree.specs.declared.plan.SmallEvent.TheVariants.{Fill, Leaf}
-use Rattle.sq_tree.specs.Source.{outputs}
-use Rattle.sq_tree.specs.Bytes.{put_at, array_at, array_bytes}
-
--- how many events of each kind were performed
-pub record Counts : Type 0 where
-  pub fills : ℕ
-  pub leaves : ℕ
-
--- the bytes that an edge between two levels carried, down and up
-pub record Carried : Type 0 where
-  pub down : ℕ
-  pub up : ℕ
+use Rattle.std.specs.Prelude.{◌≡◌, ℕ, ◌+◌, true, List, [], ◌∷◌, ◌++◌, Option, Some, length, map, replicate, get_or}
+use Rattle.std.specs.Prelude.{take, drop}
+use Rattle.sq_leaf.specs.declared.trap.Trap.{Trap}
+use Rattle.sq_ir.specs.Runs as runs
+use Rattle.sq_ir.specs.Footprints.{is_kept}
+use Rattle.sq_ir.specs.Events.{Bytes, Spot, Event, Leaves, footprint, after_event, trap_event}
+use Rattle.sq_ir.specs.Plans.{MayBePerformed}
+use Rattle.sq_ir.specs.DraftLeaves.{leaves_of}
+use Rattle.sq_ir.specs.Traffic.{no_counts, counted, nothing_carried, carried, level_in, deepest, more_by}
+use Rattle.sq_ir.specs.declared.plan.PlanNode.{PlanNode}
+use Rattle.sq_ir.specs.declared.traffic.EventCounts.{EventCounts}
+use Rattle.sq_ir.specs.declared.traffic.Carried.{Carried}
+use Rattle.sq_ir.specs.declared.plan.Plan.{Plan}
 
 -- how often it was opened, its plan once it is open, the bytes of each node from the root on, the events performed,
 -- where they are told, how many there were of each kind, and what each edge carried, from the root's on
@@ -25,83 +19,91 @@ pub record BankSeen : Type 0 where
   pub openings : ℕ
   pub plan : Option Plan
   pub nodes : List (List ℕ)
-  pub events : Option (List SmallEvent)
-  pub counts : Counts
+  pub events : Option (List Event)
+  pub counts : EventCounts
   pub edges : List Carried
 
--- the bytes of a node
-abbrev pub node_at : ℕ → List (List ℕ) → List ℕ
-node_at node [] = []
-node_at zero (bytes ∷ rest) = bytes
-node_at (suc node) (bytes ∷ rest) = node_at node rest
+-- ---- nodes
 
--- the same nodes with these bytes in one of them
-abbrev pub put_node : ℕ → ℕ → List ℕ → List (List ℕ) → List (List ℕ)
-put_node node at piece [] = []
-put_node zero at piece (bytes ∷ rest) = put_at at piece bytes ∷ rest
-put_node (suc node) at piece (bytes ∷ rest) = bytes ∷ put_node node at piece rest
+abbrev pub bytes_at : List (List ℕ) → (node : ℕ) → List ℕ
+bytes_at nodes n = get_or nodes n []
 
--- a range of bytes of a node
-pub record IsInside (seen : BankSeen) (node at size : ℕ) : Type 0 where
-  pub there : node < length seen.nodes
-  pub range : at + size ≤ length (node_at node seen.nodes)
+-- lists of bytes as the bytes of all nodes; behind the end of a node there are zeros
+abbrev pub bytes_in : List (List ℕ) → Bytes
+bytes_in nodes a = get_or (bytes_at nodes a.node) a.at 0
 
--- a count stops at the last value of a u64
-abbrev pub one_more : ℕ → ℕ
-one_more n = min (n + 1) (2 ^ 64 - 1)
+abbrev pub size_in : List (List ℕ) → (node : ℕ) → ℕ
+size_in nodes n = length (bytes_at nodes n)
 
-abbrev pub counted : SmallEvent → Counts → Counts
-counted (Fill to elem count value) counts = record { fills = one_more counts.fills; leaves = counts.leaves }
-counted Leaf counts = record { fills = counts.fills; leaves = one_more counts.leaves }
+-- ---- plans
 
--- opened once more, with this plan: its capacity in zero bytes, and nothing performed
-pub record IsOpened (opened : Plan) (old now : BankSeen) : Type 0 where
-  pub openings : now.openings ≡ one_more old.openings
-  pub plan : now.plan ≡ Some opened
-  pub nodes : now.nodes ≡ replicate opened.capacity 0 ∷ []
-  pub events : (performed : List SmallEvent) → now.events ≡ Some performed → performed ≡ []
-  pub counts : now.counts ≡ record { fills = 0; leaves = 0 }
-  pub edges : now.edges ≡ []
+abbrev pub leaves_in : Plan → Leaves Trap
+leaves_in p = leaves_of p.draft
 
--- an event was performed: the last of the list where the list is told, and it was told before; the nodes are then these
-pub record Performs (event : SmallEvent) (left : List (List ℕ)) (old now : BankSeen) : Type 0 where
-  pub openings : now.openings ≡ old.openings
-  pub plan : now.plan ≡ old.plan
-  pub nodes : now.nodes ≡ left
-  pub events : (performed : List SmallEvent) → now.events ≡ Some performed → (before : List SmallEvent) × (old.events ≡ Some before) × (performed ≡ before ++ event ∷ [])
-  pub counts : now.counts ≡ counted event old.counts
-  pub edges : now.edges ≡ old.edges
+abbrev pub capacities : Plan → List ℕ
+capacities p = map (λ n. n.capacity) p.nodes
 
--- a row of equal elements
-abbrev pub FillsRow : Spot → Elem → ℕ → ℤ → BankSeen → BankSeen → Type 0
-FillsRow to elem count value old now = Performs (Fill to elem count value) (put_node to.node to.at (array_bytes elem count (λ k. value)) old.nodes) old now
+-- a memory of zeros for each node
+abbrev pub zeros : List PlanNode → List (List ℕ)
+zeros nodes = map (λ n. replicate n.capacity 0) nodes
 
--- the two arrays of a plan lie below its capacity and share no byte
-pub record IsPlaced (plan : Plan) : Type 0 where
-  pub input : plan.input_at + 4 * plan.n ≤ plan.capacity
-  pub output : plan.output_at + 4 * plan.n ≤ plan.capacity
-  pub apart : (plan.input_at + 4 * plan.n ≤ plan.output_at) ⊎ (plan.output_at + 4 * plan.n ≤ plan.input_at)
+-- the bank is open with this plan, and each node has its capacity
+pub record IsPrepared (p : Plan) (seen : BankSeen) : Type 0 where
+  pub plan : seen.plan ≡ Some p
+  pub sizes : map length seen.nodes ≡ capacities p
 
--- open, with a plan whose arrays have their place
-pub record IsReady (seen : BankSeen) : Type 0 where
+-- ---- calls
+
+-- opened once more, with this plan: each node has its capacity in zero bytes, and nothing was performed
+pub record IsOpened (p : Plan) (old now : BankSeen) : Type 0 where
+  pub openings : now.openings ≡ more_by old.openings 1
+  pub plan : now.plan ≡ Some p
+  pub nodes : now.nodes ≡ zeros p.nodes
+  pub events : (told : List Event) → now.events ≡ Some told → told ≡ []
+  pub counts : now.counts ≡ no_counts
+  pub edges : now.edges ≡ replicate (deepest p.nodes) nothing_carried
+
+-- the bank is open, and what its plan asks of this event holds in its nodes
+pub record IsAsked (e : Event) (seen : BankSeen) : Type 0 where
   pub plan : Plan
   pub is : seen.plan ≡ Some plan
-  pub placed : IsPlaced plan
-  pub open_nodes : 0 < length seen.nodes
-  pub size : length (node_at 0 seen.nodes) ≡ plan.capacity
+  pub may : MayBePerformed (leaves_in plan) (size_in seen.nodes) e
 
--- the nodes after the leaf: the `out` array becomes what the program means, by the `in` array
-abbrev pub leaf_put : Plan → List (List ℕ) → List (List ℕ)
-leaf_put plan nodes = put_node 0 plan.output_at (array_bytes Int plan.n (outputs plan.task.minus (array_at Int (node_at 0 nodes) plan.input_at))) nodes
+-- An event of the plan p was performed. The bytes are what the event leaves, but for those that a leaf that trapped may
+-- spoil; sizes stay. The event is the last of the list where the list is told, and it was told before.
+pub record HasDone (p : Plan) (e : Event) (old now : BankSeen) : Type 0 where
+  pub openings : now.openings ≡ old.openings
+  pub plan : now.plan ≡ old.plan
+  pub sizes : map length now.nodes ≡ map length old.nodes
+  pub bytes : (a : Spot)
+      → is_kept (footprint (leaves_in p)) e (trap_event (leaves_in p) e (bytes_in old.nodes)) a ≡ true
+      → bytes_in now.nodes a ≡ after_event (leaves_in p) e (bytes_in old.nodes) a
+  pub events : (told : List Event) → now.events ≡ Some told → (before : List Event) × (old.events ≡ Some before)
+      × (told ≡ before ++ e ∷ [])
+  pub counts : now.counts ≡ counted e old.counts
+  pub edges : now.edges ≡ carried (level_in p.nodes) e old.edges
 
-pub record RunsLeaf (old now : BankSeen) : Type 0 where
-  pub runs : (plan : Plan) → old.plan ≡ Some plan → Performs Leaf (leaf_put plan old.nodes) old now
+pub record Performs (e : Event) (old now : BankSeen) : Type 0 where
+  pub done : (p : Plan) → old.plan ≡ Some p → HasDone p e old now
+
+-- the trap of an event, as its plan says
+pub record TrapsAs (e : Event) (old : BankSeen) (trap : Option (runs.Trap Trap)) : Type 0 where
+  pub said : (p : Plan) → old.plan ≡ Some p → trap ≡ trap_event (leaves_in p) e (bytes_in old.nodes)
+
+-- these bytes from that place on, and all others as they were
+abbrev pub put_at : ℕ → List ℕ → List ℕ → List ℕ
+put_at at piece bytes = take at bytes ++ (piece ++ drop (at + length piece) bytes)
+
+-- the first of these nodes is another one
+abbrev pub put_first : (List ℕ → List ℕ) → List (List ℕ) → List (List ℕ)
+put_first f [] = []
+put_first f (bytes ∷ rest) = f bytes ∷ rest
 
 -- some bytes of the root are others, and nothing was performed
 pub record PutsRoot (at : ℕ) (from : List ℕ) (old now : BankSeen) : Type 0 where
   pub openings : now.openings ≡ old.openings
   pub plan : now.plan ≡ old.plan
-  pub nodes : now.nodes ≡ put_node 0 at from old.nodes
+  pub nodes : now.nodes ≡ put_first (put_at at from) old.nodes
   pub events : now.events ≡ old.events
   pub counts : now.counts ≡ old.counts
   pub edges : now.edges ≡ old.edges

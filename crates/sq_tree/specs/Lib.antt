@@ -1,5 +1,11 @@
 pub mod Bank
-pub mod Bytes
+pub mod Runs
+pub mod Trace
+pub mod Routes
 pub mod Raw
-pub mod Run
-pub mod Source
+pub mod Calls
+pub mod Edges
+pub mod Log
+pub mod UnderOrders
+pub mod Totals
+pub mod Prepared

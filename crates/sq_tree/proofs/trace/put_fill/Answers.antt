@@ -1,0 +1,7 @@
+use Rattle.sq_tree.proofs.Endings.{begins}
+use Rattle.sq_tree.proofs.trace.put_fill.Goals as goal
+
+pub returns-clause-wrote : goal.returns-clause-wrote
+returns-clause-wrote g c =
+    c.put.ensures.wrote _ _ _ (c.add-3.ensures.gathers _ _ _ (c.add_number.ensures.gathers _ _ _
+    (c.add-2.ensures.gathers _ _ _ (c.add_spot.ensures.gathers _ _ _ (c.add.ensures.gathers _ _ _ (begins _ _ _ c.requires))))))

@@ -1,0 +1,163 @@
+//! The run of a plan on a bank, in the order that is asked.
+ghost use Rattle.std.specs.Prelude.{◌≡◌, ◌<◌, None, Some, Ok, true, false, []};
+ghost use Rattle.sq_port.specs.Ports.{Wrote};
+ghost use Rattle.sq_port.specs.Lines.{nothing_gathered};
+ghost use Rattle.sq_tree.specs.Trace.{event_line};
+ghost use Rattle.sq_ir.specs.Tree.{ready};
+ghost use Rattle.sq_ir.specs.Plans.{tree_of, IsGood};
+ghost use Rattle.sq_ir.specs.Runs as runs;
+ghost use Rattle.sq_sched.specs.Seen.{seen};
+ghost use Rattle.sq_sched.specs.Rests.{trap_of, MayEnd};
+ghost use Rattle.sq_tree.specs.Bank.{IsPrepared, IsAsked, Performs, TrapsAs, bytes_in, leaves_in};
+ghost use Rattle.sq_tree.specs.Runs.{answer_of, HasRun, HasTrace, TellsFirst, KeepsRoom, is_stopped};
+ghost use Rattle.sq_tree.specs.Runs.{IsStep, MayPerform, AreSmall};
+
+use crate::bank::Bank;
+use crate::trace::put_line;
+use sq_ir::Plan;
+use sq_leaf::Trap;
+use sq_port::{Failed, Line, Order, Sink};
+use sq_rect::Path;
+use sq_sched::{Control, Ended, Event, Outcome};
+
+/// How a run ends that is not done.
+#[derive(Drop)]
+pub enum RunEnd {
+    /// Leaf calls trapped; this is the trap with the least path.
+    Trapped { trap: Trap, path: Path },
+    /// A put to the trace failed.
+    SinkFault,
+}
+
+// Performs an event on a bank.
+fn perform<B: Bank>(bank: &mut B, event: &Event) -> Outcome<Trap>
+    requires asked { IsAsked (seen event.now) (B.seen bank.old) }
+    requires small { AreSmall (B.seen bank.old) }
+    ensures performs { Performs (seen event.now) (B.seen bank.old) (B.seen bank.new) }
+    ensures traps { TrapsAs (seen event.now) (B.seen bank.old) (trap_of (Some (seen event.now)) result) }
+    ensures may { MayEnd (Some (seen event.now)) result }
+{
+    match event {
+        Event::Copy { from, to, bytes } => {
+            bank.copy_row(*from, *to, *bytes);
+            Outcome::Finished
+        }
+        Event::Fill {
+            to,
+            elem,
+            count,
+            value,
+        } => {
+            let value = *value;
+            bank.fill_row(*to, *elem, *count, value);
+            Outcome::Finished
+        }
+        Event::Acc {
+            op,
+            elem,
+            from,
+            to,
+            count,
+        } => {
+            bank.acc_row(*op, *elem, *from, *to, *count);
+            Outcome::Finished
+        }
+        Event::Leaf {
+            node,
+            code,
+            views,
+            path,
+        } => match bank.leaf(*node, *code, views, path) {
+            Ok(()) => Outcome::Finished,
+            Err(trap) => Outcome::Trapped(trap),
+        },
+    }
+}
+
+// Performs one of the ready events, of which there are some.
+fn step<B: Bank, O: Order>(
+    bank: &mut B,
+    ctl: &mut Control<Trap>,
+    order: &mut O,
+    count: u64,
+) -> Event
+    requires some { (count ≡ ready ctl.old.left) × (0 < count) }
+    requires may { MayPerform ctl.old (B.seen bank.old) }
+    ensures { IsStep O.answer O.next (O.held order.old) (O.held order.new) (B.seen bank.old) (B.seen bank.new) ctl.old
+        ctl.new (seen result) }
+{
+    let k = order.pick(count) % count;
+    let event = ctl.event(k);
+    let outcome = perform(bank, &event);
+    ctl.done(k, outcome);
+    event
+}
+
+// Puts the line of an event, where a trace is asked for.
+fn put_traced<S: Sink>(
+    traced: bool,
+    line: &mut Line,
+    trace: &mut S,
+    plan: &Plan,
+    event: &Event,
+) -> Result<(), Failed>
+    requires { line.old ≡ nothing_gathered }
+    ensures asked { traced ≡ true → Wrote (S.written trace.old) (S.written trace.new) (S.faults trace.old)
+        (S.faults trace.new) (event_line plan.now (seen event.now)) result }
+    ensures unasked { traced ≡ false → (trace.new ≡ trace.old) × (result ≡ Ok tt) }
+    ensures empty { line.new ≡ record { held = []; put = result } }
+{
+    if traced {
+        put_line(line, trace, plan, event)
+    } else {
+        Ok(())
+    }
+}
+
+// The answer of a run that has ended.
+fn answer(ended: Option<Ended<Trap>>) -> Result<(), RunEnd>
+    ensures { result ≡ answer_of ended }
+{
+    match ended {
+        None => Ok(()),
+        Some(Ended { trap, path }) => Err(RunEnd::Trapped { trap, path }),
+    }
+}
+
+/// Runs a plan on a bank. Each turn asks the order once, takes its answer modulo the number of ready events, performs
+/// that event and then, where it is asked for, puts its line to the trace. It takes no memory. Whatever the order
+/// answers, the run ends as the run under picks 0: with its trap, or with none and then with its bytes.
+pub fn run<B: Bank, O: Order, S: Sink>(
+    bank: &mut B,
+    ctl: &mut Control<Trap>,
+    order: &mut O,
+    traced: bool,
+    trace: &mut S,
+) -> Result<(), RunEnd>
+    requires good { IsGood (leaves_in ctl.old.plan) ctl.old.plan }
+    requires begun { (ctl.old.left ≡ tree_of ctl.old.plan) × (ctl.old.ended ≡ None) }
+    requires prepared { IsPrepared ctl.old.plan (B.seen bank.old) }
+    ensures ran { HasRun O.answer O.next (O.held order.old) (O.held order.new) ctl.old.plan
+        (B.seen bank.old) (B.seen bank.new) ctl.new
+        (λ events. traced ≡ true → HasTrace ctl.old.plan (S.written trace.old) (S.written trace.new)
+        (S.faults trace.old) (S.faults trace.new) (is_stopped result) events) }
+    ensures over { is_stopped result ≡ false → ready ctl.new.left ≡ 0 }
+    ensures tells { TellsFirst ctl.old.plan (bytes_in (B.seen bank.old).nodes)
+        (bytes_in (B.seen bank.new).nodes) result }
+    ensures room { KeepsRoom ctl.old.plan (bytes_in (B.seen bank.old).nodes) }
+    ensures untraced { traced ≡ false → (trace.new ≡ trace.old) × (is_stopped result ≡ false) }
+    ensures plan { ctl.new.plan ≡ ctl.old.plan }
+{
+    let mut line = Line::new();
+    loop {
+        let ready = ctl.ready();
+        if ready == 0 {
+            return answer(ctl.ended());
+        }
+        let event = step(bank, ctl, order, ready);
+        match put_traced(traced, &mut line, trace, ctl.plan(), &event) {
+            Ok(()) => {}
+            Err(_) => return Err(RunEnd::SinkFault),
+        }
+    }
+}
