@@ -6,8 +6,8 @@ use crate::tree::read_tree;
 use crate::words::Check;
 use crate::world::{Perform, World};
 use sq_port::{Failed, Files, Sink, put_all};
-use sq_text::Stop;
 use sq_small::Bank;
+use sq_text::Stop;
 use std::alloc::Global;
 
 impl<'a> Perform<'a> for Check<'a> {

@@ -16,8 +16,8 @@ use sq_arrays::{ArrayTarget, ArraysEnd, InputCode, InputEnd, Want, read_arrays};
 use sq_num::Elem;
 use sq_port::Files;
 use sq_rect::Dims;
-use sq_text::{Args, Code, Fault, Phase};
 use sq_small::{Bank, Plan};
+use sq_text::{Args, Code, Fault, Phase};
 
 /// Puts the numbers of the data into the `in` array. It takes no memory: `args` are those of a fault.
 pub fn fill_input<'a, F: Files, B: Bank>(

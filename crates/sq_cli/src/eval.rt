@@ -31,10 +31,10 @@ use sq_mapfile::Mapping;
 use sq_port::{Files, Sink};
 use sq_race::first_race;
 use sq_race::laws::without_a_race;
+use sq_small::Bank;
 use sq_spec::laws::entry_is_first;
 use sq_spec::{Resolved, resolve};
 use sq_text::Stop;
-use sq_small::Bank;
 use sq_types::{Typed, check};
 use std::alloc::Global;
 

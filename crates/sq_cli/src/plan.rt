@@ -11,8 +11,8 @@ use crate::phases::{read_machine, read_mapping, read_program};
 use crate::words::Run;
 use sq_parser::{SmallMachine, SmallTask};
 use sq_port::Files;
-use sq_text::{Arg, Args, Code, Fault, Name, Phase};
 use sq_small::Plan;
+use sq_text::{Arg, Args, Code, Fault, Name, Phase};
 use std::alloc::{AllocError, Global};
 use std::rc::Rc;
 

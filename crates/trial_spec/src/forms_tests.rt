@@ -1,10 +1,10 @@
 //! Forms and their accesses, and the faults of the walk, over texts.
 
 use sq_ast::Mode;
+use sq_forms::{Caller, Form, Use};
 use sq_machfile::{Machine, read_machine};
 use sq_mapfile::read_mapping;
 use sq_source::read_program;
-use sq_forms::{Caller, Form, Use};
 use sq_spec::resolve;
 use sq_text::{Arg, Code, Fault, Phase, Place, Span, Stop};
 use std::alloc::{AllocError, Global};

@@ -1,12 +1,12 @@
 //! First races of some hundreds of small programs, against a comparison of all pairs of accesses.
 
 use sq_ast::Mode;
+use sq_forms::Use;
 use sq_machfile::read_machine;
 use sq_mapfile::read_mapping;
 use sq_race::{Race, first_race};
 use sq_rect::Rect;
 use sq_source::read_program;
-use sq_forms::Use;
 use sq_spec::resolve;
 use sq_text::{Place, Span};
 use std::alloc::{AllocError, Global};
