@@ -18,7 +18,8 @@ use Rattle.sq_mapfile.proofs.Once.{itself}
 use Rattle.sq_types.specs.declared.kind.Kind.{Kind}
 use Rattle.sq_types.specs.declared.kind.Kind.TheVariants as kind
 use Rattle.sq_types.specs.Known.{Known, kind_of, with_name}
-use Rattle.sq_types.specs.Table.{is_block_of, is_written, most_arrays, array_type, dims_of as dims_of_type}
+use Rattle.sq_ast.specs.Modes.{is_written}
+use Rattle.sq_types.specs.Table.{is_block_of, most_arrays, array_type, dims_of as dims_of_type}
 use Rattle.sq_types.specs.Sites.{extents_known, with_param, param_known, params_known, local_known, rchop_known, ichop_known, decl_known, decls_known, arrays_after}
 use Rattle.sq_types.specs.Sound as typed
 use Rattle.sq_blocks.specs.Names.{Numbers, Lists, list_of, with_number, with_list}

@@ -19,7 +19,8 @@ use Rattle.sq_types.specs.declared.kind.ArrayType.{ArrayType}
 use Rattle.sq_types.specs.declared.kind.Kind.{Kind}
 use Rattle.sq_types.specs.declared.kind.Kind.TheVariants as kind
 use Rattle.sq_types.specs.Known.{Known, kind_of, with_name}
-use Rattle.sq_types.specs.Table.{is_array, is_written, most_arrays, array_type, dims_of as dims_of_type}
+use Rattle.sq_ast.specs.Modes.{is_written}
+use Rattle.sq_types.specs.Table.{is_array, most_arrays, array_type, dims_of as dims_of_type}
 use Rattle.sq_types.specs.Sites.{extents_known, with_param, param_known, params_known, param_at as first_at, local_known, rchop_known, ichop_known, decl_known, decls_known, arrays_after, ranges_known, with_variable}
 use Rattle.sq_types.specs.Sound as typed
 use Rattle.sq_ast.specs.declared.stmt.Range.{Range}

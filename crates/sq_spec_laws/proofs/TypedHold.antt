@@ -33,7 +33,7 @@ use Rattle.sq_types.specs.declared.kind.ArrayType.{ArrayType}
 use Rattle.sq_types.specs.declared.kind.Kind.{Kind}
 use Rattle.sq_types.specs.declared.kind.Kind.TheVariants as kind
 use Rattle.sq_types.specs.Known.{Known, kind_of}
-use Rattle.sq_types.specs.Table.{count_of, is_argument, indices_of, array_of, array_type, same_mode, same_elem, is_written as is_written_mode, most_arrays}
+use Rattle.sq_types.specs.Table.{count_of, is_argument, indices_of, array_of, array_type, same_mode, same_elem, most_arrays}
 use Rattle.sq_types.specs.Sites.{params_of as params_of_task, param_at as first_at, params_known, param_known, with_param, decls_known, ranges_known}
 use Rattle.sq_types.specs.Sound as typed
 use Rattle.sq_types.proofs.SoundStmts.{tested_call, tested_map}
@@ -315,11 +315,6 @@ same_modes Both Input h = absurd (cc h)
 same_modes Both Output h = absurd (cc h)
 same_modes Both Both h = refl
 
-written_same : (m : Mode) → is_written m ≡ is_written_mode m
-written_same Input = refl
-written_same Output = refl
-written_same Both = refl
-
 pub as_first : (first : Option (List Param)) (i : ℕ) (ps : List Param) (known : Known) → typed.are_sound_params first i ps known ≡ true
     → (j : ℕ) (p : Param) → slice_get ps j ≡ Some p → typed.is_as_first (first_at first (i + j)) p ≡ true
 as_first first i [] known h j p g = absurd (cc g)
@@ -432,8 +427,8 @@ module _ (program : Program) (levels : List Level) (mapping : Mapping) (faultles
       let t = q.made.of.0 in
       let suit : typed.suits lead.param t ≡ true =
       sym (λ i. typed.both_suit ((sym (ap (first_at first) z) ∙ lead.is) i) (q.made.of.1 i)) ∙ q.suits in
-      let u = both (length lead.param.extents == t.dims) (same_elem lead.param.elem t.elem && (t.is_writable || not (is_written_mode lead.param.mode))) suit in
-      let w = both (same_elem lead.param.elem t.elem) (t.is_writable || not (is_written_mode lead.param.mode)) u.1 in
+      let u = both (length lead.param.extents == t.dims) (same_elem lead.param.elem t.elem && (t.is_writable || not (is_written lead.param.mode))) suit in
+      let w = both (same_elem lead.param.elem t.elem) (t.is_writable || not (is_written lead.param.mode)) u.1 in
       let mode : a.mode ≡ own.0.mode = q.made.mode ∙ ap mode_of (sym (ap (slice_get params) z) ∙ own.1) in
       record {
         param = own.0;
@@ -443,8 +438,8 @@ module _ (program : Program) (levels : List Level) (mapping : Mapping) (faultles
         of = q.made.of.2;
         elem = sym (same_elems lead.param.elem t.elem w.0) ∙ same_elems lead.param.elem own.0.elem m.1;
         writes = λ e.
-            permitted_by t.is_writable (is_written_mode lead.param.mode) w.1
-            (ap is_written_mode (same_modes lead.param.mode own.0.mode m.0) ∙ (sym (written_same own.0.mode) ∙ (sym (ap is_written mode) ∙ e)));
+            permitted_by t.is_writable (is_written lead.param.mode) w.1
+            (ap is_written (same_modes lead.param.mode own.0.mode m.0) ∙ (sym (ap is_written mode) ∙ e));
       }
 
   reached_typed : (r : Resolving) (k : ℕ) (f : Found) (x : Instance) (v : Variant) (begun : Scope) → slice_get mapping.instances f.instance ≡ Some x
