@@ -338,7 +338,7 @@ elems_are params locals =
 
 param_writes_are : (params : List Param) → map (λ (q : Sort). q.1) (map param_sort params) ≡ param_writes params
 param_writes_are [] = refl
-param_writes_are (p ∷ params) = (λ i. sym (written_same p.mode) i ∷ param_writes_are params i)
+param_writes_are (p ∷ params) = (λ i. is_written p.mode ∷ param_writes_are params i)
 
 writes_are : (params : List Param) (locals : List LocalArray) → map (λ (q : Sort). q.1) (all_sorts (map param_sort params) locals) ≡ param_writes params ++ local_writes locals
 writes_are params locals =
