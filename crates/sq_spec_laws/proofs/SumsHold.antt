@@ -517,10 +517,10 @@ module _ (base known : Known) (wider : (n : Bytes) (k : Kind) → kind_of base n
 
 -- an argument with the use that it stands for
 record UseAt (names : Names) (numbers : Numbers) (name : Bytes) (args : List ArgUse) (j : ℕ) (x : Argument) : Type 0 where
-  use : ArgUse
-  there : slice_get args j ≡ Some use
+  given : ArgUse
+  there : slice_get args j ≡ Some given
   param : Option Param
-  is : argument names numbers (Some name) param use ≡ Ok x
+  is : argument names numbers (Some name) param given ≡ Ok x
 
 use_at : (names : Names) (numbers : Numbers) (name : Bytes) (params : List Param) (i : ℕ) (args : List ArgUse) (xs : List Argument)
     → AreExamined names numbers (Some name) params i args xs → (j : ℕ) (x : Argument) → slice_get xs j ≡ Some x → UseAt names numbers name args j x
@@ -528,9 +528,9 @@ use_at names numbers name params i [] [] h j x g = absurd (cc g)
 use_at names numbers name params i [] (y ∷ xs) h j x g = absurd h
 use_at names numbers name params i (a ∷ rest) [] h j x g = absurd h
 use_at names numbers name params i (a ∷ rest) (y ∷ xs) h zero x g =
-    let is : y ≡ x = cc g in record { use = a; there = refl; param = slice_get params i; is = h.0 ∙ ap Ok is }
+    let is : y ≡ x = cc g in record { given = a; there = refl; param = slice_get params i; is = h.0 ∙ ap Ok is }
 use_at names numbers name params i (a ∷ rest) (y ∷ xs) h (suc j) x g =
-    let r = use_at names numbers name params (i + 1) rest xs h.1 j x g in record { use = r.use; there = r.there; param = r.param; is = r.is }
+    let r = use_at names numbers name params (i + 1) rest xs h.1 j x g in record { given = r.given; there = r.there; param = r.param; is = r.is }
 
 pub sums_are_alone : SumsAreAlone
 sums_are_alone program levels mapping formed faultless sound x v runs list body i name c at extents begun scope binds decls numbers params xs examined j a g flag array there same_ =
@@ -539,8 +539,8 @@ sums_are_alone program levels mapping formed faultless sound x v runs list body 
     let base = decls_known v.decls (params_known v.params []) in
     let named = scope_names v.params extents begun scope x.tunings v.decls (length v.params) parts.decls_ binds decls in
     let used = use_at scope.names numbers name params 0 c.args xs examined j a g in
-    let made = flag_made (Some name) used.param used.use a (block scope.names numbers used.use) used.is in
-    let b = array_made (Some name) used.param used.use a (block scope.names numbers used.use) used.is in
-    let far : same_name (out-ArgUse used.use).name name ≡ false = not_flagged name (out-ArgUse used.use).name (sym made.0 ∙ flag) in
-    let other = others_from name its.judged.known (params_of_task program.tasks c.task) 0 c.args its.once its.whole j used.use used.there far in
-    block_apart base its.judged.known its.judged.wider scope.names scope.arrays numbers name named array there used.use b.0 (out-ArgUse used.use).index b.1 far other (b.2 ∙ same_)
+    let made = flag_made (Some name) used.param used.given a (block scope.names numbers used.given) used.is in
+    let b = array_made (Some name) used.param used.given a (block scope.names numbers used.given) used.is in
+    let far : same_name (out-ArgUse used.given).name name ≡ false = not_flagged name (out-ArgUse used.given).name (sym made.0 ∙ flag) in
+    let other = others_from name its.judged.known (params_of_task program.tasks c.task) 0 c.args its.once its.whole j used.given used.there far in
+    block_apart base its.judged.known its.judged.wider scope.names scope.arrays numbers name named array there used.given b.0 (out-ArgUse used.given).index b.1 far other (b.2 ∙ same_)
