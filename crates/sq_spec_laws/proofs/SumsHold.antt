@@ -437,29 +437,32 @@ module _ (name : Bytes) (known : Known) (first : Option (List Param)) where
     where
       behind : (b : Bool) (m : ℕ) → (if b then 1 else 0) + m ≡ 0 → m ≡ 0
       behind true m e = absurd (omega (arith, e))
-      behind false m e = e
+      behind false m e = omega (arith, e)
 
   others_from : (i : ℕ) (args : List ArgUse) → uses_of known name args ≡ 1 → has_whole name first i args ≡ true → (j : ℕ) (u : ArgUse)
       → slice_get args j ≡ Some u → IsOther u
   others_from i [] h w j u g = absurd (cc g)
   others_from i (a ∷ rest) h w j u g =
-      by (same_name (out-ArgUse a).name name) (is_block_of name (kind_of known (out-ArgUse a).name)) (length (out-ArgUse a).index == 0) (keeps_both first i) refl refl h w j g
+      by (same_name (out-ArgUse a).name name) (is_block_of name (kind_of known (out-ArgUse a).name)) (length (out-ArgUse a).index == 0) (keeps_both first i)
+      (λ one_more all k at. others_from (i + 1) rest one_more all k u at) refl refl h w j g
     where
       some : 0 < uses_of known name rest → uses_of known name rest ≡ 0 → ⊥
       some less none = absurd (omega (arith, less, none))
 
-      by : (n c z k : Bool) → same_name (out-ArgUse a).name name ≡ n → is_block_of name (kind_of known (out-ArgUse a).name) ≡ c
+      by : (n c z k : Bool)
+          → (uses_of known name rest ≡ 1 → has_whole name first (i + 1) rest ≡ true → (j : ℕ) → slice_get rest j ≡ Some u → IsOther u)
+          → same_name (out-ArgUse a).name name ≡ n → is_block_of name (kind_of known (out-ArgUse a).name) ≡ c
           → (if n || c then 1 else 0) + uses_of known name rest ≡ 1 → ((n && z && k) || has_whole name first (i + 1) rest) ≡ true
           → (j : ℕ) → slice_get (a ∷ rest) j ≡ Some u → IsOther u
-      by true c z k e f h w zero g far =
+      by true c z k more e f h w zero g far =
           let is : a ≡ u = cc g in
           absurd (cc (sym e ∙ (ap (λ (v : ArgUse). same_name (out-ArgUse v).name name) is ∙ far)))
-      by true c z k e f h w (suc j) g far = let none : uses_of known name rest ≡ 0 = omega (arith, h) in unused rest none j u g
-      by false true z k e f h w j g far =
+      by true c z k more e f h w (suc j) g far = let none : uses_of known name rest ≡ 0 = omega (arith, h) in unused rest none j u g
+      by false true z k more e f h w j g far =
           let none : uses_of known name rest ≡ 0 = omega (arith, h) in
           absurd (some (some_use (record { lists = []; arrays = []; blocks = [] }) [] name known first [] (i + 1) rest w) none)
-      by false false z k e f h w zero g far = let is : a ≡ u = cc g in ap (λ (v : ArgUse). is_block_of name (kind_of known (out-ArgUse v).name)) (sym is) ∙ f
-      by false false z k e f h w (suc j) g far = others_from (i + 1) rest h w j u g far
+      by false false z k more e f h w zero g far = let is : a ≡ u = cc g in ap (λ (v : ArgUse). is_block_of name (kind_of known (out-ArgUse v).name)) (sym is) ∙ f
+      by false false z k more e f h w (suc j) g far = more (omega (arith, h)) w j g far
 
 array_made : (reduced : Option Bytes) (param : Option Param) (a : ArgUse) (x : Argument) (v : Value Block)
     → and_then v (λ b. argument_okay (record { mode = mode_of param; is_reduced = is_reduced reduced a; array = b.array; rect = b.rect })) ≡ Ok x

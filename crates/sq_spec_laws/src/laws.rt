@@ -67,7 +67,6 @@ pub fn reductions_have_one_call()
 {}
 
 /// The work of a form doesn't change where more forms may be called within one another than there are behind it.
-#[tactic(auto, using(crate::proofs::FuelHold::forms_behind_are_enough))]
 pub fn forms_behind_are_enough()
     ensures { FormsBehindAreEnough }
 {}
