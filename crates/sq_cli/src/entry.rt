@@ -5,7 +5,7 @@ ghost use Rattle.sq_rect.specs.Extents.{product};
 ghost use Rattle.sq_arrays.specs.Arrays.{wanted};
 ghost use Rattle.sq_arrays.specs.Targets.{HasRoom, name_at};
 ghost use Rattle.sq_port.specs.Ports.{Wrote};
-ghost use Rattle.sq_work.specs.Meaning as meaning;
+ghost use Rattle.sq_ast.specs.Modes as modes;
 ghost use Rattle.sq_forms.specs.Resolving.{entry_extents};
 ghost use Rattle.sq_spec.specs.Works.{param_shapes};
 ghost use Rattle.sq_flat.specs.Held.{AreWhole, entry_shapes, extents_in};
@@ -31,12 +31,9 @@ use sq_text::{Arg, Args, Fault, Phase};
 use std::alloc::{AllocError, Global};
 
 fn is_read(mode: Mode) -> bool
-    ensures { result ≡ meaning.is_read mode }
+    ensures { result ≡ modes.is_read mode }
 {
-    match mode {
-        Mode::Input | Mode::Both => true,
-        Mode::Output => false,
-    }
+    mode.is_read()
 }
 
 // The extents of the entry's parameters.
@@ -80,7 +77,7 @@ fn wants_in<'p>(
     extents: &[Dims],
 ) -> Result<Vec<Want<'p>>, AllocError>
     requires { length extents.now ≡ length params.now }
-    ensures { IfOk result (λ wants. map wanted wants.items ≡ wants_of meaning.is_read params.now 0 extents.now) }
+    ensures { IfOk result (λ wants. map wanted wants.items ≡ wants_of modes.is_read params.now 0 extents.now) }
 {
     let mut wants = Vec::new(alloc);
     for (i, param) in params.iter().enumerate() {
