@@ -1,5 +1,5 @@
 -- The work of a form is that of its tables, and these name forms behind it alone.
-use Rattle.std.proofs.Common.{◌≡◌, ℕ, zero, suc, ◌+◌, ◌<◌, ◌≤◌, Bool, true, List, [], ◌∷◌, ◌++◌, map, length, Option, Some, None, Result, Ok, Err, refl, sym, ◌∙◌, ap, subst, arith}
+use Rattle.std.proofs.Common.{◌≡◌, ℕ, zero, suc, ◌+◌, ◌<◌, ◌≤◌, Bool, true, List, [], ◌∷◌, ◌++◌, map, length, Option, Some, None, Ok, refl, sym, ◌∙◌, ap, subst, arith}
 use Rattle.std.specs.Prelude.{slice_get, get_or}
 use Rattle.sq_text.specs.declared.place.Place.{Place}
 use Rattle.sq_ast.specs.declared.stmt.Stmt.{Stmt}
@@ -12,17 +12,13 @@ use Rattle.sq_mapfile.specs.declared.mapping.Instance.{Instance}
 use Rattle.sq_mapfile.specs.declared.mapping.Mapping.{Mapping}
 use Rattle.sq_mapfile.specs.Sound.{Sound}
 use Rattle.sq_types.specs.Sound.{is_sound}
-use Rattle.sq_forms.specs.declared.form.Caller.{Caller}
 use Rattle.sq_forms.specs.declared.form.Found.{Found}
-use Rattle.sq_forms.specs.Decls.{Scope, empty_scope, params_from, all_declared}
 use Rattle.sq_forms.specs.Resolving.{Resolving, resolution, frame_in}
 use Rattle.sq_forms.specs.Steps.{Key, Called}
-use Rattle.sq_forms.specs.Tables.{variant_of}
 use Rattle.sq_form_laws.specs.Reached.{CalleeIs, form_number}
 use Rattle.sq_form_laws.specs.Served.{FormRuns}
 use Rattle.sq_work.specs.declared.reduction.Reduction.{Reduction}
-use Rattle.sq_work.specs.Work.{Work, Nothing, Then, Call}
-use Rattle.sq_spec.specs.declared.body.Body.{Body}
+use Rattle.sq_work.specs.Work.{Work, Then, Call}
 use Rattle.sq_spec.specs.declared.body.FormBody.{FormBody}
 use Rattle.sq_spec.specs.declared.statement.CallInstance.{CallInstance}
 use Rattle.sq_spec.specs.declared.statement.LoopKind.{LoopKind}
@@ -31,14 +27,14 @@ use Rattle.sq_spec.specs.declared.statement.Statement.TheVariants as b
 use Rattle.sq_spec.specs.declared.statement.Statement.TheOpen.{Statement-F}
 use Rattle.sq_spec.specs.declared.statement.Statement.TheFolds.{ind-Statement, map-Statement}
 use Rattle.sq_spec.specs.Statements.{elems_of, tables}
-use Rattle.sq_spec.specs.StatementsWork.{row_work, all_work, statement_step, statement_work, statements_work}
+use Rattle.sq_spec.specs.StatementsWork.{row_work, all_work, statement_work, statements_work}
 use Rattle.sq_spec.specs.Works.{map_work, shapes_of}
 use Rattle.sq_spec.specs.Bodies.{no_body, what_runs, found_body, instance_body, variant_body, scope_body, declared_body, body_of, body_work, numbered_work}
 use Rattle.sq_form_laws.proofs.FitHold.{forms_run}
 use Rattle.sq_form_laws.proofs.TreeHolds.{callers_first}
 use Rattle.sq_spec.proofs.TablesMean.{begun_call, begun_map}
 use Rattle.sq_spec_laws.specs.Fuel.{FormsBehindAreEnough}
-use Rattle.sq_spec_laws.specs.TableRows.{Table, all_tables, red_of, tables_step, tables_of, tables_in}
+use Rattle.sq_spec_laws.specs.TableRows.{Table, all_tables, red_of, tables_of, tables_in}
 use Rattle.sq_spec_laws.proofs.TableRowsHold.{tables_call, tables_map, rows_are_reached}
 
 -- ---- what is true of the rows of each of some tables

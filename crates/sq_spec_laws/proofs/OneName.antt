@@ -1,6 +1,6 @@
 -- In a form each array's number is of one name, and the blocks of a name are of the array that its kind names.
-use Rattle.std.proofs.Common.{◌≡◌, ℕ, suc, ◌+◌, ◌<◌, Bool, true, false, ℤ, List, [], ◌∷◌, ◌++◌, length, Option, Some, None, option_map, is_some, Ok, Err, refl, sym, ◌∙◌, ap, subst, arith}
-use Rattle.std.specs.Prelude.{slice_get, is_err, ◌&&◌, nat_lt, if◌then◌else◌}
+use Rattle.std.proofs.Common.{◌≡◌, ℕ, ◌+◌, ◌<◌, Bool, true, false, ℤ, List, [], ◌∷◌, ◌++◌, length, Option, Some, None, option_map, is_some, Ok, Err, refl, sym, ◌∙◌, ap, subst, arith}
+use Rattle.std.specs.Prelude.{slice_get, is_err, ◌&&◌, if◌then◌else◌}
 use Rattle.std.specs.Map.{lookup}
 use Rattle.std.specs.Option.{option_and_then}
 use Rattle.sq_text.specs.declared.place.Place.{Place}
@@ -19,7 +19,7 @@ use Rattle.sq_types.specs.declared.kind.Kind.{Kind}
 use Rattle.sq_types.specs.declared.kind.Kind.TheVariants as kind
 use Rattle.sq_types.specs.Known.{Known, kind_of, with_name}
 use Rattle.sq_ast.specs.Modes.{is_written}
-use Rattle.sq_types.specs.Table.{is_block_of, most_arrays, array_type, dims_of as dims_of_type}
+use Rattle.sq_types.specs.Table.{is_block_of, array_type, dims_of as dims_of_type}
 use Rattle.sq_types.specs.Sites.{extents_known, with_param, param_known, params_known, local_known, rchop_known, ichop_known, decl_known, decls_known, arrays_after}
 use Rattle.sq_types.specs.Sound as typed
 use Rattle.sq_blocks.specs.Names.{Numbers, Lists, list_of, with_number, with_list}
