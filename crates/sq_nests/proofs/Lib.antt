@@ -1,0 +1,11 @@
+pub mod Equations
+pub mod Chains
+pub mod Trees
+pub mod Levels
+pub mod Machines
+pub mod Inside
+pub mod Offsets
+pub mod Room
+pub mod Weights
+pub mod Aside
+pub mod Doubling

@@ -1,0 +1,9 @@
+pub mod Nests
+pub mod Stacks
+pub mod Levels
+pub mod Drafts
+pub mod Weights
+pub mod Needs
+pub mod Under
+pub mod Doubled
+pub mod Laws

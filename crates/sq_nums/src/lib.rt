@@ -1,0 +1,7 @@
+//! Numbers of terms, evaluated where they stand.
+#![tactic(auto)]
+
+pub mod laws;
+mod value;
+
+pub use value::{Env, Turns, count_of, value_of};
