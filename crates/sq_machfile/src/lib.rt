@@ -18,6 +18,3 @@ mod uneven;
 pub use level::Level;
 pub use machine::{Machine, read_machine};
 pub use node::Node;
-
-#[cfg(test)]
-mod tests;

@@ -28,6 +28,3 @@ pub use mapping::{
     Tunings,
 };
 pub use reader::read_mapping;
-
-#[cfg(test)]
-mod cycle_tests;

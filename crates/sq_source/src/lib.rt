@@ -27,8 +27,3 @@ pub fn read_program(alloc: Global, text: &[u8]) -> Result<Typed, Stop>
     };
     check(alloc, program)
 }
-
-#[cfg(test)]
-mod mapping_tests;
-#[cfg(test)]
-mod tests;

@@ -1,6 +1,6 @@
 //! Mapping files that are read, and those that are refused with their first fault.
 
-use crate::read_program;
+use sq_source::read_program;
 use sq_ast::VariantKind;
 use sq_machfile::{Machine, read_machine};
 use sq_mapfile::{Instance, Mapping, Route, Setting, Tuning, read_mapping};

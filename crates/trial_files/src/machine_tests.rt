@@ -1,6 +1,6 @@
 //! Machine files that are read, and at least one for each fault.
 
-use crate::{Machine, read_machine};
+use sq_machfile::{Machine, read_machine};
 use sq_text::{Arg, Code, Fault, Place, Stop};
 use std::alloc::{AllocError, Global};
 use std::test::Fail;
