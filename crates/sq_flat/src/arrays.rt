@@ -82,7 +82,7 @@ fn put_in(views: &[View], array: usize, at: usize, part: &[u8], bytes: &mut [u8]
 
 impl Arrays {
     /// Zeros, in the shapes of the parameters of a program's entry. Also without memory where the arrays are more than
-    /// 32 or have 2^32 bytes.
+    /// 32, or where one of them would begin 2^32 bytes or more behind the first.
     pub fn new(alloc: Global, r: &Resolved<'_>) -> Result<Arrays, AllocError>
         ensures shapes { IfOk result (λ a. a.shapes ≡ spec.entry_shapes r.now.typed.now.tasks r.now.mapping.now r.now.found.entries) }
         ensures zeros { IfOk result (λ a. a.bytes ≡ spec.zero_bytes a.shapes) }

@@ -14,7 +14,7 @@ use sqlite_items::Items;
 use std::alloc::{AllocError, Global};
 
 /// Where arrays of these shapes stand one behind the other; None where they are more than 32, where one has no elements
-/// or 2^32, or where one stands so far behind.
+/// or 2^32 and more, or where one would begin 2^32 bytes or more behind the first.
 pub fn lined(shapes: &[Shape]) -> Option<Views>
     ensures { IfSome result (λ views. views ≡ memory.lined 0 shapes.now) }
 {

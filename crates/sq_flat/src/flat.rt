@@ -29,8 +29,8 @@ pub struct Trapped {
 #[derive(Drop)]
 pub enum FlatEnd {
     Trap(Trapped),
-    /// Also where more than 64 iterations stand round a trap, where a form has more than 32 arrays or its memory 2^32
-    /// bytes, and where more than 1,024 maps and calls stand within one another.
+    /// Also where more than 64 iterations stand round a trap, where a form has more than 32 arrays or one of them would
+    /// begin 2^32 bytes or more behind the first, and where more than 1,024 maps and calls stand within one another.
     NoMemory,
 }
 

@@ -1,10 +1,10 @@
 -- Works that mean the same, and lists of what maps begin.
-use Rattle.std.proofs.Common.{◌≡◌, ℕ, zero, suc, ◌+◌, ◌<◌, nat_eq, Bool, ◌||◌, List, [], ◌∷◌, ◌++◌, map, length, get_or, slice_get, Some, Ok, refl, sym, ap, ap₂, ◌∙◌, arith, append_assoc, flat_map}
+use Rattle.std.proofs.Common.{◌≡◌, ℕ, zero, suc, ◌+◌, ◌<◌, nat_eq, Bool, true, false, ◌||◌, List, [], ◌∷◌, ◌++◌, map, length, get_or, slice_get, Some, Ok, refl, sym, ap, ap₂, ◌∙◌, arith, append_assoc, flat_map}
 use mathlib.Core.Path.{fun_ext}
 use Rattle.sq_text.specs.declared.place.Place.{Place}
 use Rattle.sq_leaf.specs.Source.{Arrays}
 use Rattle.sq_work.specs.declared.reduction.Reduction.{Reduction}
-use Rattle.sq_spec.specs.Statements.{over}
+use Rattle.sq_spec.specs.Statements.{over, has_iterations, rows_if, count_rows}
 use Rattle.sq_work.specs.Work.{Work, Then, Each, AtOnce, Gathers}
 use Rattle.sq_work.specs.Meaning.{Outcome, and_then, with_turn, any_below, writes, touches, apart, with_writes, with_identity, with_reduced, meaning}
 use Rattle.sq_work.specs.InTurn.{AreApart, none_aside, its_array, IsRaceFree, gathering, serial}
@@ -166,3 +166,35 @@ inner_at count turn (x ∷ times) (suc k) t e at lt =
     let long : length ones ≡ count x = single_length 0 (count x) (turn x) in
     let same : count x + begun_before k (map count times) + t ≡ length ones + (begun_before k (map count times) + t) = omega (arith, long) in
     ap (slice_get (ones ++ rest)) same ∙ (get_back ones rest (begun_before k (map count times) + t) ∙ inner_at count turn times k t e at lt)
+
+-- ---- the rows of a map's counts
+
+-- a row of none counts as 0
+pub none_counted : (counts : List ℕ) (k : ℕ) → has_iterations counts ≡ false → get_or counts k 0 ≡ 0
+none_counted [] zero h = refl
+none_counted [] (suc k) h = refl
+none_counted (zero ∷ counts) zero h = refl
+none_counted (zero ∷ counts) (suc k) h = none_counted counts k h
+none_counted (suc n ∷ counts) k h = absurd (cc h)
+
+abbrev no_rows : List ℕ
+no_rows = []
+
+past_none : (k : ℕ) → 0 ≡ get_or no_rows k 0
+past_none zero = refl
+past_none (suc k) = refl
+
+pub row_kept : (counts : List ℕ) (k : ℕ) → get_or (count_rows counts) k 0 ≡ get_or counts k 0
+row_kept counts k = by (has_iterations counts) refl
+  where
+    by : (b : Bool) → has_iterations counts ≡ b → get_or (rows_if b counts) k 0 ≡ get_or counts k 0
+    by false h = sym (past_none k) ∙ sym (none_counted counts k h)
+    by true h = refl
+
+-- where there is an iteration all rows are there
+pub rows_kept : (counts : List ℕ) (k t : ℕ) → t < get_or counts k 0 → count_rows counts ≡ counts
+rows_kept counts k t lt = by (has_iterations counts) refl
+  where
+    by : (b : Bool) → has_iterations counts ≡ b → rows_if b counts ≡ counts
+    by false h = absurd (let none = none_counted counts k h in omega (arith, lt, none))
+    by true h = refl

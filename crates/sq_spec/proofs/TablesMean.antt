@@ -26,14 +26,14 @@ use Rattle.sq_forms.specs.Worlds.{Frame, Callee, callee_of}
 use Rattle.sq_forms.specs.Calls.{CallSite}
 use Rattle.sq_forms.specs.Stmts.{bounds, in_iteration, within, after_calls, reduced_by}
 use Rattle.sq_forms.specs.Resolving.{start}
-use Rattle.sq_spec.specs.Statements.{starts_from, iteration_points, count_at, call_instance, loop_kind_of, StatementTable, calls_of, all_of, call_table, table_of}
+use Rattle.sq_spec.specs.Statements.{starts_from, iteration_points, count_at, count_rows, call_instance, loop_kind_of, StatementTable, calls_of, all_of, call_table, table_of}
 use Rattle.sq_work.specs.Work.{Work, Nothing}
 use Rattle.sq_work.specs.Meaning.{Outcome}
 use Rattle.sq_spec.specs.Works as works
 use Rattle.sq_spec.specs.Works.{Share, map_work, call_work}
 use Rattle.sq_spec.specs.StatementsWork.{row_work, all_work, statement_step, statement_work, TablesMeanStatements}
 use Rattle.sq_spec.proofs.OpenedStatement.{table_of_call, table_of_map}
-use Rattle.sq_spec.proofs.Rows.{begun_before, Alike, alike_itself, alike_then, alike_each, alike_at_once, alike_gathers, slice_get_map, get_or_map, flat_over, over_same, singles, inner_at}
+use Rattle.sq_spec.proofs.Rows.{row_kept, rows_kept, begun_before, Alike, alike_itself, alike_then, alike_each, alike_at_once, alike_gathers, slice_get_map, get_or_map, flat_over, over_same, singles, inner_at}
 
 -- ---- one map more
 
@@ -139,19 +139,26 @@ module _ (forms : Forms) (frame : Frame) (names : Names) (elems : List Elem) (nu
       ap (λ (f : ℕ → Work). f k) (begun_call callee lower (map row (iteration_points nest names.lists numbers)))
       ∙ ap (row_work callee lower) (slice_get_map row (iteration_points nest names.lists numbers) k e at)
 
+  -- the rows of the counts of a map with these ranges
+  abbrev rows_of : List Range → List (List Range) → List ℕ
+  rows_of rs nest = count_rows (map (count_at rs names.lists) (iteration_points nest names.lists numbers))
+
   map_agrees : (p : Place) (kind : MapKind) (rs : List Range) (xs : List Known) (nest : List (List Range)) (site : CallSite) (k : ℕ) (e : Numbers)
       → slice_get (iteration_points nest names.lists numbers) k ≡ Some e
-      → Alike (statement_step callee (Statement-F.Map p (loop_kind_of elems names kind) (map (count_at rs names.lists) (iteration_points nest names.lists numbers))
-      (starts_from 0 (map (count_at rs names.lists) (iteration_points nest names.lists numbers)))
+      → Alike (statement_step callee (Statement-F.Map p (loop_kind_of elems names kind) (rows_of rs nest) (starts_from 0 (rows_of rs nest))
       (map (statement_work callee) (all_of (map table (stmts xs)) site.call (reduced_by kind) (nest ++ rs ∷ [])))) k)
       ((works.stmt_step forms by_number elems (Stmt-F.Map p kind rs (map share (stmts xs)))).work frame names site e)
   map_agrees p kind rs xs nest site k e at =
       let times = iteration_points nest names.lists numbers in
       let counts = map (count_at rs names.lists) times in
-      alike_map (loop_kind_of elems names kind) p (get_or counts k 0) (count_at rs names.lists e) _ _ (get_or_map (count_at rs names.lists) times k e 0 at)
+      let count : get_or counts k 0 ≡ count_at rs names.lists e = get_or_map (count_at rs names.lists) times k e 0 at in
+      alike_map (loop_kind_of elems names kind) p (get_or (count_rows counts) k 0) (count_at rs names.lists e) _ _ (row_kept counts k ∙ count)
       (λ t lt.
+      let rows : count_rows counts ≡ counts = rows_kept counts k t (subst (λ n. t < n) (sym count) lt) in
+      let start : get_or (starts_from 0 (count_rows counts)) k 0 ≡ begun_before k counts =
+      ap (λ ns. get_or (starts_from 0 ns) k 0) rows ∙ first_start (count_at rs names.lists) times k e at in
       subst (λ n. Alike (all_work (map (statement_work callee) (all_of (map table (stmts xs)) site.call (reduced_by kind) (nest ++ rs ∷ []))) (n + t))
-      (works.all_of (map share (stmts xs)) frame names (within site p kind t) (turn rs names.lists e t))) (sym (first_start (count_at rs names.lists) times k e at)) (
+      (works.all_of (map share (stmts xs)) frame names (within site p kind t) (turn rs names.lists e t))) (sym start) (
       all_agree xs (nest ++ rs ∷ []) (within site p kind t) (begun_before k counts + t) (turn rs names.lists e t)
       (ap (λ ms. slice_get ms (begun_before k counts + t)) (iteration_points_deeper nest rs names.lists numbers)
       ∙ inner_at (count_at rs names.lists) (turn rs names.lists) times k t e at lt)))
@@ -174,8 +181,7 @@ module _ (forms : Forms) (frame : Frame) (names : Names) (elems : List Elem) (nu
     works = λ nest site k e at.
         let left = ap (λ (t : StatementTable). statement_work callee (t.table site.call site.reduced nest) k)
         (table_of_map forms frame names elems numbers p kind rs (stmts xs))
-        ∙ ap (λ (f : ℕ → Work). f k) (begun_map callee p (loop_kind_of elems names kind) (map (count_at rs names.lists) (iteration_points nest names.lists numbers))
-        (starts_from 0 (map (count_at rs names.lists) (iteration_points nest names.lists numbers)))
+        ∙ ap (λ (f : ℕ → Work). f k) (begun_map callee p (loop_kind_of elems names kind) (rows_of rs nest) (starts_from 0 (rows_of rs nest))
         (all_of (map table (stmts xs)) site.call (reduced_by kind) (nest ++ rs ∷ []))) in
         let right = ap (λ (w : Share). w.work frame names site e) (share_map p kind rs (stmts xs)) in
         alike_between _ _ _ _ left right (map_agrees p kind rs xs nest site k e at);

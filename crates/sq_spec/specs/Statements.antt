@@ -1,5 +1,5 @@
 -- The statements of a form, each with a row for every time that it is begun, in the order in which they would run.
-use Rattle.std.specs.Prelude.{ℕ, zero, suc, ◌+◌, ◌==◌, false, List, [], ◌∷◌, ◌++◌, map, Option, Some, None, Ok, Err, slice_get}
+use Rattle.std.specs.Prelude.{ℕ, zero, suc, ◌+◌, ◌==◌, Bool, false, true, List, [], ◌∷◌, ◌++◌, map, Option, Some, None, Ok, Err, slice_get}
 use Rattle.std.specs.Map.{lookup}
 use Rattle.sq_num.specs.declared.Elem.{Elem}
 use Rattle.sq_num.specs.declared.Elem.TheVariants.{Long}
@@ -61,6 +61,19 @@ abbrev pub starts_from : ℕ → List ℕ → List ℕ
 starts_from n [] = []
 starts_from n (count ∷ counts) = n ∷ starts_from (n + count) counts
 
+abbrev pub has_iterations : List ℕ → Bool
+has_iterations [] = false
+has_iterations (zero ∷ counts) = has_iterations counts
+has_iterations (suc n ∷ counts) = true
+
+abbrev pub rows_if : Bool → List ℕ → List ℕ
+rows_if false counts = []
+rows_if true counts = counts
+
+-- the rows of a map's counts: none where it never has an iteration, since a row that isn't there counts as 0
+abbrev pub count_rows : List ℕ → List ℕ
+count_rows counts = rows_if (has_iterations counts) counts
+
 -- the form that a call reaches, and its arguments
 abbrev pub call_instance : Forms → Frame → Names → ℕ → Option Bytes → Callee → List ArgUse → Numbers → CallInstance
 call_instance forms frame names call reduced its args numbers =
@@ -119,7 +132,7 @@ module _ (forms : Forms) (frame : Frame) (names : Names) (elems : List Elem) (nu
   stmt_step (Stmt-F.Map place kind ranges parts) = record {
     calls = calls_of parts;
     table = λ call reduced nest.
-        let counts = map (count_at ranges names.lists) (iteration_points nest names.lists numbers) in
+        let counts = count_rows (map (count_at ranges names.lists) (iteration_points nest names.lists numbers)) in
         statement.Map place (loop_kind_of elems names kind) counts (starts_from 0 counts)
         (all_of parts call (reduced_by kind) (nest ++ ranges ∷ []));
   }

@@ -59,7 +59,7 @@ pub enum Statement {
     Map {
         place: Place,
         kind: LoopKind,
-        /// How many iterations there are.
+        /// How many iterations there are; no rows where there is none at any time.
         counts: Items<u32>,
         /// How many began in the times before.
         starts: Items<usize>,
@@ -417,6 +417,27 @@ fn call_table(
     })
 }
 
+fn has_iterations(counts: &[u32]) -> bool
+    ensures { result ≡ spec.has_iterations counts.now }
+{
+    for count in counts {
+        if *count > 0 {
+            return true;
+        }
+    }
+    false
+}
+
+fn count_rows(alloc: Global, counts: Items<u32>) -> Items<u32>
+    ensures { result ≡ spec.count_rows counts }
+{
+    if has_iterations(counts.as_slice()) {
+        counts
+    } else {
+        Items::new(alloc)
+    }
+}
+
 fn counts_of(
     alloc: Global,
     context: &FormContext<'_>,
@@ -424,14 +445,14 @@ fn counts_of(
     nest: &[EnclosingMap<'_>],
     ranges: &[Range],
 ) -> Result<Items<u32>, AllocError>
-    ensures counts { IfOk result (λ counts. counts ≡ map
+    ensures counts { IfOk result (λ counts. counts ≡ spec.count_rows (map
         (spec.count_at ranges.now (argued.names_of context.now.known.now).lists)
-        (spec.iteration_points nest.now (argued.names_of context.now.known.now).lists numbers.old)) }
+        (spec.iteration_points nest.now (argued.names_of context.now.known.now).lists numbers.old))) }
     ensures numbers { OnOk result (numbers.new ≡ numbers.old) }
 {
     let mut counts = Items::new(alloc);
     push_counts(alloc, context, numbers, nest, ranges, &mut counts)?;
-    Ok(counts)
+    Ok(count_rows(alloc, counts))
 }
 
 // How many iterations there are before each time; sums that don't have 64 bits have no room in memory.

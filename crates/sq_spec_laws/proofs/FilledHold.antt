@@ -23,13 +23,13 @@ use Rattle.sq_forms.specs.Steps.{Forms}
 use Rattle.sq_forms.specs.Args.{Names}
 use Rattle.sq_forms.specs.Worlds.{Frame, Callee, callee_of}
 use Rattle.sq_forms.specs.Stmts.{reduced_by}
-use Rattle.sq_spec.specs.Statements.{starts_from, iteration_points, count_at, call_instance, loop_kind_of, StatementTable, all_of, call_table, table_of}
+use Rattle.sq_spec.specs.Statements.{starts_from, iteration_points, count_at, count_rows, call_instance, loop_kind_of, StatementTable, all_of, call_table, table_of}
 use Rattle.sq_spec_laws.specs.Filled.{all_below, all_filled, filled_step, filled, ServedAreFull, TablesAreFull}
 use Rattle.sq_form_laws.specs.Reached.{concat, text_calls, body_calls}
 use Rattle.sq_forms.specs.Resolving.{frame_in}
 use Rattle.sq_form_laws.proofs.EachCall.{AllIn, all_front, all_back, text_call, text_map}
 use Rattle.sq_spec.proofs.OpenedStatement.{table_of_call, table_of_map}
-use Rattle.sq_spec.proofs.Rows.{begun_before, slice_get_map, get_or_map, inner_at}
+use Rattle.sq_spec.proofs.Rows.{row_kept, rows_kept, begun_before, slice_get_map, get_or_map, inner_at}
 use Rattle.sq_form_laws.proofs.ServedHold.{calls_are_served}
 use Rattle.sq_spec.proofs.TablesMean.{turn, iteration_points_deeper, first_start}
 
@@ -94,19 +94,24 @@ module _ (forms : Forms) (frame : Frame) (names : Names) (elems : List Elem) (nu
       let served : AllIn Served (c ∷ []) = subst (AllIn Served) (text_call c) h in
       subst IsFull (sym (table_of_call forms frame names elems numbers c)) (λ call reduced nest k e at. call_by c (callee_of frame c.task) served.0 call reduced nest k e at)
 
+  abbrev rows_of : List Range → List (List Range) → List ℕ
+  rows_of rs nest = count_rows (map (count_at rs names.lists) (iteration_points nest names.lists numbers))
+
   map_by : (p : Place) (kind : MapKind) (rs : List Range) (xs : List S) → AllIn Served (concat (map text_calls (stmts xs)))
       → (call : ℕ) (nest : List (List Range)) (k : ℕ) (e : Numbers) → slice_get (iteration_points nest names.lists numbers) k ≡ Some e
-      → filled_step (Statement-F.Map p (loop_kind_of elems names kind) (map (count_at rs names.lists) (iteration_points nest names.lists numbers))
-      (starts_from 0 (map (count_at rs names.lists) (iteration_points nest names.lists numbers)))
+      → filled_step (Statement-F.Map p (loop_kind_of elems names kind) (rows_of rs nest) (starts_from 0 (rows_of rs nest))
       (map filled (all_of (map table (stmts xs)) call (reduced_by kind) (nest ++ rs ∷ [])))) k ≡ true
   map_by p kind rs xs h call nest k e at =
       let times = iteration_points nest names.lists numbers in
       let counts = map (count_at rs names.lists) times in
       let parts = map filled (all_of (map table (stmts xs)) call (reduced_by kind) (nest ++ rs ∷ [])) in
-      below_true (get_or counts k 0) (λ t. all_filled parts (get_or (starts_from 0 counts) k 0 + t))
+      below_true (get_or (count_rows counts) k 0) (λ t. all_filled parts (get_or (starts_from 0 (count_rows counts)) k 0 + t))
       (λ t lt.
-      let less : t < count_at rs names.lists e = subst (λ n. t < n) (get_or_map (count_at rs names.lists) times k e 0 at) lt in
-      subst (λ n. all_filled parts (n + t) ≡ true) (sym (first_start (count_at rs names.lists) times k e at))
+      let counted : t < get_or counts k 0 = subst (λ n. t < n) (row_kept counts k) lt in
+      let less : t < count_at rs names.lists e = subst (λ n. t < n) (get_or_map (count_at rs names.lists) times k e 0 at) counted in
+      let start : get_or (starts_from 0 (count_rows counts)) k 0 ≡ begun_before k counts =
+      ap (λ ns. get_or (starts_from 0 ns) k 0) (rows_kept counts k t counted) ∙ first_start (count_at rs names.lists) times k e at in
+      subst (λ n. all_filled parts (n + t) ≡ true) (sym start)
       (all_full xs h call (reduced_by kind) (nest ++ rs ∷ []) (begun_before k counts + t) (turn rs names.lists e t)
       (ap (λ ms. slice_get ms (begun_before k counts + t)) (iteration_points_deeper nest rs names.lists numbers)
       ∙ inner_at (count_at rs names.lists) (turn rs names.lists) times k t e at less)))
@@ -116,8 +121,7 @@ module _ (forms : Forms) (frame : Frame) (names : Names) (elems : List Elem) (nu
       let served : AllIn Served (concat (map text_calls (stmts xs))) = subst (AllIn Served) (text_map p kind rs (stmts xs)) h in
       subst IsFull (sym (table_of_map forms frame names elems numbers p kind rs (stmts xs)))
       (λ call reduced nest k e at.
-      ap (λ (f : ℕ → Bool). f k) (filled_map p (loop_kind_of elems names kind) (map (count_at rs names.lists) (iteration_points nest names.lists numbers))
-      (starts_from 0 (map (count_at rs names.lists) (iteration_points nest names.lists numbers)))
+      ap (λ (f : ℕ → Bool). f k) (filled_map p (loop_kind_of elems names kind) (rows_of rs nest) (starts_from 0 (rows_of rs nest))
       (all_of (map table (stmts xs)) call (reduced_by kind) (nest ++ rs ∷ [])))
       ∙ map_by p kind rs xs served call nest k e at)
 

@@ -25,7 +25,7 @@ use Rattle.sq_forms.specs.Steps.{Forms}
 use Rattle.sq_forms.specs.Args.{Names}
 use Rattle.sq_forms.specs.Worlds.{Frame, Callee, callee_of}
 use Rattle.sq_forms.specs.Stmts.{reduced_by}
-use Rattle.sq_spec.specs.Statements.{starts_from, iteration_points, count_at, call_instance, loop_kind_of, StatementTable, all_of, call_table, table_of}
+use Rattle.sq_spec.specs.Statements.{starts_from, iteration_points, count_at, count_rows, call_instance, loop_kind_of, StatementTable, all_of, call_table, table_of}
 use Rattle.sq_spec_laws.specs.Ones.{Kind, all_ones, body_ones, kind_step, kind_of, ReductionsAreOfOne}
 use Rattle.sq_form_laws.proofs.FitHold.{both}
 use Rattle.sq_spec.proofs.OpenedStatement.{table_of_call, table_of_map}
@@ -87,7 +87,7 @@ module _ (forms : Forms) (frame : Frame) (names : Names) (elems : List Elem) (nu
   map_fits : (p : Place) (kind : MapKind) (rs : List Range) (xs : List S) → OfStmt (s.Map p kind rs (stmts xs))
   map_fits p kind rs xs h call reduced_ nest =
       let ys = stmts xs in
-      let counts = map (count_at rs names.lists) (iteration_points nest names.lists numbers) in
+      let counts = count_rows (map (count_at rs names.lists) (iteration_points nest names.lists numbers)) in
       let parts = all_of (map table ys) call (reduced_by kind) (nest ++ rs ∷ []) in
       let formed : (are_formed_ranges rs && (fits_kind kind (map form_of ys) && are_formed_stmts ys)) ≡ true = sym (formed_map p kind rs ys) ∙ h in
       let u = both (are_formed_ranges rs) (fits_kind kind (map form_of ys) && are_formed_stmts ys) formed in

@@ -32,7 +32,7 @@ use Rattle.sq_forms.specs.Calls.{CallSite, call_of, served_steps, reached_steps}
 use Rattle.sq_forms.specs.Stmts.{Walked, Portion, portion, all_of as portions_of, after_calls, bounds, times_of, in_iteration, within, each, opens, outermost, iteration_steps, map_steps, reduced_by}
 use Rattle.sq_forms.specs.Resolving.{start, frame_in, body_steps}
 use Rattle.sq_form_laws.specs.Reached.{calls_in, concat, text_calls, body_calls, or_zero, steps_of}
-use Rattle.sq_spec.specs.Statements.{number_or, starts_from, iteration_points, count_at, call_instance, loop_kind_of, StatementTable, all_of, call_table, table_of, elems_of}
+use Rattle.sq_spec.specs.Statements.{number_or, starts_from, iteration_points, count_at, count_rows, call_instance, loop_kind_of, StatementTable, all_of, call_table, table_of, elems_of}
 use Rattle.sq_spec_laws.specs.TableRows.{Table, red_of, all_tables, tables_step, tables_of, Summed, all_summed, summed_step, summed, SumIs, RowIsReached, TableIsReached, OfText, RowsAreReached}
 use Rattle.sq_forms.specs.Decls.{Scope}
 use Rattle.sq_form_laws.proofs.AllHold.{within_list}
@@ -385,7 +385,7 @@ module _ (end : State) (calls : List Called) where
           behind = λ site e. subst (λ (q : Portion). Leaves (q.steps frame names site e)) (sym steps) (map_behind p kind rs xs own site e);
           rows = λ call reduced_ red nest sum at.
               let times = iteration_points nest names.lists numbers in
-              let counts = map (count_at rs names.lists) times in
+              let counts = count_rows (map (count_at rs names.lists) times) in
               let inside = all_of (map table ys) call (reduced_by kind) (nest ++ rs ∷ []) in
               let to : AtEach call reduced_ nest (map_steps p kind rs (portions_of (map portion ys))) =
               λ j e g. let a = at j e g in record {

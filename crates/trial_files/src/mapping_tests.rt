@@ -1,9 +1,9 @@
 //! Mapping files that are read, and those that are refused with their first fault.
 
-use sq_source::read_program;
 use sq_ast::VariantKind;
 use sq_machfile::{Machine, read_machine};
 use sq_mapfile::{Instance, Mapping, Route, Setting, Tuning, read_mapping};
+use sq_source::read_program;
 use sq_text::{Arg, Code, Fault, Phase, Place, SpreadRule, Stop};
 use sq_types::Typed;
 use std::alloc::Global;
