@@ -1,5 +1,5 @@
 -- A leaf call of a plan may be run.
-use Rattle.std.proofs.Common.{◌≡◌, ℕ, suc, take_all, take-suc, ◌+◌, ◌<◌, ◌≤◌, ◌^◌, List, [], ◌∷◌, ◌++◌, length, take, get_or, Option, Some, None, sym, ap, ◌∙◌, subst, arith}
+use Rattle.std.proofs.Common.{◌≡◌, ℕ, ◌<◌, ◌^◌, List, Option, Some, None, sym, ap, ◌∙◌, subst}
 use Rattle.std.specs.List.{slice_get}
 use Rattle.sq_rect.specs.declared.view.View.{View}
 use Rattle.sq_rect.specs.Ranks.{HaveFewDimensions}

@@ -1,7 +1,7 @@
 -- Banks that are open stay so.
-use Rattle.std.proofs.Common.{◌≡◌, ℕ, zero, suc, ◌+◌, ◌-◌, ◌≤◌, ◌<◌, min, List, [], ◌∷◌, ◌++◌, length, map, take, drop, replicate, length-append, length-take, length-drop, refl, sym, ap, ap₂, ◌∙◌, arith}
+use Rattle.std.proofs.Common.{◌≡◌, ℕ, zero, suc, ◌+◌, ◌≤◌, List, [], ◌∷◌, ◌++◌, length, map, take, drop, replicate, length-append, length-take, length-drop, refl, ap, ap₂, ◌∙◌, arith}
 use Rattle.sq_ir.specs.declared.plan.PlanNode.{PlanNode}
-use Rattle.sq_tree.specs.Bank.{zeros, capacities, put_at, put_first, size_in}
+use Rattle.sq_tree.specs.Bank.{zeros, put_at, put_first, size_in}
 use Rattle.sq_tree.specs.Prepared.{OpenedArePrepared, PutsKeepPrepared}
 
 so-many : (n : ℕ) → length {A = ℕ} (replicate n 0) ≡ n

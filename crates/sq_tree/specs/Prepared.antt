@@ -1,5 +1,5 @@
 -- Banks that are open with a plan.
-use Rattle.std.specs.Prelude.{◌≡◌, ℕ, ◌+◌, ◌≤◌, List, length}
+use Rattle.std.specs.Prelude.{ℕ, ◌+◌, ◌≤◌, List, length}
 use Rattle.sq_ir.specs.declared.plan.Plan.{Plan}
 use Rattle.sq_tree.specs.Bank.{BankSeen, IsOpened, IsPrepared, PutsRoot, size_in}
 

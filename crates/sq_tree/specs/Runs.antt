@@ -1,6 +1,7 @@
 -- Runs of a plan on a bank, under the answers of an order.
 use Rattle.std.specs.Prelude.{◌≡◌, ℕ, ◌%◌, ◌^◌, ◌<◌, Bool, true, false, List, [], ◌∷◌, ◌++◌, Option, Some, None, Result}
 use Rattle.std.specs.Prelude.{Ok, Err, map, length, replicate, take}
+use Rattle.std.specs.List.{All}
 use Rattle.sq_leaf.specs.declared.trap.Trap.{Trap}
 use Rattle.sq_port.specs.Ports.{Gains, Rose}
 use Rattle.sq_port.specs.Orders.{PicksTold}
@@ -107,9 +108,14 @@ Tells now s (Err SinkFault) = Unit {0}
 pub record TellsFirst (p : Plan) (m now : Bytes) (result : Result Unit RunEnd) : Type 0 where
   pub tells : (s : State Event Scope Bytes Trap) → IsFirst p m s → Tells now s result
 
--- In each state to which events of the plan lead from these bytes, the live buffers of one node lie below its capacity
--- and share no byte.
+-- In each state to which events of the plan lead from these bytes, all events, performed or still to be performed, lie
+-- inside their nodes and are as their calls ask, and the live buffers of one node lie below its capacity and share no
+-- byte.
 pub record KeepsRoom (p : Plan) (m : Bytes) : Type 0 where
+  pub inside : (picks : List ℕ) (events : List Event) (now : State Event Scope Bytes Trap)
+      → Comes (leaves_in p) p m picks events now
+      → All (MayBePerformed (leaves_in p) (setting_of p).capacity) events
+      × AllEvents (MayBePerformed (leaves_in p) (setting_of p).capacity) now.rest
   pub room : (picks : List ℕ) (events : List Event) (now : State Event Scope Bytes Trap)
       → Comes (leaves_in p) p m picks events now → HaveRoom (setting_of p) (open_scopes now.rest)
 

@@ -9,7 +9,7 @@ use Rattle.sq_ir.specs.Scopes.{Scope}
 use Rattle.sq_ir.specs.Events.{Bytes, Event, Copy, Fill, Accumulate, Leaf}
 use Rattle.sq_ir.specs.Plans.{tree_of, IsGood}
 use Rattle.sq_ir.specs.PlanLaws.{Ends}
-use Rattle.sq_ir.specs.Traffic.{is_edge, no_counts, counted_all, nothing_carried, carried_all, level_in, deepest}
+use Rattle.sq_ir.specs.Traffic.{is_edge, no_counts, counted_all, nothing_carried, carried_all}
 use Rattle.sq_ir.specs.declared.plan.Plan.{Plan}
 use Rattle.sq_ir.specs.declared.traffic.Carried.{Carried}
 use Rattle.sq_ir.specs.declared.traffic.EventCounts.{EventCounts}

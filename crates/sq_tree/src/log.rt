@@ -1,10 +1,10 @@
 //! A bank that keeps the list of its events.
-ghost use Rattle.std.specs.Prelude.{◌≡◌, ◌<◌, ◌≤◌, ◌^◌, ◌&&◌, [], Some, IfOk, OnOk, OnErr, IfErr};
+ghost use Rattle.std.specs.Prelude.{◌≡◌, ◌+◌, ◌<◌, ◌≤◌, ◌^◌, ◌&&◌, [], Some, IfOk, OnOk, OnErr, IfErr};
 ghost use Rattle.std.specs.Prelude.{length, nat_lt, vec_capacity};
 ghost use Rattle.sq_ir.specs.Events as events;
 ghost use Rattle.sq_ir.specs.LeafRuns.{trap_at};
 ghost use Rattle.sq_sched.specs.Seen.{seen, seen_spot};
-ghost use Rattle.sq_tree.specs.Bank.{IsAsked, IsOpened, Performs, TrapsAs, size_in};
+ghost use Rattle.sq_tree.specs.Bank.{IsAsked, IsOpened, Performs, TrapsAs, PutsRoot, size_in};
 ghost use Rattle.sq_tree.specs.Log.{log_told, log_room, Adds, Keeps};
 
 use crate::bank::Bank;
@@ -171,7 +171,11 @@ impl Bank for LogBank {
         result
     }
 
-    fn put_root(&mut self, at: usize, from: &[u8]) {
+    fn put_root(&mut self, at: usize, from: &[u8])
+        requires { at + length from.now ≤ size_in (log_seen self.old).nodes 0 }
+        ensures puts { PutsRoot at from.now (log_seen self.old) (log_seen self.new) }
+        ensures room { room_of self.new ≡ room_of self.old }
+    {
         self.bank.put_root(at, from);
     }
 

@@ -1,13 +1,14 @@
 //! The run of a plan on a bank, in the order that is asked.
-ghost use Rattle.std.specs.Prelude.{◌≡◌, ◌<◌, None, Some, Ok, true, false, []};
+ghost use Rattle.std.specs.Prelude.{◌≡◌, ◌<◌, if◌then◌else◌, None, Some, Ok, true, false, []};
 ghost use Rattle.sq_port.specs.Ports.{Wrote};
 ghost use Rattle.sq_port.specs.Lines.{nothing_gathered};
 ghost use Rattle.sq_tree.specs.Trace.{event_line};
-ghost use Rattle.sq_ir.specs.Tree.{ready};
+ghost use Rattle.sq_ir.specs.Tree.{ready, event_at, rest_at};
 ghost use Rattle.sq_ir.specs.Plans.{tree_of, IsGood};
-ghost use Rattle.sq_ir.specs.Runs as runs;
+ghost use Rattle.sq_ir.specs.Runs.{least};
 ghost use Rattle.sq_sched.specs.Seen.{seen};
-ghost use Rattle.sq_sched.specs.Rests.{trap_of, MayEnd};
+ghost use Rattle.sq_sched.specs.Ends.{is_call};
+ghost use Rattle.sq_sched.specs.Rests.{trap_of, has_trapped, MayEnd};
 ghost use Rattle.sq_tree.specs.Bank.{IsPrepared, IsAsked, Performs, TrapsAs, bytes_in, leaves_in};
 ghost use Rattle.sq_tree.specs.Runs.{answer_of, HasRun, HasTrace, TellsFirst, KeepsRoom, is_stopped};
 ghost use Rattle.sq_tree.specs.Runs.{IsStep, MayPerform, AreSmall};
@@ -74,23 +75,48 @@ fn perform<B: Bank>(bank: &mut B, event: &Event) -> Outcome<Trap>
     }
 }
 
-// Performs one of the ready events, of which there are some.
+// Whether it is a leaf call.
+fn is_call(event: &Event) -> bool
+    ensures { result ≡ is_call (seen event.now) }
+{
+    match event {
+        Event::Leaf { .. } => true,
+        _ => false,
+    }
+}
+
+// Tells the control how an event that it has told ended: it waits for that of leaf calls alone.
+fn end_call(ctl: &mut Control<Trap>, k: u64, event: &Event, outcome: Outcome<Trap>)
+    requires there { is_call (seen event.now) ≡ true → k < ready ctl.old.left }
+    requires may { is_call (seen event.now) ≡ true → MayEnd (event_at ctl.old.left k) outcome }
+    ensures left { ctl.new.left ≡ (if is_call (seen event.now) then rest_at ctl.old.left k (has_trapped outcome)
+        else ctl.old.left) }
+    ensures ended { ctl.new.ended ≡ (if is_call (seen event.now) then
+        least ctl.old.ended (trap_of (event_at ctl.old.left k) outcome) else ctl.old.ended) }
+    ensures plan { ctl.new.plan ≡ ctl.old.plan }
+{
+    if is_call(event) {
+        ctl.done(k, outcome);
+    }
+}
+
+// Performs one of the ready events, of which there are some, and tells it.
 fn step<B: Bank, O: Order>(
     bank: &mut B,
     ctl: &mut Control<Trap>,
     order: &mut O,
     count: u64,
-) -> Event
+    event: &mut Event,
+)
     requires some { (count ≡ ready ctl.old.left) × (0 < count) }
     requires may { MayPerform ctl.old (B.seen bank.old) }
     ensures { IsStep O.answer O.next (O.held order.old) (O.held order.new) (B.seen bank.old) (B.seen bank.new) ctl.old
-        ctl.new (seen result) }
+        ctl.new (seen event.new) }
 {
     let k = order.pick(count) % count;
-    let event = ctl.event(k);
-    let outcome = perform(bank, &event);
-    ctl.done(k, outcome);
-    event
+    ctl.step(k, event);
+    let outcome = perform(bank, event);
+    end_call(ctl, k, event, outcome);
 }
 
 // Puts the line of an event, where a trace is asked for.
@@ -149,12 +175,13 @@ pub fn run<B: Bank, O: Order, S: Sink>(
     ensures plan { ctl.new.plan ≡ ctl.old.plan }
 {
     let mut line = Line::new();
+    let mut event = Event::untold();
     loop {
         let ready = ctl.ready();
         if ready == 0 {
             return answer(ctl.ended());
         }
-        let event = step(bank, ctl, order, ready);
+        step(bank, ctl, order, ready, &mut event);
         match put_traced(traced, &mut line, trace, ctl.plan(), &event) {
             Ok(()) => {}
             Err(_) => return Err(RunEnd::SinkFault),

@@ -1,4 +1,4 @@
-use Rattle.std.proofs.Common.{Some, None, sym, ap, ◌∙◌, subst}
+use Rattle.std.proofs.Common.{Some, None, sym, ap, ◌∙◌}
 use Rattle.std.specs.Option.{option_copied}
 use Rattle.sq_tree.specs.Bank.{size_in}
 use Rattle.sq_tree.proofs.Calling.{leaf_there, may_run, is_there}
