@@ -11,4 +11,5 @@ pub alike_count : AlikeCountAlike
 alike_count leaves t n h f = h.counted f
 
 pub alike_safe : AlikeAreSafe
-alike_safe leaves t n h f free paths = (unordered-each (AreIndependent leaves) t (independent-sym leaves) (h.safe free paths), h.may f)
+alike_safe leaves t n h f free paths
+    = (unordered-each (AreIndependent leaves) t (independent-sym leaves) (h.safe free paths), h.may f)

@@ -68,12 +68,27 @@ part_self : (c : Tree) → IsPart c c
 part_self c = record { puts = λ p x. x; adds = λ o p x. x; takes = λ p x. x; leaf = λ p x. x }
 
 pub same_self : (c : Tree) → IsSame c c
-same_self c = record { ends = λ m. refl; part = part_self c; free = λ x. x; paths = λ x. x; fits = λ x. x; counted = λ f. refl }
+same_self c = record {
+  ends = λ m. refl;
+  part = part_self c;
+  free = λ x. x;
+  paths = λ x. x;
+  fits = λ x. x;
+  counted
+      = λ f. refl;
+}
 
 pub same_then : (a b c : Tree) → IsSame a b → IsSame b c → IsSame a c
 same_then a b c h g = record {
   ends = λ m. h.ends m ∙ g.ends m;
-  part = record { puts = λ p x. g.part.puts p (h.part.puts p x); adds = λ o p x. g.part.adds o p (h.part.adds o p x); takes = λ p x. g.part.takes p (h.part.takes p x); leaf = λ p x. g.part.leaf p (h.part.leaf p x) };
+  part = record {
+    puts = λ p x. g.part.puts p (h.part.puts p x);
+    adds
+        = λ o p x. g.part.adds o p (h.part.adds o p x);
+    takes = λ p x. g.part.takes p (h.part.takes p x);
+    leaf
+        = λ p x. g.part.leaf p (h.part.leaf p x);
+  };
   free = λ x. h.free (g.free x);
   paths = λ x. h.paths (g.paths x);
   fits = λ x. h.fits (g.fits x);
@@ -124,8 +139,18 @@ same_par_assoc a b c = record {
     takes = λ p x. ⊎_elim (λ y. inl (inl y)) (λ z. ⊎_elim (λ y. inl (inr y)) (λ y. inr y) z) x;
     leaf = λ p x. ⊎_elim (λ y. inl (inl y)) (λ z. ⊎_elim (λ y. inl (inr y)) (λ y. inr y) z) x;
   };
-  free = λ x. (x.0.0, (x.0.1, x.1, apart_part b c (Par a b) c (right a b) (part_self c) x.2), apart_both a b c x.0.2 (apart_part a c (Par a b) c (left a b) (part_self c) x.2));
-  paths = λ x. (x.0.0, (x.0.1, x.1, λ p y z. x.2 p (inr y) z), λ p y z. ⊎_elim (λ k. x.0.2 p y k) (λ k. x.2 p (inl y) k) z);
+  free = λ x. (
+    x.0.0,
+    (x.0.1, x.1, apart_part b c (Par a b) c (right a b) (part_self c) x.2),
+    apart_both a b c x.0.2
+        (apart_part a c (Par a b) c (left a b) (part_self c) x.2),
+  );
+  paths = λ x. (
+    x.0.0,
+    (x.0.1, x.1, λ p y z. x.2 p (inr y) z),
+    λ p y z. ⊎_elim (λ k. x.0.2 p y k) (λ k. x.2 p (inl y) k)
+        z,
+  );
   fits = λ x. (x.0.0, (x.0.1, x.1));
   counted = λ f. omega arith;
 }
@@ -140,7 +165,14 @@ same_par_assoc a b c = record {
 pub same_seq_turn : (a : Tree) → IsSame (Seq a Empty) (Seq Empty a)
 same_seq_turn a = record {
   ends = λ m. sym (seq_empty_right a m);
-  part = record { puts = λ p x. ⊎_elim (λ y. inr y) (λ y. absurd y) x; adds = λ o p x. ⊎_elim (λ y. inr y) (λ y. absurd y) x; takes = λ p x. ⊎_elim (λ y. inr y) (λ y. absurd y) x; leaf = λ p x. ⊎_elim (λ y. inr y) (λ y. absurd y) x };
+  part = record {
+    puts = λ p x. ⊎_elim (λ y. inr y) (λ y. absurd y) x;
+    adds
+        = λ o p x. ⊎_elim (λ y. inr y) (λ y. absurd y) x;
+    takes = λ p x. ⊎_elim (λ y. inr y) (λ y. absurd y) x;
+    leaf
+        = λ p x. ⊎_elim (λ y. inr y) (λ y. absurd y) x;
+  };
   free = λ x. (x.1, tt);
   paths = λ x. (x.1, tt);
   fits = λ x. (x.1, tt);
@@ -150,8 +182,30 @@ same_seq_turn a = record {
 pub same_par_turn : (a : Tree) → IsSame (Par a Empty) (Par Empty a)
 same_par_turn a = record {
   ends = λ m. sym (par_empty_right a m);
-  part = record { puts = λ p x. ⊎_elim (λ y. inr y) (λ y. absurd y) x; adds = λ o p x. ⊎_elim (λ y. inr y) (λ y. absurd y) x; takes = λ p x. ⊎_elim (λ y. inr y) (λ y. absurd y) x; leaf = λ p x. ⊎_elim (λ y. inr y) (λ y. absurd y) x };
-  free = λ x. (x.1, tt, record { puts_puts = λ p y z. z; puts_takes = λ p y z. z; takes_puts = λ p y z. z; puts_adds = λ o p y z. z; adds_puts = λ o p y z. z; takes_adds = λ o p y z. z; adds_takes = λ o p y z. z; adds_adds = λ o o' p y z. absurd z });
+  part = record {
+    puts = λ p x. ⊎_elim (λ y. inr y) (λ y. absurd y) x;
+    adds
+        = λ o p x. ⊎_elim (λ y. inr y) (λ y. absurd y) x;
+    takes = λ p x. ⊎_elim (λ y. inr y) (λ y. absurd y) x;
+    leaf
+        = λ p x. ⊎_elim (λ y. inr y) (λ y. absurd y) x;
+  };
+  free = λ x. (
+    x.1,
+    tt,
+    record {
+      puts_puts = λ p y z. z;
+      puts_takes = λ p y z. z;
+      takes_puts = λ p y z. z;
+      puts_adds = λ
+          o p y z. z;
+      adds_puts = λ o p y z. z;
+      takes_adds = λ o p y z. z;
+      adds_takes = λ o p y z. z;
+      adds_adds
+          = λ o o' p y z. absurd z;
+    },
+  );
   paths = λ x. (x.1, tt, λ p y z. z);
   fits = λ x. (x.1, tt);
   counted = λ f. omega arith;
@@ -161,7 +215,14 @@ same_par_turn a = record {
 pub same_seq_end : (a : Tree) → IsSame (Seq a Empty) a
 same_seq_end a = record {
   ends = λ m. sym (seq_empty_right a m);
-  part = record { puts = λ p x. ⊎_elim (λ y. y) (λ y. absurd y) x; adds = λ o p x. ⊎_elim (λ y. y) (λ y. absurd y) x; takes = λ p x. ⊎_elim (λ y. y) (λ y. absurd y) x; leaf = λ p x. ⊎_elim (λ y. y) (λ y. absurd y) x };
+  part = record {
+    puts = λ p x. ⊎_elim (λ y. y) (λ y. absurd y) x;
+    adds
+        = λ o p x. ⊎_elim (λ y. y) (λ y. absurd y) x;
+    takes = λ p x. ⊎_elim (λ y. y) (λ y. absurd y) x;
+    leaf
+        = λ p x. ⊎_elim (λ y. y) (λ y. absurd y) x;
+  };
   free = λ x. (x, tt);
   paths = λ x. (x, tt);
   fits = λ x. (x, tt);
@@ -173,11 +234,14 @@ same_seq_end a = record {
 pub beside_front : (n : ℕ) (f : ℕ → Tree) → IsSame (Par (f 0) (beside n (λ i. f (suc i)))) (beside (suc n) f)
 beside_front zero f = same_par_turn (f 0)
 beside_front (suc n) f =
-    same_then (Par (f 0) (Par (beside n (λ i. f (suc i))) (f (suc n)))) (Par (Par (f 0) (beside n (λ i. f (suc i)))) (f (suc n))) (Par (beside (suc n) f) (f (suc n)))
+    same_then (Par (f 0) (Par (beside n (λ i. f (suc i))) (f (suc n))))
+    (Par (Par (f 0) (beside n (λ i. f (suc i)))) (f (suc n))) (Par (beside (suc n) f) (f (suc n)))
     (same_par_assoc (f 0) (beside n (λ i. f (suc i))) (f (suc n)))
-    (same_par (Par (f 0) (beside n (λ i. f (suc i)))) (f (suc n)) (beside (suc n) f) (f (suc n)) (beside_front n f) (same_self (f (suc n))))
+    (same_par (Par (f 0) (beside n (λ i. f (suc i)))) (f (suc n)) (beside (suc n) f) (f (suc n)) (beside_front n f)
+    (same_self (f (suc n))))
 
-pub turns_front : (q : ℕ → Bool) (n : ℕ) (f : ℕ → Tree) → IsSame (Seq (pick (q 0) (f 0) Empty) (turns (λ i. q (suc i)) n (λ i. f (suc i)))) (turns q (suc n) f)
+pub turns_front : (q : ℕ → Bool) (n : ℕ) (f : ℕ → Tree)
+    → IsSame (Seq (pick (q 0) (f 0) Empty) (turns (λ i. q (suc i)) n (λ i. f (suc i)))) (turns q (suc n) f)
 turns_front q zero f = same_seq_turn (pick (q 0) (f 0) Empty)
 turns_front q (suc n) f =
     let a = pick (q 0) (f 0) Empty in

@@ -7,7 +7,8 @@ use Rattle.sq_ir.specs.Tree.{Skip, Act, Stuck, Seq, Par, Within}
 use Rattle.sq_ir.specs.Runs.{End, exec}
 use Rattle.sq_ir.specs.Unordered.{AllEvents, AllUnordered}
 use Rattle.sq_ir.specs.Events as events
-use Rattle.sq_ir.specs.Events.{Event, Copy, Fill, Accumulate, Leaf, Leaves, Bytes, in_row, place_in, shape_of, in_views, written_views, ShareNothing, AreIndependent, meaning}
+use Rattle.sq_ir.specs.Events.{Event, Copy, Fill, Accumulate, Leaf, Leaves, Bytes, in_row, place_in, shape_of, in_views}
+use Rattle.sq_ir.specs.Events.{written_views, ShareNothing, AreIndependent, meaning}
 use Rattle.sq_ir.specs.Plans.{AreApart}
 use Rattle.sq_ir.specs.Written.{PlanTree}
 use Rattle.sq_cells.specs.Cells.{Spot, spot, State}
@@ -35,12 +36,17 @@ end_of r = record { bytes = bytes_of r.mem; finished = is_none r.trap; trap = r.
 
 -- ---- events
 
--- what an event touches lies in what the tree over cells puts, adds to and takes, and a leaf's path is of one of its leaves
+-- what an event touches lies in what the tree over cells puts, adds to and takes, and a leaf's path is of one of its
+-- leaves
 abbrev pub IsOf : Leaves Cause → cells.Tree → Event → Type 0
-IsOf leaves n (Copy from to bytes) = ((a : events.Spot) → in_row to.node to.at bytes a ≡ true → Puts n (cell_of a)) × ((a : events.Spot) → in_row from.node from.at bytes a ≡ true → Takes n (cell_of a))
-IsOf leaves n (Fill to elem count v) = (a : events.Spot) → in_row to.node to.at (count * width elem) a ≡ true → Puts n (cell_of a)
+IsOf leaves n (Copy from to bytes) = ((a : events.Spot) → in_row to.node to.at bytes a ≡ true → Puts n (cell_of a))
+    × ((a : events.Spot) → in_row from.node from.at bytes a ≡ true → Takes n (cell_of a))
+IsOf leaves n (Fill to elem count v) = (a : events.Spot) → in_row to.node to.at (count * width elem) a ≡ true
+    → Puts n (cell_of a)
 IsOf leaves n (Accumulate op elem from to count) =
-    ((a : events.Spot) → in_row to.node to.at (count * width elem) a ≡ true → Adds n (record { op = record { red = op; elem = elem }; head = spot a.node (a.at - place_in elem to.at a) }) (cell_of a))
+    ((a : events.Spot) → in_row to.node to.at (count * width elem) a ≡ true
+    → Adds n (record { op = record { red = op; elem = elem }; head = spot a.node (a.at - place_in elem to.at a) })
+    (cell_of a))
     × ((a : events.Spot) → in_row from.node from.at (count * width elem) a ≡ true → Takes n (cell_of a))
 IsOf leaves n (Leaf node code vs path) =
     ((a : events.Spot) → in_views node (written_views leaves code vs) a ≡ true → Puts n (cell_of a))
@@ -57,7 +63,8 @@ pub record IsCalled (leaves : Leaves Cause) (code : ℕ) (vs : List View) : Type
 abbrev pub MayRun : Leaves Cause → Event → Type 0
 MayRun leaves (Copy from to bytes) = ShareNothing from.node from.at bytes to.node to.at bytes
 MayRun leaves (Fill to elem count v) = Unit {0}
-MayRun leaves (Accumulate op elem from to count) = ShareNothing from.node from.at (count * width elem) to.node to.at (count * width elem)
+MayRun leaves (Accumulate op elem from to count)
+    = ShareNothing from.node from.at (count * width elem) to.node to.at (count * width elem)
 MayRun leaves (Leaf node code vs path) = IsCalled leaves code vs × AreApart (leaves.written code) vs
 
 -- ---- leaves, counted

@@ -10,11 +10,14 @@ use Rattle.sq_cells.specs.Fits.{ActsFit}
 use Rattle.sq_alike.specs.Alike.{Does, MayRun, Weight, leaf_count, kind_of, IsLike}
 
 abbrev pub AlikeEndAlike : Type 0
-AlikeEndAlike = (leaves : Leaves Cause) (t : PlanTree) (n : cells.Tree) → IsLike leaves t n → ActsFit n → Does leaves t n
+AlikeEndAlike = (leaves : Leaves Cause) (t : PlanTree) (n : cells.Tree) → IsLike leaves t n → ActsFit n
+    → Does leaves t n
 
 -- its leaf events are those of the tree over cells
 abbrev pub AlikeCountAlike : Type 0
-AlikeCountAlike = (leaves : Leaves Cause) (t : PlanTree) (n : cells.Tree) → IsLike leaves t n → (f : Weight) → leaf_count f t ≡ leaf_events (kind_of f) n
+AlikeCountAlike = (leaves : Leaves Cause) (t : PlanTree) (n : cells.Tree) → IsLike leaves t n → (f : Weight)
+    → leaf_count f t ≡ leaf_events (kind_of f) n
 
 abbrev pub AlikeAreSafe : Type 0
-AlikeAreSafe = (leaves : Leaves Cause) (t : PlanTree) (n : cells.Tree) → IsLike leaves t n → ActsFit n → Independent n → PathsApart n → EachUnordered (AreIndependent leaves) t × AllEvents (MayRun leaves) t
+AlikeAreSafe = (leaves : Leaves Cause) (t : PlanTree) (n : cells.Tree) → IsLike leaves t n → ActsFit n → Independent n
+    → PathsApart n → EachUnordered (AreIndependent leaves) t × AllEvents (MayRun leaves) t

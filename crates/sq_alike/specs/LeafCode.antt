@@ -31,17 +31,20 @@ abbrev pub given : List Bool → List events.Array → events.LeafEnd Cause → 
 given ws xs (Finishes outs) = Gives (spread ws outs xs)
 given ws xs (Traps cause) = Fails cause
 
--- what the leaf of a number does with arrays of these shapes; the lists that leaf code over cells is handed have the last
--- item first
+-- what the leaf of a number does with arrays of these shapes; the lists that leaf code over cells is handed have the
+-- last item first
 abbrev pub does : Leaves Cause → (code : ℕ) → List Shape → List (List ℕ) → cells.LeafEnd
-does leaves code shapes vals = let xs = arrays shapes (reverse vals) in given (leaves.written code) xs (leaves.ends code xs)
+does leaves code shapes vals = let xs
+    = arrays shapes (reverse vals) in given (leaves.written code) xs (leaves.ends code xs)
 
 abbrev pub code_of : Leaves Cause → (code : ℕ) → List Shape → Code
 code_of leaves code shapes = record { number = code; does = does leaves code shapes }
 
 -- the arrays of a leaf are these views
-pub record AreViews (node : ℕ) (written : List Bool) (vs : List View) (count : ℕ) (size : ℕ → ℕ) (writes : ℕ → Bool) (cell : ℕ → ℕ → Spot) : Type 0 where
+pub record AreViews (node : ℕ) (written : List Bool) (vs : List View) (count : ℕ) (size : ℕ → ℕ) (writes : ℕ → Bool)
+    (cell : ℕ → ℕ → Spot) : Type 0 where
   pub many : count ≡ length vs
   pub size_is : (i : ℕ) (v : View) → slice_get vs i ≡ Some v → size i ≡ length (places v)
-  pub cell_is : (i k : ℕ) (v : View) → slice_get vs i ≡ Some v → k < length (places v) → cell i k ≡ spot node (get_or (places v) k 0)
+  pub cell_is : (i k : ℕ) (v : View) → slice_get vs i ≡ Some v → k < length (places v) → cell i k
+      ≡ spot node (get_or (places v) k 0)
   pub writes_is : (i : ℕ) → i < count → writes i ≡ get_or written i false

@@ -1,10 +1,15 @@
 -- One leaf event for each leaf call of the source, with its path.
-use Rattle.std.proofs.Common.{◌≡◌, ℕ, zero, suc, ◌+◌, ◌<◌, Bool, true, false, cond, eqb, Option, Some, None, refl, sym, ap, ap₂, ◌∙◌, arith, List, [], ◌∷◌, ◌++◌, ⊎_elim, eqb-true, eq-eqb}
+use Rattle.std.proofs.Common.{◌≡◌, ℕ, zero, suc, ◌+◌, ◌<◌, Bool, true, false, cond, eqb, Option, Some, None, refl, sym}
+use Rattle.std.proofs.Common.{ap, ap₂, ◌∙◌, arith, List, [], ◌∷◌, ◌++◌, ⊎_elim, eqb-true, eq-eqb}
 use Rattle.sq_cells.specs.Cells.{Spot, spot}
 use Rattle.sq_cells.specs.Tree.{Tree, Empty}
 use Rattle.sq_cells.specs.Machine.{Form, Node, child_of, fan_of, Rule, lane_of}
-use Rattle.sq_cells.specs.Work.{Mode, Input, Output, Both, Local, Reduced, Array, Work, Nothing, Then, Each, AtOnce, Call, Hold, Reduce, Piped, Leaf}
-use Rattle.sq_cells.specs.Lowered.{Layout, node_of, layout, pick, held, stays, own, bring, clear, give_back, take_one, leave_one, beside, turns, every, callee, outs, call_tree, comes, works, Stand, NoneYet, First, More, next_stand, stand, stage_of, staged, last_of, piped, set_of, piped_come, piped_work, piped_back, tree, Sound}
+use Rattle.sq_cells.specs.Work.{Mode, Input, Output, Both, Local, Reduced, Array, Work, Nothing, Then, Each, AtOnce}
+use Rattle.sq_cells.specs.Work.{Call, Hold, Reduce, Piped, Leaf}
+use Rattle.sq_cells.specs.Lowered.{Layout, node_of, layout, pick, held, stays, own, bring, clear, give_back, take_one}
+use Rattle.sq_cells.specs.Lowered.{leave_one, beside, turns, every, callee, outs, call_tree, comes, works, Stand}
+use Rattle.sq_cells.specs.Lowered.{NoneYet, First, More, next_stand, stand, stage_of, staged, last_of, piped, set_of}
+use Rattle.sq_cells.specs.Lowered.{piped_come, piped_work, piped_back, tree, Sound}
 use Rattle.sq_cells.specs.Leaves.{Kind, leaf_events, sum_below, leaf_calls, LeavesAreCalls}
 use Rattle.sq_cells.proofs.Access.{end_or_below}
 
@@ -15,7 +20,8 @@ sum_same (suc n) x y h = ap₂ (λ a b. a + b) (sum_same n x y (λ t lt. h t (om
 
 sum_zero : (n : ℕ) (x : ℕ → ℕ) → ((t : ℕ) → t < n → x t ≡ 0) → sum_below n x ≡ 0
 sum_zero zero x h = refl
-sum_zero (suc n) x h = let a = sum_zero n x (λ t lt. h t (omega arith)) in let b = h n (omega arith) in omega (arith, a, b)
+sum_zero (suc n) x h = let a = sum_zero n x (λ t lt. h t (omega arith)) in let b
+    = h n (omega arith) in omega (arith, a, b)
 
 sum_add : (n : ℕ) (x y : ℕ → ℕ) → sum_below n (λ t. x t + y t) ≡ sum_below n x + sum_below n y
 sum_add zero x y = refl
@@ -29,7 +35,8 @@ sum_every : (n : ℕ) (x : ℕ → ℕ) → sum_if every n x ≡ sum_below n x
 sum_every zero x = refl
 sum_every (suc n) x = ap (λ a. a + x n) (sum_every n x)
 
-sum_if_same : (q : ℕ → Bool) (n : ℕ) (x y : ℕ → ℕ) → ((t : ℕ) → t < n → q t ≡ true → x t ≡ y t) → sum_if q n x ≡ sum_if q n y
+sum_if_same : (q : ℕ → Bool) (n : ℕ) (x y : ℕ → ℕ) → ((t : ℕ) → t < n → q t ≡ true → x t ≡ y t) → sum_if q n x
+    ≡ sum_if q n y
 sum_if_same q zero x y h = refl
 sum_if_same q (suc n) x y h = ap₂ (λ a b. a + b) (sum_if_same q n x y (λ t lt. h t (omega arith))) (go (q n) refl)
   where
@@ -44,7 +51,8 @@ sum_one (suc c) l v lt = ⊎_elim last (λ k. before k (sum_one c l v k)) (end_o
   where
     last : l ≡ c → sum_below c (λ d. cond (eqb l d) v 0) + cond (eqb l c) v 0 ≡ v
     last e =
-        let a : sum_below c (λ d. cond (eqb l d) v 0) ≡ 0 = sum_zero c (λ d. cond (eqb l d) v 0) (λ d ld. other d ld (eqb l d) refl) in
+        let a : sum_below c (λ d. cond (eqb l d) v 0) ≡ 0
+        = sum_zero c (λ d. cond (eqb l d) v 0) (λ d ld. other d ld (eqb l d) refl) in
         let b : cond (eqb l c) v 0 ≡ v = ap (λ z. cond z v 0) (eq-eqb l c e) in
         omega (arith, a, b)
       where
@@ -55,7 +63,8 @@ sum_one (suc c) l v lt = ⊎_elim last (λ k. before k (sum_one c l v k)) (end_o
             bar g = omega (arith, g, e, ld)
         other d ld false f = refl
 
-    before : l < c → sum_below c (λ d. cond (eqb l d) v 0) ≡ v → sum_below c (λ d. cond (eqb l d) v 0) + cond (eqb l c) v 0 ≡ v
+    before : l < c → sum_below c (λ d. cond (eqb l d) v 0) ≡ v → sum_below c (λ d. cond (eqb l d) v 0)
+        + cond (eqb l c) v 0 ≡ v
     before k a = let b = none (eqb l c) refl in omega (arith, a, b)
       where
         none : (b : Bool) → eqb l c ≡ b → cond b v 0 ≡ 0
@@ -69,11 +78,13 @@ from_zero : (n : ℕ) → 0 + n ≡ n
 from_zero n = omega arith
 
 -- lanes have all iterations
-sum_lanes : (c n : ℕ) (lane : ℕ → ℕ) (x : ℕ → ℕ) → ((t : ℕ) → t < n → lane t < c) → sum_below c (λ d. sum_if (λ t. eqb (lane t) d) n x) ≡ sum_below n x
+sum_lanes : (c n : ℕ) (lane : ℕ → ℕ) (x : ℕ → ℕ) → ((t : ℕ) → t < n → lane t < c)
+    → sum_below c (λ d. sum_if (λ t. eqb (lane t) d) n x) ≡ sum_below n x
 sum_lanes c zero lane x there = sum_zero c (λ d. 0) (λ d lt. refl)
 sum_lanes c (suc n) lane x there =
     sum_add c (λ d. sum_if (λ t. eqb (lane t) d) n x) (λ d. cond (eqb (lane n) d) (x n) 0)
-    ∙ ap₂ (λ a b. a + b) (sum_lanes c n lane x (λ t lt. there t (omega arith))) (sum_one c (lane n) (x n) (there n (omega arith)))
+    ∙ ap₂ (λ a b. a + b) (sum_lanes c n lane x (λ t lt. there t (omega arith)))
+    (sum_one c (lane n) (x n) (there n (omega arith)))
 
 module _ (f : Kind) where
   events_beside : (n : ℕ) (g : ℕ → Tree) → leaf_events f (beside n g) ≡ sum_below n (λ i. leaf_events f (g i))
@@ -84,7 +95,8 @@ module _ (f : Kind) where
   events_pick true t = refl
   events_pick false t = refl
 
-  events_turns : (q : ℕ → Bool) (n : ℕ) (g : ℕ → Tree) → leaf_events f (turns q n g) ≡ sum_if q n (λ t. leaf_events f (g t))
+  events_turns : (q : ℕ → Bool) (n : ℕ) (g : ℕ → Tree) → leaf_events f (turns q n g)
+      ≡ sum_if q n (λ t. leaf_events f (g t))
   events_turns q zero g = refl
   events_turns q (suc n) g = ap₂ (λ a b. a + b) (events_turns q n g) (events_pick (q n) (g n))
 
@@ -142,22 +154,45 @@ module _ (f : Kind) where
   quiet_other true t e = refl
   quiet_other false t e = e
 
-  events_callee : (n : ℕ) (arrays : ℕ → Array) (at' : Layout) (body : Tree) → leaf_events f (callee n arrays at' body) ≡ leaf_events f body
-  events_callee n arrays at' body = ap (λ a. a + leaf_events f body) (quiet_beside n (λ i. clear (arrays i).mode (arrays i).size (λ k. at' (spot i k))) (λ i. no_clear (arrays i).mode (arrays i).size (λ k. at' (spot i k)))) ∙ from_zero (leaf_events f body)
+  events_callee : (n : ℕ) (arrays : ℕ → Array) (at' : Layout) (body : Tree) → leaf_events f (callee n arrays at' body)
+      ≡ leaf_events f body
+  events_callee n arrays at' body
+      = ap (λ a. a + leaf_events f body)
+      (quiet_beside n (λ i. clear (arrays i).mode (arrays i).size (λ k. at' (spot i k)))
+      (λ i. no_clear (arrays i).mode (arrays i).size (λ k. at' (spot i k)))) ∙ from_zero (leaf_events f body)
 
   events_outs : (n : ℕ) (arrays : ℕ → Array) (at at' : Layout) → leaf_events f (outs n arrays at at') ≡ 0
-  events_outs n arrays at at' = quiet_beside n (λ i. give_back (arrays i).mode (stays (arrays i).place) (arrays i).size (λ k. at' (spot i k)) (λ k. at ((arrays i).block k))) (λ i. no_give (arrays i).mode (stays (arrays i).place) (arrays i).size (λ k. at' (spot i k)) (λ k. at ((arrays i).block k)))
+  events_outs n arrays at at' = quiet_beside n
+      (λ i. give_back (arrays i).mode (stays (arrays i).place) (arrays i).size (λ k. at' (spot i k))
+      (λ k. at ((arrays i).block k)))
+      (λ i. no_give (arrays i).mode (stays (arrays i).place) (arrays i).size (λ k. at' (spot i k))
+      (λ k. at ((arrays i).block k)))
 
   events_comes : (n : ℕ) (arrays : ℕ → Array) (at at' : Layout) → leaf_events f (comes n arrays at at') ≡ 0
-  events_comes n arrays at at' = quiet_beside n (λ i. pick (held (arrays i).place) Empty (bring (arrays i).mode (stays (arrays i).place) (arrays i).size (λ k. at ((arrays i).block k)) (λ k. at' (spot i k)))) (λ i. quiet_other (held (arrays i).place) _ (no_bring (arrays i).mode (stays (arrays i).place) (arrays i).size (λ k. at ((arrays i).block k)) (λ k. at' (spot i k))))
+  events_comes n arrays at at' = quiet_beside n
+      (λ i. pick (held (arrays i).place) Empty
+      (bring (arrays i).mode (stays (arrays i).place) (arrays i).size (λ k. at ((arrays i).block k))
+      (λ k. at' (spot i k)))) (λ i. quiet_other (held (arrays i).place) _
+      (no_bring (arrays i).mode (stays (arrays i).place) (arrays i).size (λ k. at ((arrays i).block k))
+      (λ k. at' (spot i k))))
 
-  events_works : (n : ℕ) (arrays : ℕ → Array) (at at' : Layout) (body : Tree) → leaf_events f (works n arrays at at' body) ≡ leaf_events f body
+  events_works : (n : ℕ) (arrays : ℕ → Array) (at at' : Layout) (body : Tree)
+      → leaf_events f (works n arrays at at' body) ≡ leaf_events f body
   events_works n arrays at at' body =
-      ap₂ (λ a b. a + b) (quiet_beside n (λ i. pick (held (arrays i).place) (bring (arrays i).mode (stays (arrays i).place) (arrays i).size (λ k. at ((arrays i).block k)) (λ k. at' (spot i k))) Empty) (λ i. quiet_pick (held (arrays i).place) _ (no_bring (arrays i).mode (stays (arrays i).place) (arrays i).size (λ k. at ((arrays i).block k)) (λ k. at' (spot i k))))) (events_callee n arrays at' body) ∙ from_zero (leaf_events f body)
+      ap₂ (λ a b. a + b) (quiet_beside n
+      (λ i. pick (held (arrays i).place)
+      (bring (arrays i).mode (stays (arrays i).place) (arrays i).size (λ k. at ((arrays i).block k))
+      (λ k. at' (spot i k))) Empty) (λ i. quiet_pick (held (arrays i).place) _
+      (no_bring (arrays i).mode (stays (arrays i).place) (arrays i).size (λ k. at ((arrays i).block k))
+      (λ k. at' (spot i k))))) (events_callee n arrays at' body) ∙ from_zero (leaf_events f body)
 
-  events_call : (n : ℕ) (arrays : ℕ → Array) (at at' : Layout) (body : Tree) → leaf_events f (call_tree n arrays at at' body) ≡ leaf_events f body
+  events_call : (n : ℕ) (arrays : ℕ → Array) (at at' : Layout) (body : Tree)
+      → leaf_events f (call_tree n arrays at at' body) ≡ leaf_events f body
   events_call n arrays at at' body =
-      let a = quiet_beside n (λ i. bring (arrays i).mode (stays (arrays i).place) (arrays i).size (λ k. at ((arrays i).block k)) (λ k. at' (spot i k))) (λ i. no_bring (arrays i).mode (stays (arrays i).place) (arrays i).size (λ k. at ((arrays i).block k)) (λ k. at' (spot i k))) in
+      let a = quiet_beside n (λ i. bring (arrays i).mode (stays (arrays i).place) (arrays i).size
+      (λ k. at ((arrays i).block k)) (λ k. at' (spot i k)))
+      (λ i. no_bring (arrays i).mode (stays (arrays i).place) (arrays i).size (λ k. at ((arrays i).block k))
+      (λ k. at' (spot i k))) in
       let b = events_callee n arrays at' body in
       let c = events_outs n arrays at at' in
       ap₂ (λ x y. x + y) a (ap₂ (λ x y. x + y) b c) ∙ plain (leaf_events f body)
@@ -166,7 +201,8 @@ module _ (f : Kind) where
       plain n = omega arith
 
   -- overlapped transfers
-  module _ (come work back : ℕ → Tree) (q : ℕ → Bool) (no_come : (t : ℕ) → leaf_events f (come t) ≡ 0) (no_back : (t : ℕ) → leaf_events f (back t) ≡ 0) where
+  module _ (come work back : ℕ → Tree) (q : ℕ → Bool) (no_come : (t : ℕ) → leaf_events f (come t) ≡ 0)
+      (no_back : (t : ℕ) → leaf_events f (back t) ≡ 0) where
     -- the iteration that is in and has not worked
     abbrev pending : Stand → ℕ
     pending NoneYet = 0
@@ -183,11 +219,16 @@ module _ (f : Kind) where
     events_stage (First t) n = let a = no_come n in omega (arith, a)
     events_stage (More p t) n = let a = no_come n in let b = no_back p in omega (arith, a, b)
 
-    events_staged : (n : ℕ) → leaf_events f (staged come work back q n) + pending (stand q n) ≡ sum_if q n (λ t. leaf_events f (work t))
+    events_staged : (n : ℕ) → leaf_events f (staged come work back q n) + pending (stand q n)
+        ≡ sum_if q n (λ t. leaf_events f (work t))
     events_staged zero = refl
     events_staged (suc n) = go (q n) refl (events_staged n)
       where
-        go : (b : Bool) → q n ≡ b → leaf_events f (staged come work back q n) + pending (stand q n) ≡ sum_if q n (λ t. leaf_events f (work t)) → leaf_events f (staged come work back q n) + leaf_events f (pick b (stage_of come work back (stand q n) n) Empty) + pending (cond b (next_stand (stand q n) n) (stand q n)) ≡ sum_if q n (λ t. leaf_events f (work t)) + cond b (leaf_events f (work n)) 0
+        go : (b : Bool) → q n ≡ b → leaf_events f (staged come work back q n) + pending (stand q n)
+            ≡ sum_if q n (λ t. leaf_events f (work t)) → leaf_events f (staged come work back q n)
+            + leaf_events f (pick b (stage_of come work back (stand q n) n) Empty)
+            + pending (cond b (next_stand (stand q n) n) (stand q n)) ≡ sum_if q n (λ t. leaf_events f (work t))
+            + cond b (leaf_events f (work n)) 0
         go true e a = let b = events_stage (stand q n) n in let c = pending_next (stand q n) n in omega (arith, a, b, c)
         go false e a = omega (arith, a)
 
@@ -200,58 +241,115 @@ module _ (f : Kind) where
     events_piped n = ap (λ x. leaf_events f (staged come work back q n) + x) (events_last (stand q n)) ∙ events_staged n
 
   -- one list of a taken loop, at child k
-  events_list : (spread : Option Rule) (n : ℕ) (form second : Form) (c : ℕ) (arrays : ℕ → ℕ → Array) (node : Node) (k : ℕ) (at : Layout) (q : ℕ → Bool) (body : ℕ → Tree) → leaf_events f (piped (piped_come spread node k n form second c arrays at) (piped_work spread node k n form second c arrays at body) (piped_back spread node k n form second c arrays at) q n) ≡ sum_if q n (λ t. leaf_events f (body t))
+  events_list : (spread : Option Rule) (n : ℕ) (form second : Form) (c : ℕ) (arrays : ℕ → ℕ → Array) (node : Node)
+      (k : ℕ) (at : Layout) (q : ℕ → Bool) (body : ℕ → Tree)
+      → leaf_events f (piped (piped_come spread node k n form second c arrays at)
+      (piped_work spread node k n form second c arrays at body) (piped_back spread node k n form second c arrays at) q
+      n) ≡ sum_if q n (λ t. leaf_events f (body t))
   events_list spread n form second c arrays node k at q body =
-      events_piped (piped_come spread node k n form second c arrays at) (piped_work spread node k n form second c arrays at body) (piped_back spread node k n form second c arrays at) q
+      events_piped (piped_come spread node k n form second c arrays at)
+      (piped_work spread node k n form second c arrays at body) (piped_back spread node k n form second c arrays at)
+      q
       (λ t. events_comes c (arrays t) at (layout (child_of node k) (set_of spread node n form second t) (arrays t) at))
       (λ t. events_outs c (arrays t) at (layout (child_of node k) (set_of spread node n form second t) (arrays t) at)) n
-      ∙ sum_if_same q n (λ t. leaf_events f (piped_work spread node k n form second c arrays at body t)) (λ t. leaf_events f (body t)) (λ t lt y. events_works c (arrays t) at (layout (child_of node k) (set_of spread node n form second t) (arrays t) at) (body t))
+      ∙ sum_if_same q n (λ t. leaf_events f (piped_work spread node k n form second c arrays at body t))
+      (λ t. leaf_events f (body t)) (λ t lt y. events_works c (arrays t) at
+      (layout (child_of node k) (set_of spread node n form second t) (arrays t) at) (body t))
 
   -- lists beside one another, one for each child
-  lists : (c n : ℕ) (lane x : ℕ → ℕ) (g : ℕ → Tree) → ((t : ℕ) → t < n → lane t < c) → ((d : ℕ) → leaf_events f (g d) ≡ sum_if (λ t. eqb (lane t) d) n x) → leaf_events f (beside c g) ≡ sum_below n x
-  lists c n lane x g there each = events_beside c g ∙ sum_same c (λ d. leaf_events f (g d)) (λ d. sum_if (λ t. eqb (lane t) d) n x) (λ d ld. each d) ∙ sum_lanes c n lane x there
+  lists : (c n : ℕ) (lane x : ℕ → ℕ) (g : ℕ → Tree) → ((t : ℕ) → t < n → lane t < c)
+      → ((d : ℕ) → leaf_events f (g d) ≡ sum_if (λ t. eqb (lane t) d) n x) → leaf_events f (beside c g) ≡ sum_below n x
+  lists c n lane x g there each = events_beside c g
+      ∙ sum_same c (λ d. leaf_events f (g d)) (λ d. sum_if (λ t. eqb (lane t) d) n x) (λ d ld. each d)
+      ∙ sum_lanes c n lane x there
 
-  in_turn : (n : ℕ) (g : ℕ → Tree) (x : ℕ → ℕ) → ((t : ℕ) → t < n → leaf_events f (g t) ≡ x t) → leaf_events f (turns every n g) ≡ sum_below n x
-  in_turn n g x h = events_turns every n g ∙ sum_every n (λ t. leaf_events f (g t)) ∙ sum_same n (λ t. leaf_events f (g t)) x h
+  in_turn : (n : ℕ) (g : ℕ → Tree) (x : ℕ → ℕ) → ((t : ℕ) → t < n → leaf_events f (g t) ≡ x t)
+      → leaf_events f (turns every n g) ≡ sum_below n x
+  in_turn n g x h = events_turns every n g ∙ sum_every n (λ t. leaf_events f (g t))
+      ∙ sum_same n (λ t. leaf_events f (g t)) x h
 
-  pub leaves_counted : (w : Work) (node : Node) (kid : ℕ) (at : Layout) (path : List ℕ) → Sound w node kid → leaf_events f (tree w node kid at path) ≡ leaf_calls f w path
+  pub leaves_counted : (w : Work) (node : Node) (kid : ℕ) (at : Layout) (path : List ℕ) → Sound w node kid
+      → leaf_events f (tree w node kid at path) ≡ leaf_calls f w path
   leaves_counted Nothing node kid at path s = refl
-  leaves_counted (Then a b) node kid at path s = ap₂ (λ x y. x + y) (leaves_counted a node kid at path s.0) (leaves_counted b node kid at path s.1)
-  leaves_counted (Each n w) node kid at path s = in_turn n (λ t. tree (w t) node kid at (path ++ t ∷ [])) (λ t. leaf_calls f (w t) (path ++ t ∷ [])) (λ t lt. leaves_counted (w t) node kid at (path ++ t ∷ []) (s t lt))
-  leaves_counted (AtOnce None n w) node kid at path s = in_turn n (λ t. tree (w t) node kid at (path ++ t ∷ [])) (λ t. leaf_calls f (w t) (path ++ t ∷ [])) (λ t lt. leaves_counted (w t) node kid at (path ++ t ∷ []) (s.1 t lt).1)
+  leaves_counted (Then a b) node kid at path s
+      = ap₂ (λ x y. x + y) (leaves_counted a node kid at path s.0) (leaves_counted b node kid at path s.1)
+  leaves_counted (Each n w) node kid at path s
+      = in_turn n (λ t. tree (w t) node kid at (path ++ t ∷ [])) (λ t. leaf_calls f (w t) (path ++ t ∷ []))
+      (λ t lt. leaves_counted (w t) node kid at (path ++ t ∷ []) (s t lt))
+  leaves_counted (AtOnce None n w) node kid at path s
+      = in_turn n (λ t. tree (w t) node kid at (path ++ t ∷ [])) (λ t. leaf_calls f (w t) (path ++ t ∷ []))
+      (λ t lt. leaves_counted (w t) node kid at (path ++ t ∷ []) (s.1 t lt).1)
   leaves_counted (AtOnce (Some rule) n w) node kid at path s =
-      lists (fan_of node) n (lane_of rule node n) (λ t. leaf_calls f (w t) (path ++ t ∷ [])) (λ c. turns (λ t. eqb (lane_of rule node n t) c) n (λ t. tree (w t) node c at (path ++ t ∷ []))) (λ t lt. (s.1 t lt).0)
+      lists (fan_of node) n (lane_of rule node n) (λ t. leaf_calls f (w t) (path ++ t ∷ []))
+      (λ c. turns (λ t. eqb (lane_of rule node n t) c) n (λ t. tree (w t) node c at (path ++ t ∷ [])))
+      (λ t lt. (s.1 t lt).0)
       (λ d. events_turns (λ t. eqb (lane_of rule node n t) d) n (λ t. tree (w t) node d at (path ++ t ∷ []))
-      ∙ sum_if_same (λ t. eqb (lane_of rule node n t) d) n (λ t. leaf_events f (tree (w t) node d at (path ++ t ∷ []))) (λ t. leaf_calls f (w t) (path ++ t ∷ [])) (λ t lt y. ap (λ k. leaf_events f (tree (w t) node k at (path ++ t ∷ []))) (sym (eqb-true (lane_of rule node n t) d y)) ∙ leaves_counted (w t) node (lane_of rule node n t) at (path ++ t ∷ []) (s.1 t lt).1))
+      ∙ sum_if_same (λ t. eqb (lane_of rule node n t) d) n (λ t. leaf_events f (tree (w t) node d at (path ++ t ∷ [])))
+      (λ t. leaf_calls f (w t) (path ++ t ∷ []))
+      (λ t lt y. ap (λ k. leaf_events f (tree (w t) node k at (path ++ t ∷ [])))
+      (sym (eqb-true (lane_of rule node n t) d y))
+      ∙ leaves_counted (w t) node (lane_of rule node n t) at (path ++ t ∷ []) (s.1 t lt).1))
   leaves_counted (Call form lower n arrays w) node kid at path s =
-      events_call n arrays at (layout (node_of lower node kid) form arrays at) (tree w (node_of lower node kid) 0 (layout (node_of lower node kid) form arrays at) path) ∙ leaves_counted w (node_of lower node kid) 0 (layout (node_of lower node kid) form arrays at) path s.2
+      events_call n arrays at (layout (node_of lower node kid) form arrays at)
+      (tree w (node_of lower node kid) 0 (layout (node_of lower node kid) form arrays at) path)
+      ∙ leaves_counted w (node_of lower node kid) 0 (layout (node_of lower node kid) form arrays at) path s.2
   leaves_counted (Hold form n arrays w) node kid at path s =
-      let a = quiet_beside n (λ i. take_one (arrays i).mode (held (arrays i).place) (arrays i).size (λ k. at ((arrays i).block k)) (λ k. own (child_of node kid) form (spot i k))) (λ i. no_take (arrays i).mode (held (arrays i).place) (arrays i).size (λ k. at ((arrays i).block k)) (λ k. own (child_of node kid) form (spot i k))) in
-      let b = quiet_beside n (λ i. leave_one (arrays i).mode (held (arrays i).place) (arrays i).size (λ k. own (child_of node kid) form (spot i k)) (λ k. at ((arrays i).block k))) (λ i. no_leave (arrays i).mode (held (arrays i).place) (arrays i).size (λ k. own (child_of node kid) form (spot i k)) (λ k. at ((arrays i).block k))) in
+      let a = quiet_beside n (λ i. take_one (arrays i).mode (held (arrays i).place) (arrays i).size
+      (λ k. at ((arrays i).block k)) (λ k. own (child_of node kid) form (spot i k)))
+      (λ i. no_take (arrays i).mode (held (arrays i).place) (arrays i).size (λ k. at ((arrays i).block k))
+      (λ k. own (child_of node kid) form (spot i k))) in
+      let b = quiet_beside n (λ i. leave_one (arrays i).mode (held (arrays i).place) (arrays i).size
+      (λ k. own (child_of node kid) form (spot i k)) (λ k. at ((arrays i).block k)))
+      (λ i. no_leave (arrays i).mode (held (arrays i).place) (arrays i).size
+      (λ k. own (child_of node kid) form (spot i k)) (λ k. at ((arrays i).block k))) in
       ap₂ (λ x y. x + y) a (ap₂ (λ x y. x + y) (leaves_counted w node kid at path s.1) b) ∙ plain (leaf_calls f w path)
     where
       plain : (n : ℕ) → 0 + (n + 0) ≡ n
       plain n = omega arith
   leaves_counted (Reduce op size block which None n form lower c arrays w) node kid at path s =
-      in_turn n (λ t. call_tree (c t) (arrays t) at (layout (node_of lower node kid) (form t) (arrays t) at) (tree (w t) (node_of lower node kid) 0 (layout (node_of lower node kid) (form t) (arrays t) at) (path ++ t ∷ []))) (λ t. leaf_calls f (w t) (path ++ t ∷ []))
-      (λ t lt. events_call (c t) (arrays t) at (layout (node_of lower node kid) (form t) (arrays t) at) _ ∙ leaves_counted (w t) (node_of lower node kid) 0 (layout (node_of lower node kid) (form t) (arrays t) at) (path ++ t ∷ []) (s.1.1 t lt).1.2)
+      in_turn n (λ t. call_tree (c t) (arrays t) at (layout (node_of lower node kid) (form t) (arrays t) at)
+      (tree (w t) (node_of lower node kid) 0 (layout (node_of lower node kid) (form t) (arrays t) at)
+      (path ++ t ∷ []))) (λ t. leaf_calls f (w t) (path ++ t ∷ []))
+      (λ t lt. events_call (c t) (arrays t) at (layout (node_of lower node kid) (form t) (arrays t) at) _
+      ∙ leaves_counted (w t) (node_of lower node kid) 0 (layout (node_of lower node kid) (form t) (arrays t) at)
+      (path ++ t ∷ []) (s.1.1 t lt).1.2)
   leaves_counted (Reduce op size block which (Some rule) n form lower c arrays w) node kid at path s =
-      lists (fan_of node) n (lane_of rule node n) (λ t. leaf_calls f (w t) (path ++ t ∷ [])) (λ d. turns (λ t. eqb (lane_of rule node n t) d) n (λ t. call_tree (c t) (arrays t) at (layout (node_of lower node d) (form t) (arrays t) at) (tree (w t) (node_of lower node d) 0 (layout (node_of lower node d) (form t) (arrays t) at) (path ++ t ∷ [])))) (λ t lt. (s.1.1 t lt).0)
-      (λ d. events_turns (λ t. eqb (lane_of rule node n t) d) n (λ t. call_tree (c t) (arrays t) at (layout (node_of lower node d) (form t) (arrays t) at) (tree (w t) (node_of lower node d) 0 (layout (node_of lower node d) (form t) (arrays t) at) (path ++ t ∷ [])))
+      lists (fan_of node) n (lane_of rule node n) (λ t. leaf_calls f (w t) (path ++ t ∷ []))
+      (λ d. turns (λ t. eqb (lane_of rule node n t) d) n
+      (λ t. call_tree (c t) (arrays t) at (layout (node_of lower node d) (form t) (arrays t) at)
+      (tree (w t) (node_of lower node d) 0 (layout (node_of lower node d) (form t) (arrays t) at)
+      (path ++ t ∷ [])))) (λ t lt. (s.1.1 t lt).0)
+      (λ d. events_turns (λ t. eqb (lane_of rule node n t) d) n
+      (λ t. call_tree (c t) (arrays t) at (layout (node_of lower node d) (form t) (arrays t) at)
+      (tree (w t) (node_of lower node d) 0 (layout (node_of lower node d) (form t) (arrays t) at) (path ++ t ∷ [])))
       ∙ sum_if_same (λ t. eqb (lane_of rule node n t) d) n _ (λ t. leaf_calls f (w t) (path ++ t ∷ []))
-      (λ t lt y. events_call (c t) (arrays t) at (layout (node_of lower node d) (form t) (arrays t) at) (tree (w t) (node_of lower node d) 0 (layout (node_of lower node d) (form t) (arrays t) at) (path ++ t ∷ []))
-      ∙ ap (λ k. leaf_events f (tree (w t) (node_of lower node k) 0 (layout (node_of lower node k) (form t) (arrays t) at) (path ++ t ∷ []))) (sym (eqb-true (lane_of rule node n t) d y))
-      ∙ leaves_counted (w t) (node_of lower node (lane_of rule node n t)) 0 (layout (node_of lower node (lane_of rule node n t)) (form t) (arrays t) at) (path ++ t ∷ []) (s.1.1 t lt).1.2))
+      (λ t lt y. events_call (c t) (arrays t) at (layout (node_of lower node d) (form t) (arrays t) at)
+      (tree (w t) (node_of lower node d) 0 (layout (node_of lower node d) (form t) (arrays t) at) (path ++ t ∷ []))
+      ∙ ap (λ k. leaf_events f (tree (w t) (node_of lower node k) 0
+      (layout (node_of lower node k) (form t) (arrays t) at) (path ++ t ∷ [])))
+      (sym (eqb-true (lane_of rule node n t) d y))
+      ∙ leaves_counted (w t) (node_of lower node (lane_of rule node n t)) 0
+      (layout (node_of lower node (lane_of rule node n t)) (form t) (arrays t) at) (path ++ t ∷ []) (s.1.1 t lt).1.2))
   leaves_counted (Piped None n form second c arrays w) node kid at path s =
-      events_list None n form second c arrays node kid at every (λ t. tree (w t) (child_of node kid) 0 (layout (child_of node kid) (set_of None node n form second t) (arrays t) at) (path ++ t ∷ []))
+      events_list None n form second c arrays node kid at every
+      (λ t. tree (w t) (child_of node kid) 0
+      (layout (child_of node kid) (set_of None node n form second t) (arrays t) at) (path ++ t ∷ []))
       ∙ sum_every n _
-      ∙ sum_same n _ (λ t. leaf_calls f (w t) (path ++ t ∷ [])) (λ t lt. leaves_counted (w t) (child_of node kid) 0 (layout (child_of node kid) (set_of None node n form second t) (arrays t) at) (path ++ t ∷ []) (s.3 t lt).2)
+      ∙ sum_same n _ (λ t. leaf_calls f (w t) (path ++ t ∷ []))
+      (λ t lt. leaves_counted (w t) (child_of node kid) 0
+      (layout (child_of node kid) (set_of None node n form second t) (arrays t) at) (path ++ t ∷ []) (s.3 t lt).2)
   leaves_counted (Piped (Some rule) n form second c arrays w) node kid at path s =
       lists (fan_of node) n (lane_of rule node n) (λ t. leaf_calls f (w t) (path ++ t ∷ [])) _ (λ t lt. (s.3.1 t lt).0)
-      (λ d. events_list (Some rule) n form second c arrays node d at (λ t. eqb (lane_of rule node n t) d) (λ t. tree (w t) (child_of node d) 0 (layout (child_of node d) (set_of (Some rule) node n form second t) (arrays t) at) (path ++ t ∷ []))
+      (λ d. events_list (Some rule) n form second c arrays node d at (λ t. eqb (lane_of rule node n t) d)
+      (λ t. tree (w t) (child_of node d) 0
+      (layout (child_of node d) (set_of (Some rule) node n form second t) (arrays t) at) (path ++ t ∷ []))
       ∙ sum_if_same (λ t. eqb (lane_of rule node n t) d) n _ (λ t. leaf_calls f (w t) (path ++ t ∷ []))
-      (λ t lt y. ap (λ k. leaf_events f (tree (w t) (child_of node k) 0 (layout (child_of node k) (set_of (Some rule) node n form second t) (arrays t) at) (path ++ t ∷ []))) (sym (eqb-true (lane_of rule node n t) d y))
-      ∙ leaves_counted (w t) (child_of node (lane_of rule node n t)) 0 (layout (child_of node (lane_of rule node n t)) (set_of (Some rule) node n form second t) (arrays t) at) (path ++ t ∷ []) (s.3.1 t lt).1.2))
+      (λ t lt y. ap (λ k. leaf_events f
+      (tree (w t) (child_of node k) 0 (layout (child_of node k) (set_of (Some rule) node n form second t) (arrays t) at)
+      (path ++ t ∷ []))) (sym (eqb-true (lane_of rule node n t) d y))
+      ∙ leaves_counted (w t) (child_of node (lane_of rule node n t)) 0
+      (layout (child_of node (lane_of rule node n t)) (set_of (Some rule) node n form second t) (arrays t) at)
+      (path ++ t ∷ []) (s.3.1 t lt).1.2))
   leaves_counted (Leaf code n size writes) node kid at path s = refl
 
 pub leaves_are_calls : LeavesAreCalls

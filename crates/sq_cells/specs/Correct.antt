@@ -38,11 +38,14 @@ pub record IsEntry (root : Node) (form : Form) (n : ℕ) (arrays : ℕ → Array
 abbrev pub AnyOrder : Type 0
 AnyOrder = (op : Op) (a x y : List ℕ) → combined op (combined op a x) y ≡ combined op (combined op a y) x
 
--- from every memory that holds the source's state in the entry's buffers, whatever else it holds, the run ends as the source's meaning does
+-- from every memory that holds the source's state in the entry's buffers, whatever else it holds, the run ends as the
+-- source's meaning does
 abbrev pub LoweredFollows : Type 0
 LoweredFollows =
-    (root : Node) (form : Form) (n : ℕ) (arrays : ℕ → Array) (w : Work) (s m : State) → IsEntry root form n arrays w → ((l : Spot) → IsIn n arrays l → m (own root form l) ≡ s l) →
+    (root : Node) (form : Form) (n : ℕ) (arrays : ℕ → Array) (w : Work) (s m : State) → IsEntry root form n arrays w
+    → ((l : Spot) → IsIn n arrays l → m (own root form l) ≡ s l) →
     Follows (λ l p. IsIn n arrays l × (own root form l ≡ p)) [] (meaning w s) (run (tree w root 0 (own root form) []) m)
 
 abbrev pub LoweredIndependent : Type 0
-LoweredIndependent = (root : Node) (form : Form) (n : ℕ) (arrays : ℕ → Array) (w : Work) → IsEntry root form n arrays w → Independent (tree w root 0 (own root form) [])
+LoweredIndependent = (root : Node) (form : Form) (n : ℕ) (arrays : ℕ → Array) (w : Work) → IsEntry root form n arrays w
+    → Independent (tree w root 0 (own root form) [])

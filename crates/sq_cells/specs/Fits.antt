@@ -11,13 +11,14 @@ use Rattle.sq_cells.specs.Correct.{IsEntry}
 abbrev pub AreSeparate : ℕ → (from to : ℕ → Spot) → Type 0
 AreSeparate n from to = (j k : ℕ) → j < n → k < n → to j ≡ from k → ⊥
 
--- What is copied or added stands apart from where it goes, what is added to has each cell once, and a written array of a
--- leaf has each cell once and shares none with another.
+-- What is copied or added stands apart from where it goes, what is added to has each cell once, and a written array of
+-- a leaf has each cell once and shares none with another.
 abbrev pub ActFits : Action → Type 0
 ActFits (Copy n from to) = AreSeparate n from to
 ActFits (Fill n v to) = Unit {0}
 ActFits (Acc op n from to) = AreSeparate n from to × ((j k : ℕ) → j < n → k < n → to j ≡ to k → j ≡ k)
-ActFits (Run code count size writes cell path) = (i k j h : ℕ) → i < count → k < size i → j < count → h < size j → writes i ≡ true → cell i k ≡ cell j h → (i ≡ j) × (k ≡ h)
+ActFits (Run code count size writes cell path) = (i k j h : ℕ) → i < count → k < size i → j < count → h < size j
+    → writes i ≡ true → cell i k ≡ cell j h → (i ≡ j) × (k ≡ h)
 
 abbrev pub ActsFit : Tree → Type 0
 ActsFit Empty = Unit {0}
@@ -26,4 +27,5 @@ ActsFit (Seq a b) = ActsFit a × ActsFit b
 ActsFit (Par a b) = ActsFit a × ActsFit b
 
 abbrev pub LoweredFit : Type 0
-LoweredFit = (root : Node) (form : Form) (n : ℕ) (arrays : ℕ → Array) (w : Work) → IsEntry root form n arrays w → ActsFit (tree w root 0 (own root form) [])
+LoweredFit = (root : Node) (form : Form) (n : ℕ) (arrays : ℕ → Array) (w : Work) → IsEntry root form n arrays w
+    → ActsFit (tree w root 0 (own root form) [])

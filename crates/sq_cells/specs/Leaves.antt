@@ -34,13 +34,15 @@ leaf_calls f (Each n w) path = sum_below n (λ t. leaf_calls f (w t) (path ++ t 
 leaf_calls f (AtOnce spread n w) path = sum_below n (λ t. leaf_calls f (w t) (path ++ t ∷ []))
 leaf_calls f (Call form lower n arrays w) path = leaf_calls f w path
 leaf_calls f (Hold form n arrays w) path = leaf_calls f w path
-leaf_calls f (Reduce op size block which spread n form lower c arrays w) path = sum_below n (λ t. leaf_calls f (w t) (path ++ t ∷ []))
+leaf_calls f (Reduce op size block which spread n form lower c arrays w) path
+    = sum_below n (λ t. leaf_calls f (w t) (path ++ t ∷ []))
 leaf_calls f (Piped spread n form second c arrays w) path = sum_below n (λ t. leaf_calls f (w t) (path ++ t ∷ []))
 leaf_calls f (Leaf code n size writes) path = f code n size writes path
 
 -- one leaf event for each leaf call and no other, with the call's path, code and arrays
 abbrev pub LeavesAreCalls : Type 0
-LeavesAreCalls = (f : Kind) (w : Work) (node : Node) (kid : ℕ) (at : Layout) (path : List ℕ) → Sound w node kid → leaf_events f (tree w node kid at path) ≡ leaf_calls f w path
+LeavesAreCalls = (f : Kind) (w : Work) (node : Node) (kid : ℕ) (at : Layout) (path : List ℕ) → Sound w node kid
+    → leaf_events f (tree w node kid at path) ≡ leaf_calls f w path
 
 -- the leaf events with a path
 abbrev pub ActLeaf : Action → List ℕ → Type 0
@@ -70,11 +72,14 @@ abbrev pub LeafAt : Work → (node : Node) (kid : ℕ) → (path : List ℕ) →
 LeafAt Nothing node kid path code p x = ⊥
 LeafAt (Then a b) node kid path code p x = LeafAt a node kid path code p x ⊎ LeafAt b node kid path code p x
 LeafAt (Each n w) node kid path code p x = (t : ℕ) × (t < n) × LeafAt (w t) node kid (path ++ t ∷ []) code p x
-LeafAt (AtOnce spread n w) node kid path code p x = (t : ℕ) × (t < n) × LeafAt (w t) node (lane_kid spread node kid n t) (path ++ t ∷ []) code p x
+LeafAt (AtOnce spread n w) node kid path code p x = (t : ℕ) × (t < n)
+    × LeafAt (w t) node (lane_kid spread node kid n t) (path ++ t ∷ []) code p x
 LeafAt (Call form lower n arrays w) node kid path code p x = LeafAt w (node_of lower node kid) 0 path code p x
 LeafAt (Hold form n arrays w) node kid path code p x = LeafAt w node kid path code p x
-LeafAt (Reduce op size block which spread n form lower c arrays w) node kid path code p x = (t : ℕ) × (t < n) × LeafAt (w t) (node_of lower node (lane_kid spread node kid n t)) 0 (path ++ t ∷ []) code p x
-LeafAt (Piped spread n form second c arrays w) node kid path code p x = (t : ℕ) × (t < n) × LeafAt (w t) (child_of node (lane_kid spread node kid n t)) 0 (path ++ t ∷ []) code p x
+LeafAt (Reduce op size block which spread n form lower c arrays w) node kid path code p x = (t : ℕ) × (t < n)
+    × LeafAt (w t) (node_of lower node (lane_kid spread node kid n t)) 0 (path ++ t ∷ []) code p x
+LeafAt (Piped spread n form second c arrays w) node kid path code p x = (t : ℕ) × (t < n)
+    × LeafAt (w t) (child_of node (lane_kid spread node kid n t)) 0 (path ++ t ∷ []) code p x
 LeafAt (Leaf code' n size writes) node kid path code p x = (code' ≡ code) × (path ≡ p) × (node.number ≡ x)
 
 -- a leaf event is that of such a call, and all of its cells stand at the call's node
@@ -83,7 +88,8 @@ LeafPlaced w node kid path Empty = Unit {0}
 LeafPlaced w node kid path (Act (Copy n from to)) = Unit {0}
 LeafPlaced w node kid path (Act (Fill n v to)) = Unit {0}
 LeafPlaced w node kid path (Act (Acc op n from to)) = Unit {0}
-LeafPlaced w node kid path (Act (Run code count size writes cell p)) = (x : ℕ) × LeafAt w node kid path code p x × ((i k : ℕ) → i < count → k < size i → (cell i k).area ≡ x)
+LeafPlaced w node kid path (Act (Run code count size writes cell p)) = (x : ℕ) × LeafAt w node kid path code p x
+    × ((i k : ℕ) → i < count → k < size i → (cell i k).area ≡ x)
 LeafPlaced w node kid path (Seq a b) = LeafPlaced w node kid path a × LeafPlaced w node kid path b
 LeafPlaced w node kid path (Par a b) = LeafPlaced w node kid path a × LeafPlaced w node kid path b
 
@@ -93,12 +99,16 @@ SameLevel Nothing = Unit {0}
 SameLevel (Then a b) = SameLevel a × SameLevel b
 SameLevel (Each n w) = (t : ℕ) → t < n → SameLevel (w t)
 SameLevel (AtOnce spread n w) = (t : ℕ) → t < n → SameLevel (w t)
-SameLevel (Call form lower n arrays w) = ((i : ℕ) → i < n → in_place (arrays i).place ≡ true → lower ≡ false) × SameLevel w
+SameLevel (Call form lower n arrays w) = ((i : ℕ) → i < n → in_place (arrays i).place ≡ true → lower ≡ false)
+    × SameLevel w
 SameLevel (Hold form n arrays w) = SameLevel w
-SameLevel (Reduce op size block which spread n form lower c arrays w) = (t : ℕ) → t < n → ((i : ℕ) → i < c t → in_place (arrays t i).place ≡ true → lower ≡ false) × SameLevel (w t)
+SameLevel (Reduce op size block which spread n form lower c arrays w) = (t : ℕ) → t < n
+    → ((i : ℕ) → i < c t → in_place (arrays t i).place ≡ true → lower ≡ false) × SameLevel (w t)
 SameLevel (Piped spread n form second c arrays w) = (t : ℕ) → t < n → SameLevel (w t)
 SameLevel (Leaf code n size writes) = Unit {0}
 
 -- each leaf event stands at the node of its call, with all of its arrays
 abbrev pub LeavesPlaced : Type 0
-LeavesPlaced = (w : Work) (node : Node) (kid : ℕ) (at : Layout) (path : List ℕ) → Sound w node kid → SameLevel w → ((l p : Spot) → Needs w node kid at l p ⊎ Sets w node kid at l p → (at l).area ≡ node.number) → LeafPlaced w node kid path (tree w node kid at path)
+LeavesPlaced = (w : Work) (node : Node) (kid : ℕ) (at : Layout) (path : List ℕ) → Sound w node kid → SameLevel w
+    → ((l p : Spot) → Needs w node kid at l p ⊎ Sets w node kid at l p → (at l).area ≡ node.number)
+    → LeafPlaced w node kid path (tree w node kid at path)

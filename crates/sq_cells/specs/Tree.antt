@@ -1,5 +1,6 @@
 -- A plan written out: a tree of sequences and of parts beside one another, and its run, leftmost first.
-use Rattle.std.specs.Prelude.{◌+◌, ◌-◌, ◌*◌, ◌/◌, ◌%◌, ◌≡◌, ℕ, zero, suc, ◌<◌, Bool, true, ◌⊎◌, Option, Some, None, List, [], get_or, reverse}
+use Rattle.std.specs.Prelude.{◌+◌, ◌-◌, ◌*◌, ◌/◌, ◌%◌, ◌≡◌, ℕ, zero, suc, ◌<◌, Bool, true, ◌⊎◌, Option, Some, None}
+use Rattle.std.specs.Prelude.{List, [], get_or, reverse}
 use Rattle.sq_num.specs.Elements.{width, cell}
 use Rattle.sq_num.specs.Reductions.{identity}
 use Rattle.sq_leaf.specs.declared.trap.Trap as leaf
@@ -27,8 +28,8 @@ pub record Code : Type 0 where
 unfoldable pub leaf_of : Code → List (List ℕ) → LeafEnd
 leaf_of code vals = code.does vals
 
--- byte b of two elements combined by a reduction operator, and of its identity; a list of an element's bytes has the last
--- one first
+-- byte b of two elements combined by a reduction operator, and of its identity; a list of an element's bytes has the
+-- last one first
 unfoldable pub red_of : Op → List ℕ → List ℕ → ℕ → ℕ
 red_of op xs ys b = get_or (events.combined op.red op.elem (reverse xs) (reverse ys)) b 0
 
@@ -52,14 +53,16 @@ combined op xs ys = table (width_of op) (red_of op xs ys)
 
 -- byte k of the array x after the array y was combined into it, element by element
 abbrev pub summed : Op → (x y : ℕ → ℕ) → ℕ → ℕ
-summed op x y k = red_of op (element (width_of op) x (k / width_of op)) (element (width_of op) y (k / width_of op)) (k % width_of op)
+summed op x y k = red_of op (element (width_of op) x (k / width_of op)) (element (width_of op) y (k / width_of op))
+    (k % width_of op)
 
 -- one event; an array is a count of cells and a function
 pub data Action : Type 0 where
   Copy : (n : ℕ) → (from to : ℕ → Spot) → Action
   Fill : (n : ℕ) → (value : ℕ → ℕ) → (to : ℕ → Spot) → Action
   Acc : (op : Op) (n : ℕ) → (from to : ℕ → Spot) → Action
-  Run : (code : Code) (count : ℕ) → (size : ℕ → ℕ) → (writes : ℕ → Bool) → (cell : ℕ → ℕ → Spot) → (path : List ℕ) → Action
+  Run : (code : Code) (count : ℕ) → (size : ℕ → ℕ) → (writes : ℕ → Bool) → (cell : ℕ → ℕ → Spot) → (path : List ℕ)
+      → Action
 
 pub data Tree : Type 0 where
   Empty : Tree
@@ -78,19 +81,24 @@ abbrev pub value_in : List (List ℕ) → ℕ → ℕ → ℕ
 value_in outs i k = get_or (get_or outs i []) k 0
 
 -- the written arrays are set, each cell to its value
-abbrev pub store : (count : ℕ) (size : ℕ → ℕ) (writes : ℕ → Bool) (cell : ℕ → ℕ → Spot) (val : ℕ → ℕ → ℕ) → State → State
+abbrev pub store : (count : ℕ) (size : ℕ → ℕ) (writes : ℕ → Bool) (cell : ℕ → ℕ → Spot) (val : ℕ → ℕ → ℕ) → State
+    → State
 store zero size writes cell val m = m
 store (suc i) size writes cell val m = put_if (writes i) (size i) (cell i) (val i) (store i size writes cell val m)
 
-abbrev pub leaf_after : LeafEnd → (count : ℕ) (size : ℕ → ℕ) (writes : ℕ → Bool) (cell : ℕ → ℕ → Spot) → List ℕ → State → After
-leaf_after (Gives outs) count size writes cell path m = record { mem = store count size writes cell (value_in outs) m; trap = None }
-leaf_after (Fails kind) count size writes cell path m = record { mem = m; trap = Some (record { path = path; cause = kind }) }
+abbrev pub leaf_after : LeafEnd → (count : ℕ) (size : ℕ → ℕ) (writes : ℕ → Bool) (cell : ℕ → ℕ → Spot) → List ℕ → State
+    → After
+leaf_after (Gives outs) count size writes cell path m
+    = record { mem = store count size writes cell (value_in outs) m; trap = None }
+leaf_after (Fails kind) count size writes cell path m
+    = record { mem = m; trap = Some (record { path = path; cause = kind }) }
 
 abbrev pub act : Action → State → After
 act (Copy n from to) m = record { mem = put n to (λ k. m (from k)) m; trap = None }
 act (Fill n v to) m = record { mem = put n to v m; trap = None }
 act (Acc op n from to) m = record { mem = put n to (summed op (λ j. m (to j)) (λ j. m (from j))) m; trap = None }
-act (Run code count size writes cell path) m = leaf_after (leaf_of code (values count size cell m)) count size writes cell path m
+act (Run code count size writes cell path) m
+    = leaf_after (leaf_of code (values count size cell m)) count size writes cell path m
 
 -- what follows in a sequence, unless there was a trap
 abbrev pub go_on : Option Trap → State → (State → After) → After
@@ -109,14 +117,16 @@ abbrev pub ActWrites : Action → Spot → Type 0
 ActWrites (Copy n from to) p = (k : ℕ) × (k < n) × (to k ≡ p)
 ActWrites (Fill n v to) p = (k : ℕ) × (k < n) × (to k ≡ p)
 ActWrites (Acc op n from to) p = (k : ℕ) × (k < n) × (to k ≡ p)
-ActWrites (Run code count size writes cell path) p = (i k : ℕ) × (i < count) × (k < size i) × (writes i ≡ true) × (cell i k ≡ p)
+ActWrites (Run code count size writes cell path) p = (i k : ℕ) × (i < count) × (k < size i) × (writes i ≡ true)
+    × (cell i k ≡ p)
 
 -- what an event puts, what it adds to by an operator, and what it takes
 abbrev pub ActPuts : Action → Spot → Type 0
 ActPuts (Copy n from to) p = (k : ℕ) × (k < n) × (to k ≡ p)
 ActPuts (Fill n v to) p = (k : ℕ) × (k < n) × (to k ≡ p)
 ActPuts (Acc op n from to) p = ⊥
-ActPuts (Run code count size writes cell path) p = (i k : ℕ) × (i < count) × (k < size i) × (writes i ≡ true) × (cell i k ≡ p)
+ActPuts (Run code count size writes cell path) p = (i k : ℕ) × (i < count) × (k < size i) × (writes i ≡ true)
+    × (cell i k ≡ p)
 
 -- what an accumulation adds to: its operator, and the place of the first byte of the element
 pub record Target : Type 0 where
@@ -162,7 +172,8 @@ Takes (Act a) p = ActTakes a p
 Takes (Seq a b) p = Takes a p ⊎ Takes b p
 Takes (Par a b) p = Takes a p ⊎ Takes b p
 
--- what one of the two puts or adds to is nothing of the other, but for two that add to whole elements of both by one operator
+-- what one of the two puts or adds to is nothing of the other, but for two that add to whole elements of both by one
+-- operator
 pub record IsApart (a b : Tree) : Type 0 where
   pub puts_puts : (p : Spot) → Puts a p → Puts b p → ⊥
   pub puts_takes : (p : Spot) → Puts a p → Takes b p → ⊥

@@ -1,6 +1,8 @@
 -- The source as one tree in which all constants are known, and its meaning on whole arrays.
-use Rattle.std.specs.Prelude.{◌/◌, ◌%◌, List, ℕ, zero, suc, Bool, true, false, cond, ◌&&◌, ◌||◌, ltb, Option, Some, None, is_some, [], ◌∷◌}
-use Rattle.sq_cells.specs.Tree.{Code, combined, element, byte_in, width_of, identity_of, Trap, LeafEnd, Gives, Fails, leaf_of, values, value_in, store}
+use Rattle.std.specs.Prelude.{◌/◌, ◌%◌, List, ℕ, zero, suc, Bool, true, false, cond, ◌&&◌, ◌||◌, ltb, Option, Some}
+use Rattle.std.specs.Prelude.{None, is_some, [], ◌∷◌}
+use Rattle.sq_cells.specs.Tree.{Code, combined, element, byte_in, width_of, identity_of, Trap, LeafEnd, Gives, Fails}
+use Rattle.sq_cells.specs.Tree.{leaf_of, values, value_in, store}
 use Rattle.sq_cells.specs.Cells.{Spot, spot, State, find, put, put_if}
 use Rattle.sq_cells.specs.Machine.{Op, Form, Rule}
 
@@ -11,7 +13,8 @@ pub data Mode : Type 0 where
   Local : Mode
   Reduced : Op → Mode
 
--- a buffer that the call copies into and out of; the caller's own cells; a buffer that a loop round the call copies into and out of
+-- a buffer that the call copies into and out of; the caller's own cells; a buffer that a loop round the call copies
+-- into and out of
 pub data Place : Type 0 where
   Buffer : Place
   InPlace : Place
@@ -33,8 +36,11 @@ pub data Work : Type 0 where
   -- the held arrays of a lower call inside are copied in before the work and out after it
   Hold : (form : Form) (count : ℕ) → (ℕ → Array) → Work → Work
   -- a mapreduce of calls: array `which` of each is reduced into these cells
-  Reduce : (op : Op) (size : ℕ) → (ℕ → Spot) → (which : ℕ) → (spread : Option Rule) → (count : ℕ) → (form : ℕ → Form) → (lower : Bool) → (arity : ℕ → ℕ) → (ℕ → ℕ → Array) → (ℕ → Work) → Work
-  -- a taken loop, or a taken spread map, of lower calls: the transfers of an iteration stand beside the work of the one before and the one after, and two sets of buffers are used in turn; the second set's offsets are those of form `second`
+  Reduce : (op : Op) (size : ℕ) → (ℕ → Spot) → (which : ℕ) → (spread : Option Rule) → (count : ℕ) → (form : ℕ → Form)
+      → (lower : Bool) → (arity : ℕ → ℕ) → (ℕ → ℕ → Array) → (ℕ → Work) → Work
+  -- a taken loop, or a taken spread map, of lower calls: the transfers of an iteration stand beside the work of the one
+  -- before and the one after, and two sets of buffers are used in turn; the second set's offsets are those of form
+  -- `second`
   Piped : Option Rule → (count : ℕ) (form second : Form) → (arity : ℕ) → (ℕ → ℕ → Array) → (ℕ → Work) → Work
   Leaf : (code : Code) (count : ℕ) → (size : ℕ → ℕ) → (writes : ℕ → Bool) → Work
 
@@ -132,7 +138,8 @@ ends_unless None s = Ends s
 ends_unless (Some x) s = Traps x
 
 abbrev pub at_once : ℕ → (ℕ → Spot → Bool) → (ℕ → Outcome) → State → Outcome
-at_once n writes f s = ends_unless (first_trap n (λ t. trap_of (numbered t (f t)))) (merged n writes (λ t. state_or s (f t)) s)
+at_once n writes f s = ends_unless (first_trap n (λ t. trap_of (numbered t (f t))))
+    (merged n writes (λ t. state_or s (f t)) s)
 
 -- the callee's arrays at the start
 abbrev pub entry_of : (ℕ → Array) → State → State
@@ -141,7 +148,9 @@ entry_of arrays s l = start_of (arrays l.area).mode l.index (s ((arrays l.area).
 -- the values of the returned arrays are put into their blocks
 abbrev pub come_back : ℕ → (ℕ → Array) → State → State → State
 come_back zero arrays inner s = s
-come_back (suc i) arrays inner s = put_if (returned (arrays i).mode) (arrays i).size (arrays i).block (λ k. inner (spot i k)) (come_back i arrays inner s)
+come_back (suc i) arrays inner s
+    = put_if (returned (arrays i).mode) (arrays i).size (arrays i).block (λ k. inner (spot i k))
+    (come_back i arrays inner s)
 
 abbrev pub returns_to : Outcome → ℕ → (ℕ → Array) → State → Outcome
 returns_to (Ends inner) n arrays s = Ends (come_back n arrays inner s)
@@ -153,7 +162,8 @@ leaf_outcome (Fails kind) count size writes s = Traps (record { path = []; cause
 
 abbrev pub any_block : ℕ → (ℕ → Array) → Spot → Bool
 any_block zero arrays l = false
-any_block (suc i) arrays l = (returned (arrays i).mode && is_some (find (arrays i).size (arrays i).block l)) || any_block i arrays l
+any_block (suc i) arrays l = (returned (arrays i).mode && is_some (find (arrays i).size (arrays i).block l))
+    || any_block i arrays l
 
 -- an element combined with those of n iterations, in rising order
 abbrev pub folded : Op → (ℕ → Bool) → (ℕ → List ℕ) → ℕ → List ℕ → List ℕ
@@ -169,7 +179,10 @@ value_at (Ends s) q = s q
 value_at (Traps x) q = 0
 
 abbrev pub gathered : Outcome → (op : Op) (size : ℕ) → (ℕ → Spot) → (n : ℕ) → (ℕ → ℕ → ℕ) → State → Outcome
-gathered (Ends s') op size block n x s = Ends (put size block (λ k. byte_in (width_of op) (folded op always (λ t. element (width_of op) (x t) (k / width_of op)) n (element (width_of op) (λ j. s (block j)) (k / width_of op))) (k % width_of op)) s')
+gathered (Ends s') op size block n x s
+    = Ends (put size block (λ k. byte_in (width_of op)
+    (folded op always (λ t. element (width_of op) (x t) (k / width_of op)) n
+    (element (width_of op) (λ j. s (block j)) (k / width_of op))) (k % width_of op)) s')
 gathered (Traps x') op size block n x s = Traps x'
 
 abbrev pub any_below : ℕ → (ℕ → Bool) → Bool
@@ -184,7 +197,8 @@ written (Each n w) l = any_below n (λ t. written (w t) l)
 written (AtOnce spread n w) l = any_below n (λ t. written (w t) l)
 written (Call form lower n arrays w) l = any_block n arrays l
 written (Hold form n arrays w) l = written w l
-written (Reduce op size block which spread n form lower c arrays w) l = is_some (find size block l) || any_below n (λ t. any_block (c t) (arrays t) l)
+written (Reduce op size block which spread n form lower c arrays w) l = is_some (find size block l)
+    || any_below n (λ t. any_block (c t) (arrays t) l)
 written (Piped spread n form second c arrays w) l = any_below n (λ t. any_block c (arrays t) l)
 written (Leaf code n size writes) l = ltb l.area n && (ltb l.index (size l.area) && writes l.area)
 
@@ -196,7 +210,12 @@ meaning (AtOnce spread n w) s = at_once n (λ t. written (w t)) (λ t. meaning (
 meaning (Call form lower n arrays w) s = returns_to (meaning w (entry_of arrays s)) n arrays s
 meaning (Hold form n arrays w) s = meaning w s
 meaning (Reduce op size block which spread n form lower c arrays w) s =
-    gathered (at_once n (λ t l. any_block (c t) (arrays t) l) (λ t. returns_to (meaning (w t) (entry_of (arrays t) s)) (c t) (arrays t) s) s) op size block n (λ t k. value_at (meaning (w t) (entry_of (arrays t) s)) (spot which k)) s
-meaning (Piped None n form second c arrays w) s = in_turn n (λ t s'. returns_to (meaning (w t) (entry_of (arrays t) s')) c (arrays t) s') s
-meaning (Piped (Some rule) n form second c arrays w) s = at_once n (λ t l. any_block c (arrays t) l) (λ t. returns_to (meaning (w t) (entry_of (arrays t) s)) c (arrays t) s) s
+    gathered (at_once n (λ t l. any_block (c t) (arrays t) l)
+    (λ t. returns_to (meaning (w t) (entry_of (arrays t) s)) (c t) (arrays t) s) s) op size block n
+    (λ t k. value_at (meaning (w t) (entry_of (arrays t) s)) (spot which k)) s
+meaning (Piped None n form second c arrays w) s
+    = in_turn n (λ t s'. returns_to (meaning (w t) (entry_of (arrays t) s')) c (arrays t) s') s
+meaning (Piped (Some rule) n form second c arrays w) s
+    = at_once n (λ t l. any_block c (arrays t) l)
+    (λ t. returns_to (meaning (w t) (entry_of (arrays t) s)) c (arrays t) s) s
 meaning (Leaf code n size writes) s = leaf_outcome (leaf_of code (values n size spot s)) n size writes s

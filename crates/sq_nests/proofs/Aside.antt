@@ -1,5 +1,6 @@
 -- Scopes beside one another: by the form of the tree, and at different children of one node.
-use Rattle.std.proofs.Common.{◌≡◌, ◌≢◌, ℕ, zero, suc, ◌+◌, ◌<◌, ◌≤◌, Bool, true, false, List, [], ◌∷◌, length, take, refl, sym, ap, subst, ◌∙◌, arith}
+use Rattle.std.proofs.Common.{◌≡◌, ◌≢◌, ℕ, zero, suc, ◌+◌, ◌<◌, ◌≤◌, Bool, true, false, List, [], ◌∷◌, length, take}
+use Rattle.std.proofs.Common.{refl, sym, ap, subst, ◌∙◌, arith}
 use Rattle.std.specs.Prelude.{if◌then◌else◌, ◌==◌, ◌||◌, nat_lt}
 use Rattle.std.proofs.lemmas.Bool.{eqb-true, ltb-true, ltb-false}
 use Rattle.sq_ir.specs.Tree as tree
@@ -40,28 +41,34 @@ module _ (P : ℕ → Type 0) where
       by true = tt
       by false = (p, h)
 
-  pub each-seq_of : (n : ℕ) (f : ℕ → PlanTree) (k : ℕ) → ((i : ℕ) → k ≤ i → i < k + n → EachScope P (f i)) → EachScope P (seq_of n f k)
+  pub each-seq_of : (n : ℕ) (f : ℕ → PlanTree) (k : ℕ) → ((i : ℕ) → k ≤ i → i < k + n → EachScope P (f i))
+      → EachScope P (seq_of n f k)
   unfolding seq_of
   each-seq_of zero f k h = tt
-  each-seq_of (suc n) f k h = each-seq (f k) (seq_of n f (k + 1)) (h k (omega arith) (omega arith)) (each-seq_of n f (k + 1) (λ i g l. h i (omega (arith, g)) (omega (arith, l))))
+  each-seq_of (suc n) f k h = each-seq (f k) (seq_of n f (k + 1)) (h k (omega arith) (omega arith))
+      (each-seq_of n f (k + 1) (λ i g l. h i (omega (arith, g)) (omega (arith, l))))
 
-  pub each-par_of : (n : ℕ) (f : ℕ → PlanTree) (k : ℕ) → ((i : ℕ) → k ≤ i → i < k + n → EachScope P (f i)) → EachScope P (par_of n f k)
+  pub each-par_of : (n : ℕ) (f : ℕ → PlanTree) (k : ℕ) → ((i : ℕ) → k ≤ i → i < k + n → EachScope P (f i))
+      → EachScope P (par_of n f k)
   unfolding par_of
   each-par_of zero f k h = tt
-  each-par_of (suc n) f k h = each-par (f k) (par_of n f (k + 1)) (h k (omega arith) (omega arith)) (each-par_of n f (k + 1) (λ i g l. h i (omega (arith, g)) (omega (arith, l))))
+  each-par_of (suc n) f k h = each-par (f k) (par_of n f (k + 1)) (h k (omega arith) (omega arith))
+      (each-par_of n f (k + 1) (λ i g l. h i (omega (arith, g)) (omega (arith, l))))
 
   -- a node of which it doesn't hold has no scope
   pub nowhere : (a : PlanTree) (node : ℕ) → EachScope P a → (P node → ⊥) → stands_at node a ≡ false
   nowhere tree.Skip node h ne = refl
   nowhere (tree.Act e) node h ne = refl
   nowhere (tree.Stuck e) node h ne = refl
-  nowhere (tree.Seq a b) node h ne = by (stands_at node a) (stands_at node b) (nowhere a node h.0 ne) (nowhere b node h.1 ne)
+  nowhere (tree.Seq a b) node h ne
+      = by (stands_at node a) (stands_at node b) (nowhere a node h.0 ne) (nowhere b node h.1 ne)
     where
       by : (u v : Bool) → u ≡ false → v ≡ false → (u || v) ≡ false
       by false false p q = refl
       by true v p q = absurd (let z = p in cc)
       by false true p q = absurd (let z = q in cc)
-  nowhere (tree.Par a b) node h ne = by (stands_at node a) (stands_at node b) (nowhere a node h.0 ne) (nowhere b node h.1 ne)
+  nowhere (tree.Par a b) node h ne
+      = by (stands_at node a) (stands_at node b) (nowhere a node h.0 ne) (nowhere b node h.1 ne)
     where
       by : (u v : Bool) → u ≡ false → v ≡ false → (u || v) ≡ false
       by false false p q = refl
@@ -112,22 +119,30 @@ aside-scoped node (b ∷ bs) a h = by (is_done a)
     by true = tt
     by false = h
 
-pub aside-seq_of : (n : ℕ) (f : ℕ → PlanTree) (k : ℕ) → ((i : ℕ) → k ≤ i → i < k + n → AreAside (f i)) → AreAside (seq_of n f k)
+pub aside-seq_of : (n : ℕ) (f : ℕ → PlanTree) (k : ℕ) → ((i : ℕ) → k ≤ i → i < k + n → AreAside (f i))
+    → AreAside (seq_of n f k)
 unfolding seq_of
 aside-seq_of zero f k h = tt
-aside-seq_of (suc n) f k h = aside-seq (f k) (seq_of n f (k + 1)) (h k (omega arith) (omega arith)) (aside-seq_of n f (k + 1) (λ i g l. h i (omega (arith, g)) (omega (arith, l))))
+aside-seq_of (suc n) f k h = aside-seq (f k) (seq_of n f (k + 1)) (h k (omega arith) (omega arith))
+    (aside-seq_of n f (k + 1) (λ i g l. h i (omega (arith, g)) (omega (arith, l))))
 
 -- parts whose scopes have their nodes where those of no other part have theirs
-pub aside-par_of : (P : ℕ → ℕ → Type 0) (n : ℕ) (f : ℕ → PlanTree) (k : ℕ) → ((i j node : ℕ) → k ≤ i → i < j → j < k + n → P i node → P j node → ⊥)
+pub aside-par_of : (P : ℕ → ℕ → Type 0) (n : ℕ) (f : ℕ → PlanTree) (k : ℕ)
+    → ((i j node : ℕ) → k ≤ i → i < j → j < k + n → P i node → P j node → ⊥)
     → ((i : ℕ) → k ≤ i → i < k + n → AreAside (f i) × EachScope (P i) (f i)) → AreAside (par_of n f k)
 unfolding par_of
 aside-par_of P zero f k d h = tt
 aside-par_of P (suc n) f k d h =
     let rest = par_of n f (k + 1) in
-    let others = each-par_of (λ node. P k node → ⊥) n f (k + 1) (λ j g l. each-map (λ node p q. d k j node (omega arith) (omega (arith, g)) (omega (arith, l)) q p) (f j) (h j (omega (arith, g)) (omega (arith, l))).1) in
+    let others = each-par_of (λ node. P k node → ⊥) n f (k + 1)
+    (λ j g l. each-map (λ node p q. d k j node (omega arith) (omega (arith, g)) (omega (arith, l)) q p) (f j)
+    (h j (omega (arith, g)) (omega (arith, l))).1) in
     aside-par (f k) rest (h k (omega arith) (omega arith)).0
-    (aside-par_of P n f (k + 1) (λ i j node g l m. d i j node (omega (arith, g)) l (omega (arith, m))) (λ i g l. h i (omega (arith, g)) (omega (arith, l))))
-    (λ node e. nowhere (λ m. P k m → ⊥) rest node others (λ off. absurd (let z : true ≡ false = sym e ∙ nowhere (P k) (f k) node (h k (omega arith) (omega arith)).1 off in cc)))
+    (aside-par_of P n f (k + 1) (λ i j node g l m. d i j node (omega (arith, g)) l (omega (arith, m)))
+    (λ i g l. h i (omega (arith, g)) (omega (arith, l))))
+    (λ node e. nowhere (λ m. P k m → ⊥) rest node others
+    (λ off. absurd (let z : true ≡ false = sym e
+    ∙ nowhere (P k) (f k) node (h k (omega arith) (omega arith)).1 off in cc)))
 
 -- scopes in one part alone
 pub aside-left : (a b : PlanTree) → AreAside a → EachScope (λ n. ⊥) b → AreAside b → AreAside (par a b)
@@ -146,19 +161,24 @@ aside-none (tree.Within s a) h = aside-none a h.1
 module _ (s : Setting) (depth : ℕ → ℕ) (forest : IsForest s depth) where
   deeper : {top node : ℕ} → Under s top node → depth top ≤ depth node
   deeper (here e) = let z = ap depth e in omega (arith, z)
-  deeper (below parent c u l e) = let z = deeper u in let y = ap depth e ∙ forest.below parent c l in omega (arith, y, z)
+  deeper (below parent c u l e) = let z = deeper u in let y = ap depth e
+      ∙ forest.below parent c l in omega (arith, y, z)
 
   pub one-top : {top other node : ℕ} → Under s top node → Under s other node → depth top ≡ depth other → top ≡ other
   one-top (here e) (here g) q = sym e ∙ g
-  one-top (here e) (below m c u l g) q = let z = deeper u in let y = ap depth g ∙ forest.below m c l in let x = ap depth e in absurd (omega (arith, x, y, z, q))
-  one-top (below m c u l e) (here g) q = let z = deeper u in let y = ap depth e ∙ forest.below m c l in let x = ap depth g in absurd (omega (arith, x, y, z, q))
+  one-top (here e) (below m c u l g) q = let z = deeper u in let y = ap depth g ∙ forest.below m c l in let x
+      = ap depth e in absurd (omega (arith, x, y, z, q))
+  one-top (below m c u l e) (here g) q = let z = deeper u in let y = ap depth e ∙ forest.below m c l in let x
+      = ap depth g in absurd (omega (arith, x, y, z, q))
   one-top {other = other} (below m c u l e) (below n d v k g) q =
       let p : m ≡ n = forest.parent m n c d l k (sym e ∙ g) in
       one-top u (subst (λ z. Under s other z) (sym p) v) q
 
   -- below two children of one node
-  pub two-children : (node c d x : ℕ) → c < s.children node → d < s.children node → c ≢ d → Under s (s.child node c) x → Under s (s.child node d) x → ⊥
-  two-children node c d x l k ne u v = ne (forest.number node c d (one-top u v (forest.below node c l ∙ sym (forest.below node d k))))
+  pub two-children : (node c d x : ℕ) → c < s.children node → d < s.children node → c ≢ d → Under s (s.child node c) x
+      → Under s (s.child node d) x → ⊥
+  two-children node c d x l k ne u v
+      = ne (forest.number node c d (one-top u v (forest.below node c l ∙ sym (forest.below node d k))))
 
   pub under-trans : {a b c : ℕ} → Under s a b → Under s b c → Under s a c
   under-trans {a = a} u (here e) = subst (Under s a) (sym e) u
@@ -166,13 +186,16 @@ module _ (s : Setting) (depth : ℕ → ℕ) (forest : IsForest s depth) where
 
 -- ---- the nodes of a machine
 
-before-part : (ns : List PlanNode) (i j : ℕ) → i < j → i < length ns → children_in (take i ns) + (node_at ns i).children ≤ children_in (take j ns)
+before-part : (ns : List PlanNode) (i j : ℕ) → i < j → i < length ns → children_in (take i ns) + (node_at ns i).children
+    ≤ children_in (take j ns)
 before-part [] i j h l = absurd (omega (arith, l))
 before-part (n ∷ ns) i zero h l = absurd (omega (arith, h))
 before-part (n ∷ ns) zero (suc j) h l = omega arith
-before-part (n ∷ ns) (suc i) (suc j) h l = let ih = before-part ns i j (omega (arith, h)) (omega (arith, l)) in omega (arith, ih)
+before-part (n ∷ ns) (suc i) (suc j) h l = let ih
+    = before-part ns i j (omega (arith, h)) (omega (arith, l)) in omega (arith, ih)
 
-pub a_forest : (buffers : List Buffer) (ns : List PlanNode) (offset : ℕ → ℕ) → AreNodes ns → IsForest (placed buffers ns offset) (λ n. (node_at ns n).level)
+pub a_forest : (buffers : List Buffer) (ns : List PlanNode) (offset : ℕ → ℕ) → AreNodes ns
+    → IsForest (placed buffers ns offset) (λ n. (node_at ns n).level)
 a_forest buffers ns offset are = record {
   below = (layered buffers ns offset are).below;
   parent = λ m n c d l k e.
@@ -184,8 +207,12 @@ a_forest buffers ns offset are = record {
   number = λ n c d e. omega (arith, e);
 }
   where
-    by : (m n c d : ℕ) → (v : Bool) → nat_lt m n ≡ v → (w : Bool) → nat_lt n m ≡ w → (node_at ns m).first_child ≡ 1 + children_in (take m ns) → (node_at ns n).first_child ≡ 1 + children_in (take n ns)
-        → m < length ns → n < length ns → c < (node_at ns m).children → d < (node_at ns n).children → (node_at ns m).first_child + c ≡ (node_at ns n).first_child + d → m ≡ n
-    by m n c d true p w q f g t u l k e = let z = before-part ns m n (ltb-true m n p) t in absurd (omega (arith, z, f, g, l, e))
-    by m n c d false p true q f g t u l k e = let z = before-part ns n m (ltb-true n m q) u in absurd (omega (arith, z, f, g, k, e))
+    by : (m n c d : ℕ) → (v : Bool) → nat_lt m n ≡ v → (w : Bool) → nat_lt n m ≡ w → (node_at ns m).first_child ≡ 1
+        + children_in (take m ns) → (node_at ns n).first_child ≡ 1 + children_in (take n ns)
+        → m < length ns → n < length ns → c < (node_at ns m).children → d < (node_at ns n).children
+        → (node_at ns m).first_child + c ≡ (node_at ns n).first_child + d → m ≡ n
+    by m n c d true p w q f g t u l k e = let z
+        = before-part ns m n (ltb-true m n p) t in absurd (omega (arith, z, f, g, l, e))
+    by m n c d false p true q f g t u l k e = let z
+        = before-part ns n m (ltb-true n m q) u in absurd (omega (arith, z, f, g, k, e))
     by m n c d false p false q f g t u l k e = let y = ltb-false m n p in let z = ltb-false n m q in omega (arith, y, z)

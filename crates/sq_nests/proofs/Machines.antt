@@ -1,5 +1,6 @@
 -- The nodes of a machine: their children are there, one level deeper.
-use Rattle.std.proofs.Common.{◌≡◌, ℕ, zero, suc, ◌+◌, ◌<◌, ◌≤◌, Bool, true, false, List, [], ◌∷◌, ◌++◌, length, get_or, take, map, replicate, refl, sym, ap, ◌∙◌, arith}
+use Rattle.std.proofs.Common.{◌≡◌, ℕ, zero, suc, ◌+◌, ◌<◌, ◌≤◌, Bool, true, false, List, [], ◌∷◌, ◌++◌, length, get_or}
+use Rattle.std.proofs.Common.{take, map, replicate, refl, sym, ap, ◌∙◌, arith}
 use Rattle.std.specs.Prelude.{◌==◌, if◌then◌else◌}
 use Rattle.std.specs.List.{flat_map}
 use Rattle.std.proofs.lemmas.Bool.{eqb-true}
@@ -21,7 +22,8 @@ below-length (n ∷ ns) =
     let ih = below-length ns in
     omega (arith, e, r, ih)
 
-children-part : (ns : List PlanNode) (i : ℕ) → i < length ns → children_in (take i ns) + (node_at ns i).children ≤ children_in ns
+children-part : (ns : List PlanNode) (i : ℕ) → i < length ns → children_in (take i ns) + (node_at ns i).children
+    ≤ children_in ns
 children-part [] i h = absurd (omega arith)
 children-part (n ∷ ns) zero h = omega arith
 children-part (n ∷ ns) (suc i) h = let ih = children-part ns i (omega arith) in omega (arith, ih)
@@ -46,11 +48,13 @@ some-there (n ∷ ns) zero c h = omega arith
 some-there (n ∷ ns) (suc i) c h = let ih = some-there ns i c h in omega (arith, ih)
 
 -- where the children of a node begin
-pub first-child : (ns : List PlanNode) (i c : ℕ) → AreNodes ns → c < (node_at ns i).children → (node_at ns i).first_child ≡ 1 + children_in (take i ns)
+pub first-child : (ns : List PlanNode) (i c : ℕ) → AreNodes ns → c < (node_at ns i).children
+    → (node_at ns i).first_child ≡ 1 + children_in (take i ns)
 first-child ns i c are less =
     let m = node_at ns i in
     let here = slice_get-get_or ns i nowhere (some-there ns i c less) in
-    first-is (m.children == 0) m.first_child (1 + children_in (take i ns)) (are.arranged.first i m here) (some m.children (omega (arith, less)))
+    first-is (m.children == 0) m.first_child (1 + children_in (take i ns)) (are.arranged.first i m here)
+    (some m.children (omega (arith, less)))
   where
     some : (k : ℕ) → 0 < k → (k == 0) ≡ false
     some k h = by (k == 0) refl
@@ -60,7 +64,8 @@ first-child ns i c are less =
         by false e = refl
 
 -- a child of a node is a node
-pub child-there : (ns : List PlanNode) (i c : ℕ) → AreNodes ns → c < (node_at ns i).children → (node_at ns i).first_child + c < length ns
+pub child-there : (ns : List PlanNode) (i c : ℕ) → AreNodes ns → c < (node_at ns i).children
+    → (node_at ns i).first_child + c < length ns
 child-there ns i c are less =
     let f = first-child ns i c are less in
     let len = nodes-length ns are in
@@ -77,16 +82,20 @@ in_front (suc k) x (suc c) rest h = in_front k x c rest (omega (arith, h))
 
 behind : (k x c : ℕ) (rest : List ℕ) → get_or (replicate k x ++ rest) (k + c) 0 ≡ get_or rest c 0
 behind zero x c rest = let e : 0 + c ≡ c = omega arith in ap (λ i. get_or rest i 0) e
-behind (suc k) x c rest = let e : suc k + c ≡ suc (k + c) = omega arith in ap (λ i. get_or (x ∷ (replicate k x ++ rest)) i 0) e ∙ behind k x c rest
+behind (suc k) x c rest = let e : suc k + c ≡ suc (k + c)
+    = omega arith in ap (λ i. get_or (x ∷ (replicate k x ++ rest)) i 0) e ∙ behind k x c rest
 
-level-below : (ns : List PlanNode) (i c : ℕ) → c < (node_at ns i).children → get_or (flat_map below ns) (children_in (take i ns) + c) 0 ≡ suc (node_at ns i).level
+level-below : (ns : List PlanNode) (i c : ℕ) → c < (node_at ns i).children
+    → get_or (flat_map below ns) (children_in (take i ns) + c) 0 ≡ suc (node_at ns i).level
 level-below [] i c h = absurd (omega (arith, h))
 level-below (n ∷ ns) zero c h =
     let e : 0 + c ≡ c = omega arith in
-    ap (λ l. get_or l (0 + c) 0) (flat_map-cons below n ns) ∙ ap (λ i. get_or (below n ++ flat_map below ns) i 0) e ∙ in_front n.children (suc n.level) c (flat_map below ns) h
+    ap (λ l. get_or l (0 + c) 0) (flat_map-cons below n ns) ∙ ap (λ i. get_or (below n ++ flat_map below ns) i 0) e
+    ∙ in_front n.children (suc n.level) c (flat_map below ns) h
 level-below (n ∷ ns) (suc i) c h =
     let e : n.children + children_in (take i ns) + c ≡ n.children + (children_in (take i ns) + c) = omega arith in
-    ap (λ l. get_or l (n.children + children_in (take i ns) + c) 0) (flat_map-cons below n ns) ∙ ap (λ i. get_or (below n ++ flat_map below ns) i 0) e
+    ap (λ l. get_or l (n.children + children_in (take i ns) + c) 0) (flat_map-cons below n ns)
+    ∙ ap (λ i. get_or (below n ++ flat_map below ns) i 0) e
     ∙ behind n.children (suc n.level) (children_in (take i ns) + c) (flat_map below ns) ∙ level-below ns i c h
 
 level-of : (ns : List PlanNode) (i : ℕ) → (node_at ns i).level ≡ get_or (map (λ (n : PlanNode). n.level) ns) i 0
@@ -94,11 +103,13 @@ level-of [] i = refl
 level-of (n ∷ ns) zero = refl
 level-of (n ∷ ns) (suc i) = level-of ns i
 
-pub layered : (buffers : List Buffer) (ns : List PlanNode) (offset : ℕ → ℕ) → AreNodes ns → IsLayered (placed buffers ns offset) (λ n. (node_at ns n).level)
+pub layered : (buffers : List Buffer) (ns : List PlanNode) (offset : ℕ → ℕ) → AreNodes ns
+    → IsLayered (placed buffers ns offset) (λ n. (node_at ns n).level)
 layered buffers ns offset are = record {
   root = level-of ns 0 ∙ ap (λ l. get_or l 0 0) are.arranged.levels;
   below = λ i c less.
-      let e : (node_at ns i).first_child + c ≡ suc (children_in (take i ns) + c) = (let f = first-child ns i c are less in omega (arith, f)) in
+      let e : (node_at ns i).first_child + c ≡ suc (children_in (take i ns) + c)
+      = (let f = first-child ns i c are less in omega (arith, f)) in
       level-of ns ((node_at ns i).first_child + c) ∙ ap (λ k. get_or (map (λ (n : PlanNode). n.level) ns) k 0) e
       ∙ ap (λ l. get_or l (suc (children_in (take i ns) + c)) 0) are.arranged.levels ∙ level-below ns i c less;
 }

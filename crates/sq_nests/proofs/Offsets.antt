@@ -44,12 +44,15 @@ module _ (buffers : List Buffer) (nodes : List PlanNode) (o p : ℕ → ℕ) whe
   same_step (Term-F.Act a) = refl
   same_step (Term-F.Seq ts) = refl
   same_step (Term-F.Par ts) = refl
-  same_step (Term-F.Loop count body) = fun_ext (λ env. ap (λ k. each_of (nat_abs k) (λ t. body (at_turn env t)) 0) (same_value count env))
-  same_step (Term-F.Spread count rule body) = fun_ext (λ env. ap (λ k. each_of (nat_abs k) (λ t. body (at_turn env t)) 0) (same_value count env))
+  same_step (Term-F.Loop count body)
+      = fun_ext (λ env. ap (λ k. each_of (nat_abs k) (λ t. body (at_turn env t)) 0) (same_value count env))
+  same_step (Term-F.Spread count rule body)
+      = fun_ext (λ env. ap (λ k. each_of (nat_abs k) (λ t. body (at_turn env t)) 0) (same_value count env))
   same_step (Term-F.Case pick arms) = fun_ext (λ env. ap (λ k. arm_at arms k env) (same_value pick env))
   same_step (Term-F.Within None buffers body) = refl
   same_step (Term-F.Within (Some c) buffers body) = fun_ext (λ env.
-      ap (λ k. Open (record { node = node_of (at_child s env (nat_abs k)); buffers = buffers }) (body (at_child s env (nat_abs k)))) (same_value c env))
+      ap (λ k. Open (record { node = node_of (at_child s env (nat_abs k)); buffers = buffers })
+      (body (at_child s env (nat_abs k)))) (same_value c env))
 
   pub same_scopes : (x : Term) (env : Env) → scopes_of s x env ≡ scopes_of u x env
   same_scopes x env = ap (λ (f : Term-F ScopesAt → ScopesAt). fold-Term ScopesAt f x env) (fun_ext same_step)

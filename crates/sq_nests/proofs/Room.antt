@@ -1,5 +1,6 @@
 -- Where buffers are laid and sums keep to the capacities, the live buffers have room in each state.
-use Rattle.std.proofs.Common.{◌≡◌, ℕ, suc, ◌+◌, ◌<◌, ◌≤◌, ◌^◌, List, [], ◌∷◌, ◌++◌, length, get_or, None, Bool, true, false, refl, sym, ap, subst, ◌∙◌, ◌⊎◌, inl, inr, arith}
+use Rattle.std.proofs.Common.{◌≡◌, ℕ, suc, ◌+◌, ◌<◌, ◌≤◌, ◌^◌, List, [], ◌∷◌, ◌++◌, length, get_or, None, Bool, true}
+use Rattle.std.proofs.Common.{false, refl, sym, ap, subst, ◌∙◌, ◌⊎◌, inl, inr, arith}
 use Rattle.std.specs.Prelude.{◌==◌, if◌then◌else◌}
 use Rattle.std.specs.List.{Contains}
 use Rattle.std.specs.Option.{option_map_or}
@@ -17,7 +18,8 @@ use Rattle.sq_ir.proofs.Equations.{written_within}
 use Rattle.sq_ir.proofs.Open.{each-state}
 use Rattle.sq_ir.proofs.OpenScopes.{contains-first, contains-none}
 use Rattle.sq_nests.specs.Nests.{Scopes, scopes_of}
-use Rattle.sq_nests.specs.Stacks.{total, at_node, sum_at, IsChain, ends, left, right, opens, Stand, Stacked, is_at, of_level}
+use Rattle.sq_nests.specs.Stacks.{total, at_node, sum_at, IsChain, ends, left, right, opens, Stand, Stacked, is_at}
+use Rattle.sq_nests.specs.Stacks.{of_level}
 use Rattle.sq_nests.specs.Levels.{AllNodes}
 use Rattle.sq_nests.specs.Drafts.{whole, Nothing, IsPlaceable, HasSpace, AllLaid, LaidHaveRoom}
 use Rattle.sq_nests.proofs.Chains.{chain_fits, chain_stands, stand_below, stand_apart, names, open_chain}
@@ -45,14 +47,18 @@ contains-right (y ∷ xs) ys x c = let k = contains-right xs ys x c in (suc k.0,
 -- what is live at a node is named there
 live-named : (l : List Scope) (node b : ℕ) → IsLive l node b → Contains (names node l) b
 live-named [] node b v = absurd (contains-none v.scope v.open_)
-live-named (x ∷ l) node b v = by (contains-first x l v.scope v.open_) (λ i. live-named l node b (record { scope = v.scope; open_ = i; at = v.at; names = v.names }))
+live-named (x ∷ l) node b v = by (contains-first x l v.scope v.open_)
+    (λ i. live-named l node b (record { scope = v.scope; open_ = i; at = v.at; names = v.names }))
   where
     mine : (u : Bool) → u ≡ true → Contains x.buffers b → Contains (if u then x.buffers else []) b
     mine true e c = c
     mine false e c = absurd (let z = e in cc)
 
-    by : (x ≡ v.scope) ⊎ Contains l v.scope → (Contains l v.scope → Contains (names node l) b) → Contains (at_node node x ++ names node l) b
-    by (inl e) f = contains-left (at_node node x) (names node l) b (mine (x.node == node) (eq-eqb x.node node (ap (λ (z : Scope). z.node) e ∙ v.at)) (subst (λ (z : Scope). Contains z.buffers b) (sym e) v.names))
+    by : (x ≡ v.scope) ⊎ Contains l v.scope → (Contains l v.scope → Contains (names node l) b)
+        → Contains (at_node node x ++ names node l) b
+    by (inl e) f = contains-left (at_node node x) (names node l) b
+        (mine (x.node == node) (eq-eqb x.node node (ap (λ (z : Scope). z.node) e ∙ v.at))
+        (subst (λ (z : Scope). Contains z.buffers b) (sym e) v.names))
     by (inr i) f = contains-right (at_node node x) (names node l) b (f i)
 
 contains-both : (xs ys : List ℕ) (b : ℕ) → Contains (xs ++ ys) b → Contains xs b ⊎ Contains ys b
@@ -63,16 +69,19 @@ contains-both (x ∷ xs) ys b c = by (contains-first x (xs ++ ys) b c) (contains
     later (inl k) = inl (suc k.0, (let l = k.1 in omega (arith, l)), k.2)
     later (inr k) = inr k
 
-    by : (x ≡ b) ⊎ Contains (xs ++ ys) b → (Contains (xs ++ ys) b → Contains xs b ⊎ Contains ys b) → Contains (x ∷ xs) b ⊎ Contains ys b
+    by : (x ≡ b) ⊎ Contains (xs ++ ys) b → (Contains (xs ++ ys) b → Contains xs b ⊎ Contains ys b) → Contains (x ∷ xs) b
+        ⊎ Contains ys b
     by (inl e) f = inl (0, omega arith, e)
     by (inr i) f = later (f i)
 
 -- a node of a chain that names a buffer is one of a scope
-chain_node : (P : ℕ → Type 0) (node : ℕ) {x : Scopes} {bs : List ℕ} (b : ℕ) → AllNodes P x → IsChain node x bs → Contains bs b → P node
+chain_node : (P : ℕ → Type 0) (node : ℕ) {x : Scopes} {bs : List ℕ} (b : ℕ) → AllNodes P x → IsChain node x bs
+    → Contains bs b → P node
 chain_node P node b all ends c = absurd (contains-none b c)
 chain_node P node b all (left d) c = chain_node P node b all.0 d c
 chain_node P node b all (right d) c = chain_node P node b all.1 d c
-chain_node P node b all (opens {s = s} {cs = cs} d) c = by (contains-both (at_node node s) cs b c) (chain_node P node b all.1 d)
+chain_node P node b all (opens {s = s} {cs = cs} d) c
+    = by (contains-both (at_node node s) cs b c) (chain_node P node b all.1 d)
   where
     mine : (u : Bool) → (s.node == node) ≡ u → Contains (if u then s.buffers else []) b → P node
     mine true e k = subst P (eqb-true s.node node e) all.0
@@ -83,13 +92,15 @@ chain_node P node b all (opens {s = s} {cs = cs} d) c = by (contains-both (at_no
     by (inr k) f = f k
 
 -- the level of a buffer that is there
-level_there : (buffers : List Buffer) (level b : ℕ) → b < length buffers → of_level buffers level b ≡ (of_buffer buffers (λ x. x.level) b == level)
+level_there : (buffers : List Buffer) (level b : ℕ) → b < length buffers → of_level buffers level b
+    ≡ (of_buffer buffers (λ x. x.level) b == level)
 level_there buffers level b h =
     let nothing : Buffer = record { level = 0; size = 0; instance = []; array = [] } in
     let e = slice_get-get_or buffers b nothing h in
     ap (is_at level) e ∙ sym (ap (λ o. option_map_or (λ (x : Buffer). x.level) o 0 == level) e)
 
-module _ (d : Draft) (nodes : List PlanNode) (offsets : List ℕ) (can : IsPlaceable d nodes) (laid : AllLaid d offsets) (space : HasSpace d nodes) where
+module _ (d : Draft) (nodes : List PlanNode) (offsets : List ℕ) (can : IsPlaceable d nodes) (laid : AllLaid d offsets)
+    (space : HasSpace d nodes) where
   abbrev p : Plan
   p = record { draft = d; offsets = offsets; nodes = nodes }
 
@@ -113,20 +124,25 @@ module _ (d : Draft) (nodes : List PlanNode) (offsets : List ℕ) (can : IsPlace
 
   small : (node : ℕ) → node < length nodes → (node_at nodes node).capacity < 2 ^ 64
   small node h =
-      let c = (can.machine.each node (node_at nodes node) (slice_get-get_or nodes node (record { level = 0; capacity = 0; first_child = 0; children = 0 }) h)).capacity in
+      let c = (can.machine.each node (node_at nodes node)
+      (slice_get-get_or nodes node (record { level = 0; capacity = 0; first_child = 0; children = 0 }) h)).capacity
+      in
       omega (arith, c)
 
   few : (node : ℕ) → node < length nodes → (node_at nodes node).level < 8
   few node h =
-      let c = (can.machine.each node (node_at nodes node) (slice_get-get_or nodes node (record { level = 0; capacity = 0; first_child = 0; children = 0 }) h)).level in
+      let c = (can.machine.each node (node_at nodes node)
+      (slice_get-get_or nodes node (record { level = 0; capacity = 0; first_child = 0; children = 0 }) h)).level in
       let l = can.machine.few_levels in
       omega (arith, c, l)
 
   there : AllNodes (λ m. m < length nodes) all
-  there = all_nodes s Nothing (λ m. m < length nodes) (λ n c less h. child-there nodes n c can.machine less) x at_root [] (can.term offset) (root-there nodes can.machine)
+  there = all_nodes s Nothing (λ m. m < length nodes) (λ n c less h. child-there nodes n c can.machine less) x at_root
+      [] (can.term offset) (root-there nodes can.machine)
 
   fits : (node : ℕ) → node < length nodes → sum_at (total s.size) node all ≤ s.capacity node
-  fits node h = subst (λ z. sum_at (total s.size) node z ≤ s.capacity node) (same_scopes d.buffers nodes (λ b. 0) offset x at_root) (space node h)
+  fits node h = subst (λ z. sum_at (total s.size) node z ≤ s.capacity node)
+      (same_scopes d.buffers nodes (λ b. 0) offset x at_root) (space node h)
 
   stacked : (node : ℕ) → node < length nodes → Stacked offset s.size node 0 all
   stacked node h =
@@ -134,8 +150,10 @@ module _ (d : Draft) (nodes : List PlanNode) (offsets : List ℕ) (can : IsPlace
       let level = (node_at nodes node).level in
       let f = fits node h in
       let c = small node h in
-      are_stacked s (λ n. (node_at nodes n).level) l Nothing (of_level d.buffers level) offset node (level_there d.buffers level) x at_root [] 0 0 (can.term offset) (laid level (few node h))
-      (λ k le. l.root ∙ (omega (arith, le))) (record { at = λ le e. refl; above = λ lt. (refl, refl) }) (omega (arith, f, c))
+      are_stacked s (λ n. (node_at nodes n).level) l Nothing (of_level d.buffers level) offset node
+      (level_there d.buffers level) x at_root [] 0 0 (can.term offset) (laid level (few node h))
+      (λ k le. l.root ∙ (omega (arith, le))) (record { at = λ le e. refl; above = λ lt. (refl, refl) })
+      (omega (arith, f, c))
 
   -- scopes of which those of one node are a chain
   module _ (l : List Scope) (chain : (node : ℕ) → IsChain node all (names node l)) where
@@ -153,10 +171,13 @@ module _ (d : Draft) (nodes : List PlanNode) (offsets : List ℕ) (can : IsPlace
           let g = fits node (node_there node b v) in
           let z = w.1 in
           omega (arith, z, f, g);
-      apart = λ node b c k v u ne i j. either (stand_apart offset s.size 0 (names node l) b c (stands node b v) (live-named l node b v) (live-named l node c u) ne) i j;
+      apart = λ node b c k v u ne i j. either
+          (stand_apart offset s.size 0 (names node l) b c (stands node b v) (live-named l node b v)
+          (live-named l node c u) ne) i j;
     }
       where
-        either : {b c k : ℕ} → (offset b + s.size b ≤ offset c) ⊎ (offset c + s.size c ≤ offset b) → HasByte s b k → HasByte s c k → ⊥
+        either : {b c k : ℕ} → (offset b + s.size b ≤ offset c) ⊎ (offset c + s.size c ≤ offset b) → HasByte s b k
+            → HasByte s c k → ⊥
         either (inl h) i j = let m = i.below in let n = j.from in omega (arith, h, m, n)
         either (inr h) i j = let m = i.from in let n = j.below in omega (arith, h, m, n)
 
@@ -166,7 +187,9 @@ module _ (d : Draft) (nodes : List PlanNode) (offsets : List ℕ) (can : IsPlace
 
   entry : HaveRoom s (record { node = 0; buffers = d.entry } ∷ [])
   entry = room (record { node = 0; buffers = d.entry } ∷ []) (λ node.
-      subst (λ z. IsChain node z (names node (record { node = 0; buffers = d.entry } ∷ []))) (sym (ap (λ f. f at_root) (scopes_within s None d.entry d.term))) (opens ends))
+      subst (λ z. IsChain node z (names node (record { node = 0; buffers = d.entry } ∷ [])))
+      (sym (ap (λ f. f at_root) (scopes_within s None d.entry d.term))) (opens ends))
 
 pub laid_have_room : LaidHaveRoom
-laid_have_room d nodes offsets can laid space = record { states = states d nodes offsets can laid space; entry = entry d nodes offsets can laid space }
+laid_have_room d nodes offsets can laid space
+    = record { states = states d nodes offsets can laid space; entry = entry d nodes offsets can laid space }

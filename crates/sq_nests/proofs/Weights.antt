@@ -10,7 +10,9 @@ weigh_total : (buffers : List Buffer) (seen bs : List ℕ) → weigh_from buffer
 weigh_total buffers seen [] = refl
 weigh_total buffers seen (b ∷ bs) = ap (λ k. size_in buffers b + k) (weigh_total buffers (seen ++ b ∷ []) bs)
 
-pub need_is_sum : (buffers : List Buffer) (node : ℕ) (x : Scopes) → sum_at (weigh buffers false) node x ≡ sum_at (total (size_in buffers)) node x
+pub need_is_sum : (buffers : List Buffer) (node : ℕ) (x : Scopes) → sum_at (weigh buffers false) node x
+    ≡ sum_at (total (size_in buffers)) node x
 need_is_sum buffers node End = refl
 need_is_sum buffers node (Both a b) = ap₂ max (need_is_sum buffers node a) (need_is_sum buffers node b)
-need_is_sum buffers node (Open s a) = ap₂ (λ m n. m + n) (weigh_total buffers [] (at_node node s)) (need_is_sum buffers node a)
+need_is_sum buffers node (Open s a)
+    = ap₂ (λ m n. m + n) (weigh_total buffers [] (at_node node s)) (need_is_sum buffers node a)

@@ -1,4 +1,5 @@
--- Scopes of loops whose transfers overlap: they name two sets of buffers for the same arrays, the second behind the first.
+-- Scopes of loops whose transfers overlap: they name two sets of buffers for the same arrays, the second behind the
+-- first.
 use Rattle.std.specs.Prelude.{◌≡◌, ℕ, ◌+◌, ◌<◌, true, false, List, [], ◌∷◌, ◌++◌}
 use Rattle.sq_ir.specs.Scopes.{Scope}
 use Rattle.sq_ir.specs.declared.plan.Buffer.{Buffer}
@@ -28,11 +29,13 @@ pub record WeighTwice (buffers : List Buffer) (first second : List ℕ) : Type 0
   pub need : weigh buffers true (first ++ second) ≡ total (size_in buffers) first
 
 abbrev pub TwinsWeighTwice : Type 0
-TwinsWeighTwice = (buffers : List Buffer) (first second : List ℕ) → AreTwins buffers first second → WeighTwice buffers first second
+TwinsWeighTwice = (buffers : List Buffer) (first second : List ℕ) → AreTwins buffers first second
+    → WeighTwice buffers first second
 
 -- the second set lies behind the first
 abbrev pub SecondLiesBehind : Type 0
-SecondLiesBehind = (offset size : ℕ → ℕ) (base : ℕ) (first second : List ℕ) → Lie offset size base (first ++ second) → Lie offset size base first × Lie offset size (base + total size first) second
+SecondLiesBehind = (offset size : ℕ → ℕ) (base : ℕ) (first second : List ℕ) → Lie offset size base (first ++ second)
+    → Lie offset size base first × Lie offset size (base + total size first) second
 
 -- a scope round a loop needs what the same scope needs in each of its iterations
 abbrev pub ScopeLeavesLoop : Type 0

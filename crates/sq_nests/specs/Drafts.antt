@@ -24,10 +24,10 @@ size_in buffers = of_buffer buffers (λ b. b.size)
 abbrev pub Nothing : AskedOfActions
 Nothing env bs a = Unit {0}
 
--- What is asked of a draft on these nodes, whatever the offsets of its buffers: numbers have their values, counts aren't
--- negative, children are there, and each buffer that a scope names is there with the level of the scope's node; scopes
--- that stand in two parts beside one another never have one node; each buffer stands behind the same others of its
--- level wherever a scope names it.
+-- What is asked of a draft on these nodes, whatever the offsets of its buffers: numbers have their values, counts
+-- aren't negative, children are there, and each buffer that a scope names is there with the level of the scope's node;
+-- scopes that stand in two parts beside one another never have one node; each buffer stands behind the same others of
+-- its level wherever a scope names it.
 pub record IsPlaceable (d : Draft) (nodes : List PlanNode) : Type 0 where
   pub machine : AreNodes nodes
   pub term : (offset : ℕ → ℕ) → Meets (placed d.buffers nodes offset) Nothing (whole d) at_root []
@@ -47,9 +47,11 @@ nested_sum d nodes node = sum_at (total (size_in d.buffers)) node (scopes d node
 abbrev pub HasSpace : Draft → List PlanNode → Type 0
 HasSpace d nodes = (node : ℕ) → node < length nodes → nested_sum d nodes node ≤ (node_at nodes node).capacity
 
--- the buffers of each of eight levels lie one behind the other, those of inner scopes behind those of the scopes round them
+-- the buffers of each of eight levels lie one behind the other, those of inner scopes behind those of the scopes round
+-- them
 abbrev pub AllLaid : Draft → List ℕ → Type 0
-AllLaid d offsets = (level : ℕ) → level < 8 → AreLaid (of_level d.buffers level) (λ b. get_or offsets b 0) (size_in d.buffers) 0 (named_in (whole d))
+AllLaid d offsets = (level : ℕ) → level < 8
+    → AreLaid (of_level d.buffers level) (λ b. get_or offsets b 0) (size_in d.buffers) 0 (named_in (whole d))
 
 -- in each state the live buffers have room, and so have the entry's where there is no event
 pub record KeepsRoom (p : Plan) : Type 0 where
@@ -57,5 +59,6 @@ pub record KeepsRoom (p : Plan) : Type 0 where
   pub entry : HaveRoom (setting_of p) (record { node = 0; buffers = p.draft.entry } ∷ [])
 
 abbrev pub LaidHaveRoom : Type 0
-LaidHaveRoom = (d : Draft) (nodes : List PlanNode) (offsets : List ℕ) → IsPlaceable d nodes → AllLaid d offsets → HasSpace d nodes
+LaidHaveRoom = (d : Draft) (nodes : List PlanNode) (offsets : List ℕ) → IsPlaceable d nodes → AllLaid d offsets
+    → HasSpace d nodes
     → KeepsRoom (record { draft = d; offsets = offsets; nodes = nodes })

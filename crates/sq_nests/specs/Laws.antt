@@ -18,7 +18,8 @@ pub record IsSumOf (size : ℕ → ℕ) (node : ℕ) (x : Scopes) : Type 0 where
   pub reached : (bs : List ℕ) × IsChain node x bs × (total size bs ≡ sum_at (total size) node x)
 
 abbrev pub ChainsHold : Type 0
-ChainsHold = (node : ℕ) (s : Setting) (x : Term) (env : Env) (bs : List ℕ) → IsChain node (scopes_in (written s x env)) bs → IsChain node (scopes_of s x env) bs
+ChainsHold = (node : ℕ) (s : Setting) (x : Term) (env : Env) (bs : List ℕ)
+    → IsChain node (scopes_in (written s x env)) bs → IsChain node (scopes_of s x env) bs
 
 abbrev pub SumIsExact : Type 0
 SumIsExact = ((size : ℕ → ℕ) (node : ℕ) (x : Scopes) → IsSumOf size node x) × ChainsHold
@@ -31,4 +32,5 @@ NeedIsSum = (d : Draft) (nodes : List PlanNode) (node : ℕ) → need d nodes fa
 abbrev pub ScopesAreAside : Type 0
 ScopesAreAside = (buffers : List Buffer) (nodes : List PlanNode) (offset : ℕ → ℕ) → AreNodes nodes → (node c d x : ℕ)
     → c < (placed buffers nodes offset).children node → d < (placed buffers nodes offset).children node → c ≢ d
-    → Under (placed buffers nodes offset) ((placed buffers nodes offset).child node c) x → Under (placed buffers nodes offset) ((placed buffers nodes offset).child node d) x → ⊥
+    → Under (placed buffers nodes offset) ((placed buffers nodes offset).child node c) x
+    → Under (placed buffers nodes offset) ((placed buffers nodes offset).child node d) x → ⊥

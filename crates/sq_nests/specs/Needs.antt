@@ -9,8 +9,8 @@ use Rattle.sq_nests.specs.Stacks.{capped, sum_at}
 use Rattle.sq_nests.specs.Drafts.{whole, scopes, Nothing}
 use Rattle.sq_nests.specs.Weights.{weigh}
 
--- The nodes are a machine's. Numbers have their values, counts aren't negative, children are there, and each buffer that
--- a scope names is there with the level of the scope's node.
+-- The nodes are a machine's. Numbers have their values, counts aren't negative, children are there, and each buffer
+-- that a scope names is there with the level of the scope's node.
 pub record IsCounted (d : Draft) (nodes : List PlanNode) : Type 0 where
   pub machine : AreNodes nodes
   pub term : Meets (placed d.buffers nodes (λ b. 0)) Nothing (whole d) at_root []

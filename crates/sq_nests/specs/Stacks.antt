@@ -1,5 +1,6 @@
 -- Sums of buffers whose scopes stand within one another, and buffers that stand one behind the other.
-use Rattle.std.specs.Prelude.{◌≡◌, ℕ, ◌+◌, ◌^◌, ◌-◌, min, max, Bool, true, false, ◌||◌, ◌==◌, List, [], ◌∷◌, ◌++◌, if◌then◌else◌, Option, Some, None}
+use Rattle.std.specs.Prelude.{◌≡◌, ℕ, ◌+◌, ◌^◌, ◌-◌, min, max, Bool, true, false, ◌||◌, ◌==◌, List, [], ◌∷◌, ◌++◌}
+use Rattle.std.specs.Prelude.{if◌then◌else◌, Option, Some, None}
 use Rattle.std.specs.List.{slice_get}
 use Rattle.sq_ir.specs.Tree as tree
 use Rattle.sq_ir.specs.Tree.{Tree}
@@ -45,7 +46,8 @@ Stand offset size top (b ∷ bs) = (offset b ≡ top) × Stand offset size (top 
 abbrev pub Stacked : (offset size : ℕ → ℕ) → (node top : ℕ) → Scopes → Type 0
 Stacked offset size node top End = Unit {0}
 Stacked offset size node top (Both a b) = Stacked offset size node top a × Stacked offset size node top b
-Stacked offset size node top (Open s a) = Stand offset size top (at_node node s) × Stacked offset size node (top + total size (at_node node s)) a
+Stacked offset size node top (Open s a) = Stand offset size top (at_node node s)
+    × Stacked offset size node (top + total size (at_node node s)) a
 
 -- ---- the buffers of one level in a term
 
@@ -70,7 +72,8 @@ OnStack before outer (b ∷ bs) = (before b ≡ outer) × OnStack before (outer 
 abbrev pub HaveBefore : (here : ℕ → Bool) → (before : ℕ → List ℕ) → (outer : List ℕ) → Named → Type 0
 HaveBefore here before outer End = Unit {0}
 HaveBefore here before outer (Both a b) = HaveBefore here before outer a × HaveBefore here before outer b
-HaveBefore here before outer (Open bs a) = OnStack before outer (those here bs) × HaveBefore here before (outer ++ those here bs) a
+HaveBefore here before outer (Open bs a) = OnStack before outer (those here bs)
+    × HaveBefore here before (outer ++ those here bs) a
 
 -- The buffers lie one behind the other from here on. Where sums pass 64 bits, they all lie at the greatest number.
 abbrev pub Lie : (offset size : ℕ → ℕ) → (base : ℕ) → List ℕ → Type 0
@@ -81,7 +84,8 @@ Lie offset size base (b ∷ bs) = (offset b ≡ capped base) × Lie offset size 
 abbrev pub AreLaid : (here : ℕ → Bool) → (offset size : ℕ → ℕ) → (base : ℕ) → Named → Type 0
 AreLaid here offset size base End = Unit {0}
 AreLaid here offset size base (Both a b) = AreLaid here offset size base a × AreLaid here offset size base b
-AreLaid here offset size base (Open bs a) = Lie offset size base (those here bs) × AreLaid here offset size (base + total size (those here bs)) a
+AreLaid here offset size base (Open bs a) = Lie offset size base (those here bs)
+    × AreLaid here offset size (base + total size (those here bs)) a
 
 -- ---- scopes beside one another
 

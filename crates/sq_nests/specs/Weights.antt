@@ -1,5 +1,6 @@
 -- What the buffers of a scope weigh.
-use Rattle.std.specs.Prelude.{ℕ, ◌+◌, Bool, true, false, ◌||◌, ◌&&◌, List, [], ◌∷◌, ◌++◌, Option, Some, None, if◌then◌else◌, slice_get}
+use Rattle.std.specs.Prelude.{ℕ, ◌+◌, Bool, true, false, ◌||◌, ◌&&◌, List, [], ◌∷◌, ◌++◌, Option, Some, None}
+use Rattle.std.specs.Prelude.{if◌then◌else◌, slice_get}
 use Rattle.sq_text.specs.Names.{same_name}
 use Rattle.sq_ir.specs.declared.plan.Buffer.{Buffer}
 use Rattle.sq_nests.specs.Drafts.{size_in}
