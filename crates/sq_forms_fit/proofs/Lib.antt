@@ -1,0 +1,4 @@
+pub mod Shapes
+pub mod Sized
+pub mod RowsHold
+pub mod Whole

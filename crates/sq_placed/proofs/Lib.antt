@@ -1,0 +1,3 @@
+pub mod Opened
+pub mod Plain
+pub mod ExampleRow

@@ -1,0 +1,5 @@
+pub mod Placed
+pub mod Seats
+pub mod Trees
+pub mod Tables
+pub mod Laws

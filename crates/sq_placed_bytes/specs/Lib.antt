@@ -1,0 +1,11 @@
+pub mod Coordinates
+pub mod Codes
+pub mod Calling
+pub mod OnBytes
+pub mod Fitting
+pub mod Keeping
+pub mod Stowed
+pub mod Entry
+pub mod LeafLaws
+pub mod LeafRuns
+pub mod Law

@@ -1,0 +1,22 @@
+//! The plan of a program's entry, from any bytes, and its leaf calls by the tables of forms.
+#![tactic(auto)]
+
+ghost use Rattle.sq_plan_entry.specs.Entry.{EntriesFollow, EntriesArePlans};
+ghost use Rattle.sq_plan_entry.specs.LeafCalls.{CallsAreOfTables};
+
+/// Whatever bytes there are, those of arrays that are only written included, the run of the plan ends as the source
+/// means on the arrays that are read.
+pub fn entries_follow()
+    ensures { EntriesFollow }
+{}
+
+/// What is placed of tables has their leaf calls, each with the code of its form and its path.
+pub fn calls_are_of_tables()
+    ensures { CallsAreOfTables }
+{}
+
+/// What is placed of a program's entry is a plan, where the tables of forms fit, no race is in it, and its buffers stand
+/// apart.
+pub fn entries_are_plans()
+    ensures { EntriesArePlans }
+{}

@@ -1,0 +1,15 @@
+pub mod Geometry
+pub mod Lists
+pub mod Arguments
+pub mod Places
+pub mod Pipes
+pub mod Positions
+pub mod Calls
+pub mod Sets
+pub mod LeafViews
+pub mod Whole
+pub mod Entry
+pub mod LeafCalls
+pub mod Room
+pub mod ExampleSits
+pub mod ExamplePlan

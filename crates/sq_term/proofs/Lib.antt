@@ -1,0 +1,12 @@
+pub mod Opened
+pub mod Numbers
+pub mod Turns
+pub mod Rows
+pub mod Arms
+pub mod Calls
+pub mod Maps
+pub mod Holds
+pub mod Same
+pub mod Whole
+pub mod ExampleTables
+pub mod ExampleHeld

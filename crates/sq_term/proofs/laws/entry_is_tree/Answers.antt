@@ -1,0 +1,5 @@
+use Rattle.sq_term.proofs.Whole.{entry_is_tree as lemma}
+use Rattle.sq_term.proofs.laws.entry_is_tree.Goals as goal
+
+pub returns : goal.returns
+returns c = lemma

@@ -1,0 +1,7 @@
+//! The term of a placed source, with its loops kept, and why its tree is that of the placed source.
+#![tactic(auto)]
+
+mod context;
+pub mod laws;
+
+pub use context::{Context, Move};
