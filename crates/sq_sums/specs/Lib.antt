@@ -1,0 +1,9 @@
+pub mod Parts
+pub mod Tops
+pub mod Scales
+pub mod Grounds
+pub mod Regions
+pub mod Sites
+pub mod Routes
+pub mod Sums
+pub mod Laws
