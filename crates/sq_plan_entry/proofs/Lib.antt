@@ -1,3 +1,4 @@
 pub mod Follows
 pub mod LeafCalls
 pub mod Plans
+pub mod Written

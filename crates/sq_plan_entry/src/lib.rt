@@ -3,6 +3,7 @@
 
 ghost use Rattle.sq_plan_entry.specs.Entry.{EntriesFollow, EntriesArePlans};
 ghost use Rattle.sq_plan_entry.specs.LeafCalls.{CallsAreOfTables};
+ghost use Rattle.sq_plan_entry.specs.Written.{PlansAreWritten};
 
 /// Whatever bytes there are, those of arrays that are only written included, the run of the plan ends as the source
 /// means on the arrays that are read.
@@ -19,4 +20,9 @@ pub fn calls_are_of_tables()
 /// apart.
 pub fn entries_are_plans()
     ensures { EntriesArePlans }
+{}
+
+/// It is the term of the entry written out, with the entry's buffers in scope round it.
+pub fn plans_are_written()
+    ensures { PlansAreWritten }
 {}

@@ -1,0 +1,449 @@
+-- The buffers of a placed source stand apart where the live ones do.
+use Rattle.std.proofs.Common.{◌≡◌, ◌≢◌, ℕ, zero, suc, ◌+◌, ◌<◌, ◌≤◌, Bool, true, false, List, [], ◌∷◌, ◌++◌, length}
+use Rattle.std.proofs.Common.{map, get_or, Option, Some, None, refl, sym, ap, ap₂, ◌∙◌, subst, arith, ◌⊎◌, inl, inr}
+use Rattle.std.proofs.Common.{⊎_elim, eqb, eqb-true, ltb-true}
+use Rattle.std.specs.Prelude.{slice_get, if◌then◌else◌, ◌==◌}
+use Rattle.std.specs.List.{Contains}
+use Rattle.std.proofs.lemmas.Bool.Decides.{nat_tests}
+use Rattle.sq_text.specs.declared.spread.SpreadRule.{SpreadRule}
+use Rattle.sq_text.specs.Spreading as spreading
+use Rattle.sq_leaf.specs.declared.shape.Shape.{Shape}
+use Rattle.sq_ir.specs.Tree.{Skip}
+use Rattle.sq_ir.specs.Scopes.{Scope}
+use Rattle.sq_ir.specs.Events.{Leaves}
+use Rattle.sq_ir.specs.Plans.{HaveRoom}
+use Rattle.sq_ir.specs.Plans as plans
+use Rattle.sq_ir.specs.Written.{Setting, PlanTree, seq_of, par_of, scoped}
+use Rattle.sq_placed.specs.Placed.{Placed, PlacedArg, PlacedCall, Nothing, Then, Each, AtOnce, Gathers, Call, Hold}
+use Rattle.sq_placed.specs.Placed.{Piped, Leaf}
+use Rattle.sq_placed.specs.Seats.{Seat, seated_args, local_seat}
+use Rattle.sq_placed.specs.Trees.{tree, map_tree, callee_node, callee_seats}
+use Rattle.sq_cells.specs.Machine.{Form, Node, fan_of, lane, lane_of, offset_of}
+use Rattle.sq_cells.specs.Work.{Work}
+use Rattle.sq_cells.specs.Cells.{Spot}
+use Rattle.sq_cells.specs.Tree.{Cause}
+use Rattle.sq_cells.specs.Lowered.{Layout, layout, node_of, lane_kid, own, in_place, IsIn, HasLane, BufferCell, Scratch}
+use Rattle.sq_cells.specs.Lowered.{CallPlaced}
+use Rattle.sq_placed_bytes.specs.Calling.{arrays_of, shapes_of, first_buffer, form_of}
+use Rattle.sq_placed_bytes.specs.OnBytes.{OneCall, work, share, call_or_none, arity_of}
+use Rattle.sq_placed_bytes.specs.Fitting.{IsOne}
+use Rattle.sq_placed_bytes.specs.LeafLaws.{codes_of}
+use Rattle.sq_placed_bytes.specs.Stowed.{LanesApart, Stowed}
+use Rattle.sq_plan_laws.specs.Seated.{IsSeated, CallSits, Sits, at_node}
+use Rattle.sq_plan_laws.proofs.Calls.{IsBuffer, number_is, callee_seated}
+use Rattle.sq_plan_laws.proofs.Sets.{form_is, first_is}
+use Rattle.sq_plan_room.specs.Around.{IsAround}
+use Rattle.sq_plan_room.specs.Buffers.{Names, CallOwns, Owns, HaveLanes}
+use Rattle.sq_plan_room.proofs.Grown.{Aside, seq_first, seq_next, aside_first, aside_next, same_true, in_seq_of}
+use Rattle.sq_plan_room.proofs.Grown.{aside_seq_of, in_par_of, aside_par_of, lanes_apart}
+use Rattle.sq_plan_room.proofs.CallOpens.{IsNamed, is_live, named_right, args_scope, locals_scope, of_body, live_cell}
+use Rattle.sq_plan_room.proofs.CallOpens.{aside_body, separate, below_all}
+
+append_joins : {A : Type 0} (xs ys zs : List A) → (xs ++ ys) ++ zs ≡ xs ++ (ys ++ zs)
+append_joins [] ys zs = refl
+append_joins (x ∷ xs) ys zs = ap (λ l. x ∷ l) (append_joins xs ys zs)
+
+-- ---- from the first on
+
+in_seq : (n : ℕ) (f : ℕ → PlanTree) (t : ℕ) (l : List Scope) → t < n → IsAround (f t) l → IsAround (seq_of n f 0) l
+in_seq n f t l lt h = let z : 0 + t ≡ t
+    = omega arith in in_seq_of n 0 f t l lt (subst (λ u. IsAround (f u) l) (sym z) h)
+
+in_par : (n : ℕ) (f : ℕ → PlanTree) (t : ℕ) (l : List Scope) → t < n → IsAround (f t) l → IsAround (par_of n f 0) l
+in_par n f t l lt h = let z : 0 + t ≡ t
+    = omega arith in in_par_of n 0 f t l lt (subst (λ u. IsAround (f u) l) (sym z) h)
+
+aside_seq : (n : ℕ) (f : ℕ → PlanTree) (t : ℕ) → t < n → Aside (seq_of n f 0) → Aside (f t)
+aside_seq n f t lt h = let z : 0 + t ≡ t = omega arith in subst (λ u. Aside (f u)) z (aside_seq_of n 0 f t lt h)
+
+aside_par : (n : ℕ) (f : ℕ → PlanTree) (t : ℕ) → t < n → Aside (par_of n f 0) → Aside (f t)
+aside_par n f t lt h = let z : 0 + t ≡ t = omega arith in subst (λ u. Aside (f u)) z (aside_par_of n 0 f t lt h)
+
+beside_apart : (n : ℕ) (f : ℕ → PlanTree) → Aside (par_of n f 0) → (i j : ℕ) → i < j → j < n → (l m : List Scope)
+    → IsAround (f i) l → IsAround (f j) m
+    → (x y : Scope) → Contains l x → Contains m y → x.node ≡ y.node → ⊥
+beside_apart n f h i j lt ln l m hi hj =
+    let z : 0 + i ≡ i = omega arith in
+    let y : 0 + j ≡ j = omega arith in
+    lanes_apart n 0 f h i j lt ln l m (subst (λ u. IsAround (f u) l) (sym z) hi)
+    (subst (λ u. IsAround (f u) m) (sym y) hj)
+
+module _ (s : Setting) where
+  -- ---- maps
+
+  in_map : (spread : Option SpreadRule) (node child n : ℕ) (part : ℕ → ℕ → PlanTree) (t : ℕ) (l : List Scope) → t < n
+      → HasLane spread (at_node s node) n t
+      → IsAround (part (lane_kid spread (at_node s node) child n t) t) l
+      → IsAround (map_tree s spread node child n part) l
+  unfolding fan_of lane
+  in_map None node child n part t l lt lane_ h = in_seq n (part child) t l lt h
+  in_map (Some rule) node child n part t l lt lane_ h =
+      let c = spreading.child_of rule n (s.children node) t in
+      in_par (s.children node) (λ d. seq_of n
+      (λ u. if spreading.child_of rule n (s.children node) u == d then part d u else Skip) 0) c l lane_
+      (in_seq n (λ u. if spreading.child_of rule n (s.children node) u == c then part c u else Skip) t l lt
+      (subst (λ b. IsAround (if b then part c t else Skip) l) (sym (same_true c)) h))
+
+  map_aside : (spread : Option SpreadRule) (node child n : ℕ) (part : ℕ → ℕ → PlanTree)
+      → Aside (map_tree s spread node child n part) → (t : ℕ) → t < n → HasLane spread (at_node s node) n t
+      → Aside (part (lane_kid spread (at_node s node) child n t) t)
+  unfolding fan_of lane
+  map_aside None node child n part h t lt lane_ = aside_seq n (part child) t lt h
+  map_aside (Some rule) node child n part h t lt lane_ =
+      let c = spreading.child_of rule n (s.children node) t in
+      subst (λ b. Aside (if b then part c t else Skip)) (same_true c)
+      (aside_seq n (λ u. if spreading.child_of rule n (s.children node) u == c then part c u else Skip) t lt
+      (aside_par (s.children node) (λ d. seq_of n
+      (λ u. if spreading.child_of rule n (s.children node) u == d then part d u else Skip) 0) c lane_ h))
+
+  order : (a b : ℕ) → a ≢ b → (a < b) ⊎ (b < a)
+  order zero zero ne = absurd (ne refl)
+  order zero (suc b) ne = inl (omega arith)
+  order (suc a) zero ne = inr (omega arith)
+  order (suc a) (suc b) ne = ⊎_elim (λ h. inl (omega (arith, h))) (λ h. inr (omega (arith, h)))
+      (order a b (λ e. ne (ap suc e)))
+
+  -- events of iterations at different children have no scopes of one node
+  map_apart : (spread : Option SpreadRule) (node child n : ℕ) (part : ℕ → ℕ → PlanTree)
+      → Aside (map_tree s spread node child n part) → (a b : ℕ) → a < n → b < n
+      → HasLane spread (at_node s node) n a → HasLane spread (at_node s node) n b
+      → lane_kid spread (at_node s node) child n a ≢ lane_kid spread (at_node s node) child n b
+      → (l m : List Scope) → IsAround (part (lane_kid spread (at_node s node) child n a) a) l
+      → IsAround (part (lane_kid spread (at_node s node) child n b) b) m
+      → (x y : Scope) → Contains l x → Contains m y → x.node ≡ y.node → ⊥
+  unfolding fan_of lane
+  map_apart None node child n part h a b la lb ka kb ne l m ha hb x y cx cy e = ne refl
+  map_apart (Some rule) node child n part h a b la lb ka kb ne l m ha hb x y cx cy e =
+      ⊎_elim
+      (λ lt. beside_apart (s.children node) lanes h (kid a) (kid b) lt kb l m (at a l la ha) (at b m lb hb) x y cx cy e)
+      (λ lt. beside_apart (s.children node) lanes h (kid b) (kid a) lt ka m l (at b m lb hb) (at a l la ha) y x cy cx
+      (sym e))
+      (order (kid a) (kid b) ne)
+    where
+      kid : ℕ → ℕ
+      kid t = spreading.child_of rule n (s.children node) t
+
+      lanes : ℕ → PlanTree
+      lanes d = seq_of n (λ u. if spreading.child_of rule n (s.children node) u == d then part d u else Skip) 0
+
+      at : (t : ℕ) (k : List Scope) → t < n → IsAround (part (kid t) t) k → IsAround (lanes (kid t)) k
+      at t k lt z =
+          in_seq n (λ u. if spreading.child_of rule n (s.children node) u == kid t then part (kid t) u else Skip) t k lt
+          (subst (λ v. IsAround (if v then part (kid t) t else Skip) k) (sym (same_true (kid t))) z)
+
+-- a cell of one of the buffers, with an event where it is live
+pub record Found (s : Setting) (t : PlanTree) (p : Placed) (x : Spot) : Type 0 where
+  pub scopes : List Scope
+  pub around : IsAround t scopes
+  pub buffer : ℕ
+  pub named : IsNamed scopes x.area buffer
+  pub byte : plans.HasByte s buffer x.index
+  pub names : Names p buffer
+
+-- iterations at different children have no buffer's cell in common
+apart : (s : Setting) (spread : Option SpreadRule) (node child n : ℕ) (part : ℕ → ℕ → PlanTree)
+    → Aside (map_tree s spread node child n part) → (w : ℕ → Placed) (a b : ℕ) → a < n → b < n
+    → HasLane spread (at_node s node) n a → HasLane spread (at_node s node) n b
+    → lane_kid spread (at_node s node) child n a ≢ lane_kid spread (at_node s node) child n b → (x : Spot)
+    → Found s (part (lane_kid spread (at_node s node) child n a) a) (w a) x
+    → Found s (part (lane_kid spread (at_node s node) child n b) b) (w b) x → ⊥
+apart s spread node child n part aside w a b la lb ka kb ne x f g =
+    map_apart s spread node child n part aside a b la lb ka kb ne f.scopes g.scopes f.around g.around f.named.scope
+    g.named.scope f.named.there g.named.there (f.named.at ∙ sym g.named.at)
+
+-- ---- the one call of a `mapreduce`'s iteration
+
+module _ (s : Setting) (leaves : Leaves Cause) (outer : List Shape) (node : ℕ) where
+  abbrev one_call : Placed → OneCall
+  one_call p = call_or_none (share (codes_of leaves) s.offset p outer).call
+
+  abbrev CallScratch : OneCall → Bool → (kid : ℕ) → Spot → Type 0
+  CallScratch o lower kid x =
+      BufferCell (node_of lower (at_node s node) kid) (form_of s.offset first_buffer o.called) (arity_of o.called)
+      (arrays_of outer o.called) x ⊎ Scratch o.body (node_of lower (at_node s node) kid) 0 x
+
+  abbrev CallStowed : OneCall → Bool → (kid : ℕ) → Type 0
+  CallStowed o lower kid =
+      CallPlaced (node_of lower (at_node s node) kid) (form_of s.offset first_buffer o.called) (arity_of o.called)
+      (arrays_of outer o.called) o.body × Stowed o.body (node_of lower (at_node s node) kid) 0
+
+  one_lower : (p : Placed) → (one : IsOne p) → (one_call p).called.lower ≡ one.called.lower
+  one_lower p one = subst (λ x. (one_call x).called.lower ≡ one.called.lower) (sym one.is) refl
+
+  one_scratch : (p : Placed) → IsOne p → (lower : Bool) → (one_call p).called.lower ≡ lower → (kid : ℕ) (x : Spot)
+      → CallScratch (one_call p) lower kid x → Scratch (work (codes_of leaves) s.offset p outer) (at_node s node) kid x
+  one_scratch p one lower e kid x =
+      subst (λ l. CallScratch (one_call p) l kid x
+      → Scratch (work (codes_of leaves) s.offset p outer) (at_node s node) kid x) e
+      (subst (λ q. CallScratch (one_call q) (one_call q).called.lower kid x
+      → Scratch (work (codes_of leaves) s.offset q outer) (at_node s node) kid x) (sym one.is) (λ h. inl h))
+
+  one_stowed : (p : Placed) → IsOne p → (lower : Bool) → (one_call p).called.lower ≡ lower → (kid : ℕ)
+      → Stowed (work (codes_of leaves) s.offset p outer) (at_node s node) kid → CallStowed (one_call p) lower kid
+  one_stowed p one lower e kid =
+      subst (λ l. Stowed (work (codes_of leaves) s.offset p outer) (at_node s node) kid → CallStowed (one_call p) l kid)
+      e
+      (subst (λ q. Stowed (work (codes_of leaves) s.offset q outer) (at_node s node) kid
+      → CallStowed (one_call q) (one_call q).called.lower kid) (sym one.is) (λ h. h.0))
+
+-- ---- a call
+
+abbrev pub on_bytes : Setting → Leaves Cause → Placed → List Shape → Work
+on_bytes s leaves p outer = work (codes_of leaves) s.offset p outer
+
+module _ (s : Setting) (leaves : Leaves Cause) (outer : List Shape) (seats : List Seat) (at : Layout)
+    (seated : IsSeated outer seats at) (c : PlacedCall) (sits : CallSits outer c) (w : Placed) (owns : CallOwns s c w)
+    (node child : ℕ) (path : List ℕ) where
+  abbrev inside : ℕ
+  inside = callee_node s c.lower node child
+
+  abbrev form : Form
+  form = form_of s.offset first_buffer c
+
+  abbrev inner_seats : List Seat
+  inner_seats = callee_seats (seated_args s inside seats c.args) (map (local_seat s inside) c.locals)
+
+  abbrev inner_layout : Layout
+  inner_layout = layout (at_node s inside) form (arrays_of outer c) at
+
+  inner_seated : IsSeated (shapes_of c) inner_seats inner_layout
+  inner_seated = callee_seated s leaves outer seats at seated c sits inside first_buffer form
+      (form_is s.offset first_buffer c) (λ i p e. first_is p.home)
+
+  abbrev body : PlanTree
+  body = tree s w inside 0 inner_seats path
+
+  abbrev of_args : List Scope
+  of_args = args_scope s leaves outer seats at seated c sits inside w owns body
+
+  abbrev of_locals : List Scope
+  of_locals = locals_scope s leaves outer seats at seated c sits inside w owns body
+
+  abbrev InCall : Node → Spot → Type 0
+  InCall M x = BufferCell M form (arity_of c) (arrays_of outer c) x ⊎ Scratch (on_bytes s leaves w (shapes_of c)) M 0 x
+
+  module _ (ih : (x : Spot) → Scratch (on_bytes s leaves w (shapes_of c)) (at_node s inside) 0 x → Found s body w x)
+    where
+      found_in : (x : Spot) → InCall (at_node s inside) x → Found s (tree s (Call c w) node child seats path) (Call c w) x
+      found_in x (inl z) =
+          let f = live_cell s leaves outer seats at seated c sits inside w owns body x z in
+          record {
+            scopes = f.scopes;
+            around = f.around;
+            buffer = f.buffer;
+            named = f.named;
+            byte = f.byte;
+            names
+                = inl f.has;
+          }
+      found_in x (inr z) =
+          let f = ih x z in
+          record {
+            scopes = of_args ++ (of_locals ++ f.scopes);
+            around = of_body s leaves outer seats at seated c sits inside w owns body f.scopes f.around;
+            buffer = f.buffer;
+            named = named_right of_args (of_locals ++ f.scopes) x.area f.buffer
+                (named_right of_locals f.scopes x.area f.buffer f.named);
+            byte = f.byte;
+            names = inr f.names;
+          }
+
+      call_found : (x : Spot) → Scratch (on_bytes s leaves (Call c w) outer) (at_node s node) child x
+          → Found s (tree s (Call c w) node child seats path) (Call c w) x
+      call_found x h = found_in x (subst (λ M. InCall M x) (number_is s c.lower node child) h)
+
+      module _ (pre : List Scope) (room : (l : List Scope) → IsAround (tree s (Call c w) node child seats path) l →
+          HaveRoom s (pre ++ l)) where
+        body_room : (l : List Scope) → IsAround body l → HaveRoom s ((pre ++ (of_args ++ of_locals)) ++ l)
+        body_room l h =
+            subst (HaveRoom s) (ap (λ z. pre ++ z) (sym (append_joins of_args of_locals l))
+            ∙ sym (append_joins pre (of_args ++ of_locals) l))
+            (room (of_args ++ (of_locals ++ l)) (of_body s leaves outer seats at seated c sits inside w owns body l h))
+
+        under : (l : Spot) → IsIn (arity_of c) (arrays_of outer c) l → in_place (arrays_of outer c l.area).place ≡ false
+            → Found s body w (own (at_node s inside) form l) → ⊥
+        unfolding offset_of
+        under l il ol f = below_all s leaves outer seats at seated c sits inside w owns body pre room l il ol f.scopes
+            f.around f.buffer f.named f.byte f.names
+
+        its_place : CallPlaced (at_node s inside) form (arity_of c) (arrays_of outer c)
+            (on_bytes s leaves w (shapes_of c))
+        its_place = record {
+          separate = λ l m il im ol om e. separate s leaves outer seats at seated c sits inside w owns body pre room l m
+              il im ol om e;
+          below = λ l il ol z. under l il ol (ih (own (at_node s inside) form l) z);
+        }
+
+        call_stowed : Stowed (on_bytes s leaves w (shapes_of c)) (at_node s inside) 0
+            → Stowed (on_bytes s leaves (Call c w) outer) (at_node s node) child
+        call_stowed h =
+            subst (λ M. CallPlaced M form (arity_of c) (arrays_of outer c) (on_bytes s leaves w (shapes_of c))
+            × Stowed (on_bytes s leaves w (shapes_of c)) M 0) (sym (number_is s c.lower node child)) (its_place, h)
+
+-- ---- each buffer is live somewhere
+
+module _ (s : Setting) (leaves : Leaves Cause) where
+  pub scratch : (p : Placed) (node child : ℕ) (outer : List Shape) (seats : List Seat) (at : Layout) (path : List ℕ)
+      → Sits leaves p outer → IsSeated outer seats at → Owns s p → HaveLanes s p node child
+      → (x : Spot) → Scratch (on_bytes s leaves p outer) (at_node s node) child x
+      → Found s (tree s p node child seats path) p x
+  scratch Nothing node child outer seats at path sits seated owns lanes x h = absurd h
+  scratch (Then a b) node child outer seats at path sits seated owns lanes x (inl h) =
+      let f = scratch a node child outer seats at path sits.0 seated owns.0 lanes.0 x h in
+      record {
+        scopes = f.scopes;
+        around
+            = seq_first (tree s a node child seats path) (tree s b node child seats path) f.scopes f.around;
+        buffer
+            = f.buffer;
+        named = f.named;
+        byte = f.byte;
+        names = inl f.names;
+      }
+  scratch (Then a b) node child outer seats at path sits seated owns lanes x (inr h) =
+      let f = scratch b node child outer seats at path sits.1 seated owns.1 lanes.1 x h in
+      record {
+        scopes = f.scopes;
+        around
+            = seq_next (tree s a node child seats path) (tree s b node child seats path) f.scopes f.around;
+        buffer
+            = f.buffer;
+        named = f.named;
+        byte = f.byte;
+        names = inr f.names;
+      }
+  scratch (Each n w) node child outer seats at path sits seated owns lanes x (t, lt, h) =
+      let f = scratch (w t) node child outer seats at (path ++ t ∷ []) (sits t lt) seated (owns t lt) (lanes t lt) x h
+      in
+      record {
+        scopes = f.scopes;
+        around
+            = in_map s None node child n (λ c u. tree s (w u) node c seats (path ++ u ∷ [])) t f.scopes lt tt f.around;
+        buffer = f.buffer;
+        named = f.named;
+        byte = f.byte;
+        names = (t, lt, f.names);
+      }
+  scratch (AtOnce place spread n w) node child outer seats at path sits seated owns lanes x (t, lt, h) =
+      let kid = lane_kid spread (at_node s node) child n t in
+      let f = scratch (w t) node kid outer seats at (path ++ t ∷ []) (sits t lt) seated (owns t lt) (lanes t lt).1 x h
+      in
+      record {
+        scopes = f.scopes;
+        around
+            = in_map s spread node child n (λ c u. tree s (w u) node c seats (path ++ u ∷ [])) t f.scopes lt
+            (lanes t lt).0 f.around;
+        buffer = f.buffer;
+        named = f.named;
+        byte = f.byte;
+        names = (t, lt, f.names);
+      }
+  scratch (Gathers r place spread zero w) node child outer seats at path sits seated owns lanes x h = absurd h
+  scratch (Gathers r place spread (suc n) w) node child outer seats at path sits seated owns lanes x (t, lt, h) =
+      let kid = lane_kid spread (at_node s node) child (suc n) t in
+      let first = (sits.1 0 (omega arith)) in
+      let mine = sits.1 t lt in
+      let same = one_lower s leaves outer node (w t) mine.0 ∙ mine.1
+      ∙ sym (one_lower s leaves outer node (w 0) first.0 ∙ first.1) in
+      let f = scratch (w t) node kid outer seats at (path ++ t ∷ []) mine.2 seated (owns t lt) (lanes t lt).1 x
+      (one_scratch s leaves outer node (w t) mine.0 (one_call s leaves outer node (w 0)).called.lower same kid x h)
+      in
+      record {
+        scopes = f.scopes;
+        around
+            = in_map s spread node child (suc n) (λ c u. tree s (w u) node c seats (path ++ u ∷ [])) t f.scopes lt
+            (lanes t lt).0 f.around;
+        buffer = f.buffer;
+        named = f.named;
+        byte = f.byte;
+        names = (t, lt, f.names);
+      }
+  scratch (Call c w) node child outer seats at path sits seated owns lanes x h =
+      call_found s leaves outer seats at seated c sits.0 w owns.0 node child path
+      (λ y z. scratch w (callee_node s c.lower node child) 0 (shapes_of c)
+      (inner_seats s leaves outer seats at seated c sits.0 w owns.0 node child path) _ path sits.1
+      (inner_seated s leaves outer seats at seated c sits.0 w owns.0 node child path) owns.1 lanes y z) x h
+  scratch (Hold args w) node child outer seats at path sits seated owns lanes x h = absurd owns
+  scratch (Piped spread n calls w) node child outer seats at path sits seated owns lanes x h = absurd owns
+  scratch (Leaf code leaf shapes) node child outer seats at path sits seated owns lanes x h = absurd h
+
+  pub stowed : (p : Placed) (node child : ℕ) (outer : List Shape) (seats : List Seat) (at : Layout) (path : List ℕ)
+      → Sits leaves p outer → IsSeated outer seats at → Owns s p → HaveLanes s p node child
+      → Aside (tree s p node child seats path) → (pre : List Scope)
+      → ((l : List Scope) → IsAround (tree s p node child seats path) l → HaveRoom s (pre ++ l))
+      → Stowed (on_bytes s leaves p outer) (at_node s node) child
+  stowed Nothing node child outer seats at path sits seated owns lanes aside pre room = tt
+  stowed (Then a b) node child outer seats at path sits seated owns lanes aside pre room =
+      let x = tree s a node child seats path in
+      let y = tree s b node child seats path in (
+        stowed a node child outer seats at path sits.0 seated owns.0 lanes.0 (aside_first x y aside) pre
+            (λ l h. room l (seq_first x y l h)),
+        stowed b node child outer seats at path sits.1 seated owns.1 lanes.1 (aside_next x y aside) pre
+            (λ l h. room l (seq_next x y l h)),
+      )
+  stowed (Each n w) node child outer seats at path sits seated owns lanes aside pre room = λ t lt.
+      let part : ℕ → ℕ → PlanTree = λ c u. tree s (w u) node c seats (path ++ u ∷ []) in
+      stowed (w t) node child outer seats at (path ++ t ∷ []) (sits t lt) seated (owns t lt) (lanes t lt)
+      (map_aside s None node child n part aside t lt tt) pre
+      (λ l h. room l (in_map s None node child n part t l lt tt h))
+  stowed (AtOnce place spread n w) node child outer seats at path sits seated owns lanes aside pre room =
+      let part : ℕ → ℕ → PlanTree = λ c u. tree s (w u) node c seats (path ++ u ∷ []) in
+      let kid : ℕ → ℕ = lane_kid spread (at_node s node) child n in (
+        record {
+          lanes = λ a b la lb ne x ha hb.
+              apart s spread node child n part aside w a b la lb (lanes a la).0 (lanes b lb).0 ne x
+              (scratch (w a) node (kid a) outer seats at (path ++ a ∷ []) (sits a la) seated (owns a la) (lanes a la).1 x
+              ha)
+              (scratch (w b) node (kid b) outer seats at (path ++ b ∷ []) (sits b lb) seated (owns b lb) (lanes b lb).1 x
+              hb);
+        },
+        λ t lt. (
+          (lanes t lt).0,
+          stowed (w t) node (kid t) outer seats at (path ++ t ∷ []) (sits t lt) seated (owns t lt)
+              (lanes t lt).1 (map_aside s spread node child n part aside t lt (lanes t lt).0) pre
+              (λ l h. room l (in_map s spread node child n part t l lt (lanes t lt).0 h)),
+        ),
+      )
+  stowed (Gathers r place spread zero w) node child outer seats at path sits seated owns lanes aside pre room = tt
+  stowed (Gathers r place spread (suc n) w) node child outer seats at path sits seated owns lanes aside pre room =
+      let part : ℕ → ℕ → PlanTree = λ c u. tree s (w u) node c seats (path ++ u ∷ []) in
+      let kid : ℕ → ℕ = lane_kid spread (at_node s node) child (suc n) in
+      let first = sits.1 0 (omega arith) in
+      let lower = (one_call s leaves outer node (w 0)).called.lower in
+      let same : (t : ℕ) → t < suc n → (one_call s leaves outer node (w t)).called.lower ≡ lower =
+      λ t lt. one_lower s leaves outer node (w t) (sits.1 t lt).0 ∙ (sits.1 t lt).1
+      ∙ sym (one_lower s leaves outer node (w 0) first.0 ∙ first.1) in (
+        record {
+          lanes = λ a b la lb ne x ha hb.
+              apart s spread node child (suc n) part aside w a b la lb (lanes a la).0 (lanes b lb).0 ne x
+              (scratch (w a) node (kid a) outer seats at (path ++ a ∷ []) (sits.1 a la).2 seated (owns a la) (lanes a la).1
+              x (one_scratch s leaves outer node (w a) (sits.1 a la).0 lower (same a la) (kid a) x ha))
+              (scratch (w b) node (kid b) outer seats at (path ++ b ∷ []) (sits.1 b lb).2 seated (owns b lb) (lanes b lb).1
+              x (one_scratch s leaves outer node (w b) (sits.1 b lb).0 lower (same b lb) (kid b) x hb));
+        },
+        λ t lt.
+            let z = one_stowed s leaves outer node (w t) (sits.1 t lt).0 lower (same t lt) (kid t)
+            (stowed (w t) node (kid t) outer seats at (path ++ t ∷ []) (sits.1 t lt).2 seated (owns t lt) (lanes t lt).1
+            (map_aside s spread node child (suc n) part aside t lt (lanes t lt).0) pre
+            (λ l h. room l (in_map s spread node child (suc n) part t l lt (lanes t lt).0 h))) in
+            ((lanes t lt).0, z.0, z.1),
+      )
+  stowed (Call c w) node child outer seats at path sits seated owns lanes aside pre room =
+      let inside = callee_node s c.lower node child in
+      let seats' = inner_seats s leaves outer seats at seated c sits.0 w owns.0 node child path in
+      let at' = inner_layout s leaves outer seats at seated c sits.0 w owns.0 node child path in
+      let seated' = inner_seated s leaves outer seats at seated c sits.0 w owns.0 node child path in
+      let ih : (y : Spot) → Scratch (on_bytes s leaves w (shapes_of c)) (at_node s inside) 0 y
+      → Found s (tree s w inside 0 seats' path) w y =
+      λ y z. scratch w inside 0 (shapes_of c) seats' at' path sits.1 seated' owns.1 lanes y z in
+      let args = args_scope s leaves outer seats at seated c sits.0 inside w owns.0 (tree s w inside 0 seats' path) in
+      let locals = locals_scope s leaves outer seats at seated c sits.0 inside w owns.0 (tree s w inside 0 seats' path)
+      in
+      call_stowed s leaves outer seats at seated c sits.0 w owns.0 node child path ih pre room
+      (stowed w inside 0 (shapes_of c) seats' at' path sits.1 seated' owns.1 lanes
+      (aside_body s leaves outer seats at seated c sits.0 inside w owns.0 (tree s w inside 0 seats' path) aside)
+      (pre ++ (args ++ locals))
+      (body_room s leaves outer seats at seated c sits.0 w owns.0 node child path ih pre room))
+  stowed (Hold args w) node child outer seats at path sits seated owns lanes aside pre room = absurd owns
+  stowed (Piped spread n calls w) node child outer seats at path sits seated owns lanes aside pre room = absurd owns
+  stowed (Leaf code leaf shapes) node child outer seats at path sits seated owns lanes aside pre room = tt

@@ -1,0 +1,10 @@
+pub mod LowersOpened
+pub mod Sides
+pub mod Numbered
+pub mod Behind
+pub mod Spread
+pub mod Called
+pub mod Lowered
+pub mod Sure
+pub mod HaveNumbers
+pub mod AllNumbers

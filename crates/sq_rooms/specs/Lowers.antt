@@ -1,0 +1,16 @@
+-- Whether statements have a lower call in them.
+use Rattle.std.specs.Prelude.{Bool, false, ◌||◌, List, [], ◌∷◌}
+use Rattle.sq_spec.specs.declared.statement.Statement.{Statement}
+use Rattle.sq_spec.specs.declared.statement.Statement.TheOpen.{Statement-F}
+use Rattle.sq_spec.specs.declared.statement.Statement.TheFolds.{fold-Statement}
+
+abbrev pub any_of : List Bool → Bool
+any_of [] = false
+any_of (b ∷ bs) = b || any_of bs
+
+abbrev pub lower_step : Statement-F Bool → Bool
+lower_step (Statement-F.Call lower instances) = lower
+lower_step (Statement-F.Map place kind counts starts parts) = any_of parts
+
+abbrev pub lower_in : Statement → Bool
+lower_in = fold-Statement Bool lower_step

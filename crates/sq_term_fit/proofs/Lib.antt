@@ -1,0 +1,11 @@
+pub mod Meets
+pub mod LiftHas
+pub mod Fine
+pub mod Fitting
+pub mod Meeting
+pub mod Rooming
+pub mod Blocks
+pub mod Views
+pub mod Seeing
+pub mod Roomed
+pub mod ExampleFits

@@ -1,0 +1,542 @@
+-- The induction over statements once more, with what is asked of actions: rows lie inside their buffers.
+use Rattle.std.proofs.Common.{◌≡◌, ℕ, zero, suc, ◌+◌, ◌<◌, ◌≤◌, pos, Bool, true, false, not, ◌||◌, is_some, List, []}
+use Rattle.std.proofs.Common.{◌∷◌, ◌++◌, map, length, get_or, slice_get, take, drop, Option, Some, None, refl, sym, ap}
+use Rattle.std.proofs.Common.{subst, ◌∙◌, arith, if◌then◌else◌, inl, inr}
+use Rattle.std.specs.List.{All}
+use Rattle.sq_num.specs.declared.RedOp.{RedOp}
+use Rattle.sq_num.specs.declared.Elem.TheVariants.{Long}
+use Rattle.sq_num.specs.Elements.{IsValue}
+use Rattle.sq_text.specs.declared.place.Place.{Place}
+use Rattle.sq_text.specs.declared.spread.SpreadRule.{SpreadRule}
+use Rattle.sq_leaf.specs.declared.shape.Shape.{Shape}
+use Rattle.sq_ir.specs.Written.{Setting, Env, value_of, at_turn, at_root, node_of, inside_of}
+use Rattle.sq_ir.specs.Plans.{HasValue, IsBuffer, IsChild, each_part, this_arm, Meets}
+use Rattle.sq_ir.specs.declared.num.Num.{Num}
+use Rattle.sq_ir.specs.declared.num.Num.TheVariants as n
+use Rattle.sq_ir.specs.declared.term.Action.TheVariants as action
+use Rattle.sq_ir.specs.declared.term.Term.{Term}
+use Rattle.sq_ir.specs.declared.term.Term.TheVariants as term
+use Rattle.sq_blocks.specs.declared.argument.Argument.{Argument}
+use Rattle.sq_spec.specs.declared.statement.LoopKind.{LoopKind}
+use Rattle.sq_spec.specs.declared.statement.CallInstance.{CallInstance}
+use Rattle.sq_spec.specs.declared.statement.Statement.{Statement, roll-Statement}
+use Rattle.sq_spec.specs.declared.statement.Statement.TheVariants as b
+use Rattle.sq_spec.specs.declared.statement.Statement.TheOpen.{Statement-F}
+use Rattle.sq_spec.specs.declared.statement.Statement.TheFolds.{ind-Statement, map-Statement, fold-roll-Statement}
+use Rattle.sq_spec.specs.declared.body.Body.{Body}
+use Rattle.sq_spec.specs.declared.body.Body.TheVariants as body
+use Rattle.sq_spec.specs.declared.body.FormBody.{FormBody}
+use Rattle.sq_placed.specs.declared.home.Home.{Home}
+use Rattle.sq_placed.specs.declared.home.Homes.{Homes}
+use Rattle.sq_term.specs.declared.context.Context.{Context}
+use Rattle.sq_term.specs.declared.context.Move.{Move}
+use Rattle.sq_placed.specs.Trees.{local_buffers}
+use Rattle.sq_placed.specs.Tables.{locals_of, op_of, spread_of, Chain, chain_of, leaving_row, leaving_chain, chain_form}
+use Rattle.sq_placed.specs.Tables.{leaving_args, leaves_loop, placed_locals}
+use Rattle.sq_term.specs.Terms.{numbers, local_view, clear_term, moves_from, buffers_from, in_callee, call_child}
+use Rattle.sq_term.specs.Terms.{arms_of, arm_number, picks, TermPart, any_lower, any_same, chains, all_terms, in_map}
+use Rattle.sq_term.specs.Terms.{map_term, arm_term, arm_of_form, rows_term, count_num, loop_term, statement_term}
+use Rattle.sq_term.specs.Terms.{first_num, chain_times, chain_num, hold_term, body_term, term_of, entry_context}
+use Rattle.sq_term.specs.Terms.{entry_row, entry_term, entry_views, buffer_or}
+use Rattle.sq_term.specs.Stands.{below, calls_in_rows, all_calls, calls_in, calls_in_all, calls_of, AreLevel}
+use Rattle.sq_term.specs.Stands.{AreLeveled, Each, none, more}
+use Rattle.sq_term_fit.specs.Fits.{Bounds, AreBounds, IsMachine, AskedOfStatement, all_parts, Tabled, TabledBody}
+use Rattle.sq_term_fit.specs.Fits.{AreTabled, Way, to_child, entered, Fits, NodeAt}
+use Rattle.sq_term.proofs.Numbers.{constant, table_is}
+use Rattle.sq_term.proofs.Arms.{arm_of_row, pick_of, picks_are, IsHead}
+use Rattle.sq_term.proofs.Maps.{MayBe, may_be}
+use Rattle.sq_term.proofs.Holds.{row_level}
+use Rattle.sq_term.proofs.Same.{level_left, level_right, or_left, or_rest}
+use Rattle.sq_term.proofs.Opened.{built_call, built_map, calls_call, calls_map}
+use Rattle.sq_term_fit.proofs.Fine.{zero_fits, const_has, pick_has, fine_skip, fine_act, fine_seq, fine_par, fine_loop}
+use Rattle.sq_term_fit.proofs.Fine.{fine_spread, fine_case, fine_within, fine_arm}
+use Rattle.sq_term_fit.proofs.Fitting.{call_there, kept_there, uses_fit, Inside, goes_in, begins, in_turn, narrow}
+use Rattle.sq_placed.specs.declared.home.Home.TheVariants.{InPlace}
+use Rattle.sq_term_fit.specs.Rooms.{RowsInside, IsRoomy, IsRoomyMove, IsWhole, AreWhole, FitsInto, HomeFits, ArgFits}
+use Rattle.sq_term_fit.specs.Rooms.{Sees, joined_rows, reached_step, reached_in, reached_of, RowFits, RowsFit, AreRoomy}
+use Rattle.sq_term_fit.specs.Rooms.{EntryFits}
+use Rattle.sq_term_fit.specs.Laws.{TermIsRoomy, EntryIsRoomy}
+use Rattle.sq_term.proofs.Whole.{heads_refl}
+use Rattle.sq_term_fit.proofs.Blocks.{roomy_buffer, fill_good, bring_good, back_good}
+use Rattle.sq_term_fit.proofs.Rooming.{eight_fits}
+use Rattle.sq_term_fit.proofs.Seeing.{moves_roomy, callee_sees, sees_turn, leaf_good, locals_roomy}
+use Rattle.sq_term_fit.proofs.Meeting.{tabled_call, tabled_map, arm_below, arms_len, picks_len, either, spread_lower}
+
+abbrev pub Good : Setting → Term → Env → List ℕ → Type 0
+Good s x env bs = Meets s (RowsInside s) x env bs
+
+-- ---- the rows of calls
+
+reached_call : (lower : Bool) (times : List CallInstance) → reached_in (b.Call lower times) ≡ times
+reached_call lower times = ap reached_in (sym (b.rolls-Call lower times))
+    ∙ fold-roll-Statement (List CallInstance) reached_step (Statement-F.Call lower times)
+
+reached_map : (place : Place) (m : LoopKind) (counts starts : List ℕ) (parts : List Statement)
+    → reached_in (b.Map place m counts starts parts) ≡ joined_rows (map reached_in parts)
+reached_map place m counts starts parts = ap reached_in (sym (b.rolls-Map place m counts starts parts))
+    ∙ fold-roll-Statement (List CallInstance) reached_step (Statement-F.Map place m counts starts parts)
+
+whole_at : (xs : List Shape) → AreWhole xs → (i : ℕ) (x : Shape) → slice_get xs i ≡ Some x → IsWhole x
+whole_at [] w i x e = cc
+whole_at (y ∷ xs) w zero x e = let g : y ≡ x = cc in subst IsWhole g w.0
+whole_at (y ∷ xs) w (suc i) x e = whole_at xs w.1 i x e
+
+whole_dropped : (k : ℕ) (xs : List Shape) → AreWhole xs → AreWhole (drop k xs)
+whole_dropped zero xs h = h
+whole_dropped (suc k) [] h = tt
+whole_dropped (suc k) (x ∷ xs) h = whole_dropped k xs h.1
+
+taken : (k : ℕ) (xs : List Shape) (j : ℕ) (y : Shape) → slice_get (take k xs) j ≡ Some y → slice_get xs j ≡ Some y
+taken zero xs j y e = cc
+taken (suc k) [] j y e = cc
+taken (suc k) (x ∷ xs) zero y e = e
+taken (suc k) (x ∷ xs) (suc j) y e = taken k xs j y e
+
+-- nothing leaves a loop
+none_leave : (hs : List Home) → ((i loops : ℕ) → leaves_loop loops (get_or hs i InPlace) ≡ false)
+    → (loops i : ℕ) (args : List Argument) → leaving_args loops hs i args ≡ []
+none_leave hs h loops i [] = refl
+none_leave hs h loops i (a ∷ rest)
+    = ap (λ (z : Bool). if z then (i, a) ∷ leaving_args loops hs (suc i) rest else leaving_args loops hs (suc i) rest)
+    (h i loops) ∙ none_leave hs h loops (suc i) rest
+
+module _ (s : Setting) (most : Bounds) (bounds : AreBounds most) (last : ℕ) (is_at : ℕ → ℕ → Type 0)
+    (machine : IsMachine s most last is_at)
+    (bodies : ℕ → FormBody) (homes : ℕ → Homes) (level : ℕ → ℕ) (leveled : AreLeveled s bodies homes level)
+    (tabled : AreTabled s most last bodies homes level) (roomy : AreRoomy s bodies homes) where
+  pub one_fits : IsValue Long (pos 1)
+  one_fits = uses_fit s most bounds last is_at machine 1 bounds.once
+
+  rows_left : (outer : List Shape) (xs ys : List CallInstance) → RowsFit bodies homes outer (xs ++ ys)
+      → RowsFit bodies homes outer xs
+  rows_left outer [] ys h = tt
+  rows_left outer (x ∷ xs) ys h = (h.0, rows_left outer xs ys h.1)
+
+  rows_right : (outer : List Shape) (xs ys : List CallInstance) → RowsFit bodies homes outer (xs ++ ys)
+      → RowsFit bodies homes outer ys
+  rows_right outer [] ys h = h
+  rows_right outer (x ∷ xs) ys h = rows_right outer xs ys h.1
+
+  row_fits : (outer : List Shape) (times : List CallInstance) (k : ℕ) (r : CallInstance)
+      → RowsFit bodies homes outer times → slice_get times k ≡ Some r → RowFits bodies homes outer r
+  row_fits outer [] k r h e = cc
+  row_fits outer (x ∷ times) zero r h e = let g : x ≡ r = cc in subst (RowFits bodies homes outer) g h.0
+  row_fits outer (x ∷ times) (suc k) r h e = row_fits outer times k r h.1 e
+
+  unheld_chain : (o : Option (Chain Num)) → leaving_chain homes o ≡ []
+  unheld_chain None = refl
+  unheld_chain (Some h) = go (slice_get h.instances 0)
+    where
+      go : (r : Option CallInstance) → leaving_row homes h.loops r ≡ []
+      go None = refl
+      go (Some r) = none_leave (homes r.form).params (roomy.unheld r.form) h.loops 0 r.args
+
+  -- the callees' terms are well formed
+  abbrev pub AreGood : (ℕ → Context → Term) → Type 0
+  AreGood made = (f : ℕ) (c : Context) (env : Env) (bs : List ℕ) → Fits s last is_at env (level f) c false true 0
+      → Sees s env.turns (bodies f).arrays c → Good s (made f c) env bs
+
+  moves_good : (env : Env) (bs : List ℕ) (f : Move → Term)
+      → ((m : Move) (x : Shape) → IsRoomyMove s env.turns m x → Good s (f m) env bs)
+      → {ms : List Move} {xs : List Shape} → Each (IsRoomyMove s env.turns) ms xs
+      → each_part (Meets s (RowsInside s)) (map f ms) env bs
+  moves_good env bs f h none = tt
+  moves_good env bs f h (more r rest) = (h _ _ r, moves_good env bs f h rest)
+
+  clears_good : (env : Env) (bs : List ℕ) (shapes : List Shape) (locals : List ℕ) → AreWhole shapes
+      → Each (FitsInto s) locals shapes
+      → each_part (Meets s (RowsInside s)) (map (λ k. clear_term (local_view k)) (placed_locals shapes locals)) env bs
+  clears_good env bs [] locals w none = tt
+  clears_good env bs (x ∷ shapes) [] w h = elim h [ ]
+  clears_good env bs (x ∷ shapes) (l ∷ locals) w (more f rest) =
+      go (clears_good env bs shapes locals w.1 rest)
+      (locals_roomy s roomy.sizes env.turns (x ∷ shapes) (l ∷ locals) w (more f rest))
+    where
+      go : each_part (Meets s (RowsInside s)) (map (λ k. clear_term (local_view k)) (placed_locals shapes locals)) env
+          bs → Each (IsRoomy s env.turns) (map local_view (placed_locals (x ∷ shapes) (l ∷ locals))) (x ∷ shapes)
+          → each_part (Meets s (RowsInside s))
+          (map (λ k. clear_term (local_view k)) (placed_locals (x ∷ shapes) (l ∷ locals))) env bs
+      go others (more g later) = (fill_good s roomy.sizes eight_fits env bs x (pos 0) _ g, others)
+
+  module _ (made : ℕ → Context → Term) (callees : AreGood made) where
+    pub arm_good : (params : List Home) (outer : List Shape) (op : Option RedOp) (lower : Bool)
+        (times : List CallInstance) (k : ℕ) (r : CallInstance) (c : Context) (env : Env) (at : ℕ) (inside : Bool)
+        (bs : List ℕ) (arm : CallInstance)
+        → All (IsBuffer s (below lower at)) (buffers_from params 0 arm.args)
+        → ((i : ℕ) (x : Shape) → slice_get (bodies arm.form).arrays i ≡ Some x → HomeFits s (get_or params i InPlace) x)
+        → level arm.form ≡ below lower at → (lower ≡ true → at < last) → slice_get times k ≡ Some r → k < length times
+        → r.form ≡ arm.form → Each IsHead r.args arm.args → RowFits bodies homes outer r
+        → Fits s last is_at env at c inside (not lower) k → Sees s env.turns outer c
+        → Good s (arm_term bodies homes made params op lower c times arm) env bs
+    arm_good params outer op lower times k r c env at inside bs arm there own deep low at_time long form heads fits h
+        seen =
+        fine_within s (RowsInside s) env bs (call_child lower c) new _ goes.1
+        (subst (λ (l : ℕ). All (IsBuffer s l) new) (sym goes.0.level_is) there)
+        (fine_seq s (RowsInside s) in_env (new ++ bs) _ (
+          fine_par s (RowsInside s) in_env (new ++ bs) _
+              (moves_good in_env (new ++ bs) _ (λ m x i. bring_good s roomy.sizes eight_fits in_env (new ++ bs) x m i) each),
+          (
+            fine_within s (RowsInside s) in_env (new ++ bs) None
+                (local_buffers (locals_of (bodies arm.form) (homes arm.form))) _ tt
+                (subst (λ (l : ℕ). All (IsBuffer s l) (local_buffers (locals_of (bodies arm.form) (homes arm.form))))
+                (deep ∙ sym goes.0.level_is)
+                (kept_there s (level arm.form) rest (homes arm.form).locals (leveled.locals arm.form) (tabled.locals arm.form)))
+                (fine_seq s (RowsInside s) in_env _ _ (
+                  fine_par s (RowsInside s) in_env _ _
+                      (clears_good in_env _ rest (homes arm.form).locals whole (roomy.locals arm.form)),
+                  (
+                    callees arm.form (in_callee c ms (locals_of (bodies arm.form) (homes arm.form))) in_env _ (record {
+                      ordinal = constant s in_env.turns 0;
+                      has = record {
+                        has = λ l nodes. const_has s (record { turns = in_env.turns; level = l; nodes = nodes })
+                            (pos 0) zero_fits;
+                      };
+                      way = begins s most bounds last is_at machine in_env (level arm.form)
+                          (record { level_is = goes.0.level_is ∙ sym deep; here = goes.0.here });
+                      here = goes.0.here;
+                    })
+                        (callee_sees s roomy.sizes in_env.turns c outer
+                        (subst (λ (t : List ℕ). Sees s t outer c) (sym (turns lower c.child)) seen) (bodies arm.form).arrays
+                        (length (homes arm.form).params) ms (homes arm.form).locals each whole (roomy.locals arm.form)),
+                    tt,
+                  ),
+                )),
+            (
+              fine_par s (RowsInside s) in_env (new ++ bs) _
+                  (moves_good in_env (new ++ bs) _ (λ m x i. back_good s roomy.sizes eight_fits in_env (new ++ bs) x m i) each),
+              tt,
+            ),
+          ),
+        ))
+      where
+        in_env : Env
+        in_env = inside_of s env (call_child lower c)
+
+        new : List ℕ
+        new = buffers_from params 0 arm.args
+
+        rest : List Shape
+        rest = drop (length (homes arm.form).params) (bodies arm.form).arrays
+
+        whole : AreWhole rest
+        whole = whole_dropped (length (homes arm.form).params) (bodies arm.form).arrays (roomy.whole arm.form)
+
+        goes : Inside s most bounds last is_at machine in_env (below lower at) × IsChild s env (call_child lower c)
+        goes = goes_in s most bounds last is_at machine env at lower inside h.here low h.way
+
+        turns : (l : Bool) (p : Option Num) → (inside_of s env (if l then p else None)).turns ≡ env.turns
+        turns false p = refl
+        turns true None = refl
+        turns true (Some x) = refl
+
+        ms : List Move
+        ms = moves_from op (bodies arm.form).arrays params c times 0 arm.args
+
+        args : Each (ArgFits outer) r.args (take (length (homes arm.form).params) (bodies arm.form).arrays)
+        args = subst (λ (f : ℕ). Each (ArgFits outer) r.args (take (length (homes f).params) (bodies f).arrays)) form
+            fits
+
+        each : Each (IsRoomyMove s in_env.turns) ms (take (length (homes arm.form).params) (bodies arm.form).arrays)
+        each = subst (λ (t : List ℕ). Each (IsRoomyMove s t) ms
+            (take (length (homes arm.form).params) (bodies arm.form).arrays)) (sym (turns lower c.child))
+            (moves_roomy s roomy.sizes env.turns c outer seen.views times k r at_time long h.ordinal h.has op
+            (bodies arm.form).arrays params
+            (λ i x e. (whole_at (bodies arm.form).arrays (roomy.whole arm.form) i x e, own i x e)) 0 heads args
+            (λ j y e. let m : 0 + j ≡ j = omega arith in ap (slice_get r.args) m ∙ e)
+            (λ j y e. let m : 0 + j ≡ j = omega arith in ap (slice_get (bodies arm.form).arrays) m
+            ∙ taken (length (homes arm.form).params) (bodies arm.form).arrays j y e))
+
+    module _ (at : ℕ) (outer : List Shape) where
+      rows_good : (op : Option RedOp) (lower : Bool) (times : List CallInstance) (m k : ℕ) (c : Context) (env : Env)
+          (inside : Bool) (bs : List ℕ)
+          → AreLevel level at (calls_in_rows lower times) → m ≤ length times → length times ≤ most.uses
+          → (lower ≡ true → at < last) → k < m → RowsFit bodies homes outer times
+          → Fits s last is_at env at c inside (not lower) k → Sees s env.turns outer c
+          → Good s (rows_term bodies homes made op lower c times) env bs
+      rows_good op lower times m k c env inside bs deep long short low below_m fitting h seen =
+          fine_case s (RowsInside s) env bs (n.Pick (numbers (picks (arms_of times) times)) c.ordinal)
+          (pick_of (arms_of times) (slice_get times k)) _
+          (table_is s env (picks (arms_of times) times) c.ordinal k (h.ordinal.value env.level env.nodes)
+          ∙ ap pos (picks_are (arms_of times) times k))
+          (pick_has s env (picks (arms_of times) times) c.ordinal k (h.ordinal.value env.level env.nodes)
+          (h.has.has env.level env.nodes)
+          (let e = picks_len (arms_of times) times in omega (arith, e, below_m, long))
+          (subst (λ (z : ℕ). IsValue Long (pos z)) (sym (picks_are (arms_of times) times k))
+          (number (slice_get times k) refl)))
+          (go (slice_get times k) refl)
+        where
+          number : (o : Option CallInstance) → slice_get times k ≡ o → IsValue Long (pos (pick_of (arms_of times) o))
+          number None e = zero_fits
+          number (Some r) e = let has = arm_of_row times k r e in let l
+              = arm_below (arms_of times) r has.arm has.there in let g = arms_len [] times in
+              uses_fit s most bounds last is_at machine (suc (arm_number (arms_of times) r))
+              (omega (arith, l, g, short))
+
+          go : (o : Option CallInstance) → slice_get times k ≡ o
+              → this_arm (Meets s (RowsInside s))
+              (term.Skip ∷ map (arm_of_form bodies homes made op lower c times) (arms_of times))
+              (pos (pick_of (arms_of times) o)) env bs
+          go None e = fine_skip s (RowsInside s) env bs
+          go (Some r) e =
+              let has = arm_of_row times k r e in
+              let to = row_level level at lower times k r deep e in
+              let form = has.form in
+              let deep_arm : level has.arm.form ≡ below lower at = ap level (sym form) ∙ to in
+              fine_arm s (RowsInside s) env bs (arm_of_form bodies homes made op lower c times) (arms_of times)
+              (arm_number (arms_of times) r) has.arm has.there
+              (arm_good (homes has.arm.form).params outer op lower times k r c env at inside bs has.arm
+              (subst (λ (l : ℕ). All (IsBuffer s l) (buffers_from (homes has.arm.form).params 0 has.arm.args)) deep_arm
+              (call_there s (level has.arm.form) (homes has.arm.form).params (leveled.params has.arm.form)
+              (tabled.params has.arm.form) 0 has.arm.args))
+              (roomy.params has.arm.form) deep_arm low e (omega (arith, below_m, long)) has.form has.heads
+              (row_fits outer times k r fitting e) h seen)
+
+      module _ (rule : SpreadRule) where
+        abbrev built : Statement → TermPart
+        built = statement_term bodies homes made rule
+
+        abbrev Asked : Statement → AskedOfStatement
+        Asked = Tabled most last at
+
+        record Agrees (x : Statement) : Type 0 where
+          low : (m : ℕ) → Asked x m → (built x).lower ≡ true → at < last
+          is : (op : Option RedOp) (m k : ℕ) (c : Context) (env : Env) (inside : Bool) (bs : List ℕ)
+              → AreLevel level at (calls_in x) → Asked x m → k < m → m ≤ most.uses
+              → RowsFit bodies homes outer (reached_in x)
+              → Fits s last is_at env at c inside (built x).same k → Sees s env.turns outer c
+              → Good s ((built x).build op inside c) env bs
+
+        abbrev Known : Type 0
+        Known = (x : Statement) × Agrees x
+
+        abbrev begun : List Known → List Statement
+        begun = map (λ q. q.0)
+
+        abbrev all_built_of : List Known → List TermPart
+        all_built_of xs = map built (begun xs)
+
+        lows : (xs : List Known) (m : ℕ) → all_parts Asked (begun xs) m → any_lower (all_built_of xs) ≡ true → at < last
+        lows [] m h e = cc
+        lows (x ∷ xs) m h e = elim (either (built x.0).lower (any_lower (all_built_of xs)) e) [
+          | inl g ↦ x.1.low m h.0 g
+          | inr g ↦ lows xs m h.1 g
+        ]
+
+        all_good : (xs : List Known) (op : Option RedOp) (m k : ℕ) (c : Context) (env : Env) (inside : Bool)
+            (bs : List ℕ)
+            → AreLevel level at (all_calls (map calls_in (begun xs))) → all_parts Asked (begun xs) m → k < m → m
+            ≤ most.uses → RowsFit bodies homes outer (joined_rows (map reached_in (begun xs)))
+            → Fits s last is_at env at c inside (any_same (all_built_of xs)) k → Sees s env.turns outer c
+            → each_part (Meets s (RowsInside s)) (all_terms (all_built_of xs) op inside c) env bs
+        all_good [] op m k c env inside bs deep asked l short fitting h seen = tt
+        all_good (x ∷ xs) op m k c env inside bs deep asked l short fitting h seen =
+            let more_same = any_same (all_built_of xs) in (
+              x.1.is op m k c env inside bs
+                  (level_left level at (calls_in x.0) (all_calls (map calls_in (begun xs))) deep) asked.0 l short
+                  (rows_left outer (reached_in x.0) (joined_rows (map reached_in (begun xs))) fitting)
+                  (narrow s last is_at env at c inside _ (built x.0).same k (or_left (built x.0).same more_same) h) seen,
+              all_good xs op m k c env inside bs
+                  (level_right level at (calls_in x.0) (all_calls (map calls_in (begun xs))) deep) asked.1 l short
+                  (rows_right outer (reached_in x.0) (joined_rows (map reached_in (begun xs))) fitting)
+                  (narrow s last is_at env at c inside _ more_same k (or_rest (built x.0).same more_same) h) seen,
+            )
+
+        -- a map in the context in which it stands
+        map_good : (m : LoopKind) (counts starts : List ℕ) (xs : List Known) (n k : ℕ) (c : Context) (env : Env)
+            (inside : Bool) (bs : List ℕ)
+            → AreLevel level at (all_calls (map calls_in (begun xs)))
+            → (n ≤ length counts) × (n ≤ length starts) × (inner : ℕ) × (inner ≤ most.uses)
+            × ((k t : ℕ) → k < n → t < get_or counts k 0 → get_or starts k 0 + t < inner)
+            × all_parts Asked (begun xs) inner
+            → k < n → RowsFit bodies homes outer (joined_rows (map reached_in (begun xs)))
+            → Fits s last is_at env at c inside (any_same (all_built_of xs)) k → Sees s env.turns outer c
+            → Good s (loop_term rule m counts starts (all_built_of xs) inside c) env bs
+        map_good m counts starts xs n k c env inside bs deep asked l fitting h seen = go chosen refl
+          where
+            lower : Bool
+            lower = any_lower (all_built_of xs)
+
+            same : Bool
+            same = any_same (all_built_of xs)
+
+            chosen : Option SpreadRule
+            chosen = spread_of rule m inside lower same
+
+            count : Num
+            count = count_num counts c
+
+            times : ℕ
+            times = get_or counts k 0
+
+            counted : value_of s count env ≡ pos times
+            counted = table_is s env counts c.ordinal k (h.ordinal.value env.level env.nodes)
+
+            -- the last iteration has a number
+            short : (z : ℕ) → z ≡ times → z ≤ most.uses
+            short zero e = omega arith
+            short (suc z) e = let g = asked.4 k z l (omega (arith, e)) in let f = asked.3 in omega (arith, g, f)
+
+            few : times ≤ most.uses
+            few = short times refl
+
+            has : HasValue s count env
+            has = pick_has s env counts c.ordinal k (h.ordinal.value env.level env.nodes)
+                (h.has.has env.level env.nodes) (let g = asked.0 in omega (arith, l, g))
+                (uses_fit s most bounds last is_at machine times few)
+
+            body_good : (spread : Option SpreadRule) → MayBe spread inside → (t : ℕ) → t < times
+                → Good s (term.Seq (all_terms (all_built_of xs) (op_of m) (inside || is_some spread)
+                (in_map spread count starts c))) (at_turn env t) bs
+            body_good spread may t turned =
+                fine_seq s (RowsInside s) (at_turn env t) bs _
+                (all_good xs (op_of m) asked.2 (get_or starts k 0 + t) (in_map spread count starts c) (at_turn env t)
+                (inside || is_some spread) bs deep asked.5 (asked.4 k t l turned) asked.3 fitting
+                (in_turn s most bounds last is_at machine env at c inside same k spread may count times counted few has
+                starts asked.2 t turned asked.3 (asked.4 k t l turned) (let g = asked.1 in omega (arith, l, g)) h)
+                (sees_turn s env.turns outer c spread count starts t
+                (uses_fit s most bounds last is_at machine t (let f = few in omega (arith, turned, f))) seen))
+
+            node_some : (r : SpreadRule) → MayBe (Some r) inside → lower ≡ true → {o : Option Num}
+                → Way s env last at inside same o → 1 ≤ s.children (node_of env)
+            node_some r may e (to_child x is ok)
+                = machine.some env.level (node_of env) h.here
+                (let g = lows xs asked.2 asked.5 e in omega (arith, g, is))
+            node_some r may e (entered is i alone) = let z = may.free r refl in let f : ⊥ = cc in absurd f
+
+            go : (spread : Option SpreadRule) → chosen ≡ spread
+                → Good s (map_term spread count
+                (term.Seq (all_terms (all_built_of xs) (op_of m) (inside || is_some spread)
+                (in_map spread count starts c)))) env bs
+            go None e = fine_loop s (RowsInside s) env bs count times _ counted has
+                (body_good None (subst (λ o. MayBe o inside) e (may_be rule m inside lower same)))
+            go (Some r) e = let may = subst (λ o. MayBe o inside) e (may_be rule m inside lower same) in
+                fine_spread s (RowsInside s) env bs count times r _ counted has
+                (node_some r may (spread_lower rule r m inside lower same e) h.way) (body_good (Some r) may)
+
+        agrees_step : (y : Statement-F Known) → Agrees (roll-Statement (map-Statement Known Statement (λ q. q.0) y))
+        agrees_step (Statement-F.Call lower times) = subst Agrees (sym (b.rolls-Call lower times)) (record {
+          low = λ m h e. (subst (λ (f : AskedOfStatement). f m) (tabled_call most last at lower times) h).2
+              (sym (ap (λ (p : TermPart). p.lower) (built_call bodies homes made rule lower times)) ∙ e);
+          is = λ op m k c env inside bs deep h l short fitting g seen.
+              let asked = subst (λ (f : AskedOfStatement). f m) (tabled_call most last at lower times) h in
+              subst (λ (p : TermPart). Good s (p.build op inside c) env bs)
+              (sym (built_call bodies homes made rule lower times))
+              (rows_good op lower times m k c env inside bs (subst (AreLevel level at) (calls_call lower times) deep)
+              asked.0 asked.1 asked.2 l (subst (RowsFit bodies homes outer) (reached_call lower times) fitting)
+              (subst (λ (z : Bool). Fits s last is_at env at c inside z k)
+              (ap (λ (p : TermPart). p.same) (built_call bodies homes made rule lower times)) g) seen);
+        })
+        agrees_step (Statement-F.Map place m counts starts xs)
+            = subst Agrees (sym (b.rolls-Map place m counts starts (begun xs))) (record {
+              low = λ n h e. let asked = subst (λ (f : AskedOfStatement). f n)
+                  (tabled_map most last at place m counts starts (begun xs)) h in
+                  lows xs asked.2 asked.5 (sym
+                  (ap (λ (p : TermPart). p.lower) (built_map bodies homes made rule place m counts starts (begun xs)))
+                  ∙ e);
+              is = λ op n k c env inside bs deep h l short fitting g seen.
+                  let asked = subst (λ (f : AskedOfStatement). f n)
+                  (tabled_map most last at place m counts starts (begun xs)) h in
+                  let deeper = subst (AreLevel level at) (calls_map place m counts starts (begun xs)) deep in
+                  subst (λ (p : TermPart). Good s (p.build op inside c) env bs)
+                  (sym (built_map bodies homes made rule place m counts starts (begun xs)))
+                  (subst (λ (ps : List (ℕ × Argument)). Good s
+                  (hold_term (bodies (chain_form (chain_of first_num m starts (chains (all_built_of xs))))).arrays
+                  (homes (chain_form (chain_of first_num m starts (chains (all_built_of xs))))).params
+                  (chain_times (chain_of first_num m starts (chains (all_built_of xs))))
+                  (chain_num (chain_of first_num m starts (chains (all_built_of xs))) c.ordinal) ps inside c
+                  (loop_term rule m counts starts (all_built_of xs))) env bs)
+                  (sym (unheld_chain (chain_of first_num m starts (chains (all_built_of xs)))))
+                  (map_good m counts starts xs n k c env inside bs deeper asked l
+                  (subst (RowsFit bodies homes outer) (reached_map place m counts starts (begun xs)) fitting)
+                  (subst (λ (z : Bool). Fits s last is_at env at c inside z k)
+                  (ap (λ (p : TermPart). p.same) (built_map bodies homes made rule place m counts starts (begun xs))) g)
+                  seen));
+            })
+
+        agrees : (x : Statement) → Agrees x
+        agrees = ind-Statement Agrees (λ x y is. subst (λ z. Agrees (roll-Statement z)) is (agrees_step y))
+
+        abbrev known : List Statement → List Known
+        known [] = []
+        known (x ∷ xs) = (x, agrees x) ∷ known xs
+
+        known_are : (xs : List Statement) → begun (known xs) ≡ xs
+        known_are [] = refl
+        known_are (x ∷ xs) = ap (λ ys. x ∷ ys) (known_are xs)
+
+        calls_joined : (xs : List Statement) → calls_in_all xs ≡ all_calls (map calls_in xs)
+        calls_joined [] = refl
+        calls_joined (x ∷ xs) = ap (λ l. calls_in x ++ l) (calls_joined xs)
+
+        list_good : 1 ≤ most.uses → (list : List Statement) (c : Context) (env : Env) (bs : List ℕ)
+            → AreLevel level at (calls_in_all list) → all_parts Asked list 1
+            → RowsFit bodies homes outer (joined_rows (map reached_in list)) → Fits s last is_at env at c false true 0
+            → Sees s env.turns outer c
+            → Good s (term.Seq (all_terms (map built list) None false c)) env bs
+        list_good used list c env bs deep asked fitting h seen =
+            fine_seq s (RowsInside s) env bs _
+            (subst (λ (xs : List Statement). AreLevel level at (calls_in_all xs) → all_parts Asked xs 1
+            → RowsFit bodies homes outer (joined_rows (map reached_in xs))
+            → each_part (Meets s (RowsInside s)) (all_terms (map built xs) None false c) env bs) (known_are list)
+            (λ d a z. all_good (known list) None 1 0 c env false bs
+            (subst (AreLevel level at) (calls_joined (begun (known list))) d) a (omega arith) used z
+            (narrow s last is_at env at c false true _ 0 (λ e. absurd (cc)) h) seen) deep asked fitting)
+
+    body_good : 1 ≤ most.uses → (at : ℕ) (outer : List Shape) (h : Homes) (x : Body) (c : Context) (env : Env)
+        (bs : List ℕ) → AreLevel level at (calls_of x) → TabledBody most last at x
+        → RowsFit bodies homes outer (reached_of x) → Fits s last is_at env at c false true 0 → Sees s env.turns outer c
+        → Good s (body_term bodies homes made h x c) env bs
+    body_good used at outer h (body.Inner list) c env bs deep asked fitting g seen
+        = list_good at outer h.rule used list c env bs deep asked fitting g seen
+    body_good used at outer h (body.Leaf code) c env bs deep asked fitting g seen
+        = fine_act s (RowsInside s) env bs (action.Leaf h.code c.views c.path) (leaf_good s env bs outer c h.code seen)
+
+  pub forms_good : (d : ℕ) → AreGood (term_of bodies homes d)
+  forms_good zero f c env bs h seen = fine_skip s (RowsInside s) env bs
+  forms_good (suc d) f c env bs h seen
+      = body_good (term_of bodies homes d) (forms_good d) bounds.once (level f) (bodies f).arrays (homes f)
+      (bodies f).body c env bs (leveled.calls f) (tabled.body f) (roomy.rows f) h seen
+
+  entry_roomy : (shapes : List Shape) (hs : List Home) → AreWhole shapes → EntryFits s hs (take (length hs) shapes)
+      → Each (IsRoomy s []) (entry_views shapes hs) (take (length hs) shapes)
+  entry_roomy shapes [] w f = none
+  entry_roomy [] (h ∷ hs) w f = none
+  entry_roomy (x ∷ shapes) (h ∷ hs) w f
+      = more (roomy_buffer s roomy.sizes [] (buffer_or h) x w.0.tops w.0.shaped w.0.dims f.0 w.0.small)
+      (entry_roomy shapes hs w.1 f.1)
+
+  pub entry_good : level 0 ≡ 0 → is_at 0 0
+      → EntryFits s (homes 0).params (take (length (homes 0).params) (bodies 0).arrays) → (d : ℕ) (args : List Argument)
+      → RowFits bodies homes (take (length (homes 0).params) (bodies 0).arrays) (entry_row args) → (bs : List ℕ)
+      → Good s (entry_term bodies homes d args) at_root bs
+  entry_good first root fit d args fits bs =
+      arm_good (term_of bodies homes d) (forms_good d) [] (take (length (homes 0).params) (bodies 0).arrays) None false
+      (entry_row args ∷ []) 0 (entry_row args) (entry_context (bodies 0) (homes 0)) at_root 0 false bs
+      (entry_row args)
+      (call_there s 0 [] tt tt 0 args) (λ i x e. tt) first (λ e. absurd (cc)) refl (omega arith) refl (heads_refl args)
+      fits
+      (record {
+        ordinal = constant s [] 0;
+        has = record {
+          has = λ l nodes. const_has s (record { turns = []; level = l; nodes = nodes }) (pos 0) zero_fits;
+        };
+        way = way (begins s most bounds last is_at machine at_root 0 (record { level_is = refl; here = root }));
+        here = root;
+      })
+      (record { views = entry_roomy (bodies 0).arrays (homes 0).params (roomy.whole 0) fit; numbers = []; path = none })
+    where
+      way : Way s at_root last 0 false true (Some (n.Const (pos 0)))
+          → Way s at_root last 0 false true (Some (n.Const (pos 0)))
+      way w = w
+
+pub term_is_roomy : TermIsRoomy
+term_is_roomy s most bounds last nodes level_of machine bodies homes level leveled tabled roomy d k c env buffers h seen
+    =
+    forms_good s most bounds last (NodeAt nodes level_of) machine bodies homes level leveled tabled roomy d k c env
+    buffers h seen
+
+pub entry_is_roomy : EntryIsRoomy
+entry_is_roomy s most bounds last nodes level_of machine bodies homes level leveled tabled roomy first root fit d args
+    fits buffers =
+    entry_good s most bounds last (NodeAt nodes level_of) machine bodies homes level leveled tabled roomy first root fit
+    d args fits buffers
