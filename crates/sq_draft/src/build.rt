@@ -1,0 +1,475 @@
+//! The term of a form, from the tables of forms and the homes of their arrays.
+
+ghost use Rattle.std.specs.Prelude.{◌≡◌, ◌++◌, ◌+◌, [], ◌∷◌, map, IfOk, OnOk, true, Some};
+ghost use Rattle.sq_ir.specs.declared.term.Term.TheVariants as term;
+ghost use Rattle.sq_placed.specs.Tables as tables;
+ghost use Rattle.sq_term.specs.Terms as terms;
+ghost use Rattle.sq_draft.specs.Building as building;
+
+use crate::cases::{Arm, arms_of, picks};
+use crate::forms::{
+    CallTable, CalleeArrays, Forms, Holding, LocalArrays, MapTable, Round, local_shapes, round_in,
+    round_of_held,
+};
+use crate::held::{at_child_already, holding};
+use crate::inside::{
+    any_lower, any_same, call_buffers, call_child, count_num, in_callee, in_map, moves, pick_at,
+    spread_of, tables_of,
+};
+use crate::parts::{
+    leaf_term, local_buffers, map_term, push_fills, push_hold_ins, push_hold_outs, push_ins,
+    push_outs, scope,
+};
+use sq_ir::{Num, Term, Terms};
+use sq_num::RedOp;
+use sq_placed::{Home, Homes};
+use sq_spec::{Body, CallInstance, Statement};
+use sq_term::{Context, Move};
+use sqlite_items::{Items, at};
+use std::alloc::{AllocError, Global};
+
+// One map or call less that may stand inside. What runs out of them is answered as want of memory: no program within
+// the limits does.
+fn deeper(left: u32) -> Result<u32, AllocError>
+    ensures { IfOk result (λ n. n + 1 ≡ left) }
+{
+    match left.checked_sub(1) {
+        Some(n) => Ok(n),
+        None => Err(AllocError),
+    }
+}
+
+#[cycle(build)]
+fn statements(
+    alloc: Global,
+    left: u32,
+    forms: &Forms<'_>,
+    round: Round,
+    list: &[Statement],
+    c: &Context,
+) -> Result<Terms, AllocError>
+    ensures { IfOk result (λ ts. ts ≡ terms.all_terms (map
+        (building.part_in forms.now.bodies.now forms.now.homes.now forms.now.depth round.rule) list.now)
+        round.op round.inside c.now) }
+{
+    let mut out = Vec::new(alloc);
+    for x in list {
+        let term = statement(alloc, left, forms, round, x, c)?;
+        out.push(term)?;
+    }
+    Ok(Items::from_vec(out))
+}
+
+#[cycle(build)]
+fn statement(
+    alloc: Global,
+    left: u32,
+    forms: &Forms<'_>,
+    round: Round,
+    x: &Statement,
+    c: &Context,
+) -> Result<Term, AllocError>
+    ensures { IfOk result (λ t. t ≡
+        (building.part_in forms.now.bodies.now forms.now.homes.now forms.now.depth round.rule x.now).build
+        round.op round.inside c.now) }
+{
+    let less = deeper(left)?;
+    match x {
+        Statement::Call { lower, instances } => {
+            let rows = instances.as_slice();
+            let made = rows_term(alloc, less, forms, round.op, *lower, rows, c)?;
+            Ok(made)
+        }
+        Statement::Map {
+            kind,
+            counts,
+            starts,
+            body,
+            ..
+        } => {
+            let numbers = counts.as_slice();
+            let before = starts.as_slice();
+            let list = body.as_slice();
+            let table = MapTable {
+                kind: *kind,
+                counts: numbers,
+                starts: before,
+                body: list,
+            };
+            let made = map_of(alloc, less, forms, round, x, &table, c)?;
+            Ok(made)
+        }
+    }
+}
+
+// A map, which arguments of its call may leave.
+#[cycle(build)]
+fn map_of(
+    alloc: Global,
+    left: u32,
+    forms: &Forms<'_>,
+    round: Round,
+    x: &Statement,
+    table: &MapTable<'_>,
+    c: &Context,
+) -> Result<Term, AllocError>
+    ensures { IfOk result (λ t. t ≡ building.hold_by
+        (building.holding_of forms.now.bodies.now forms.now.homes.now (building.chain_in x.now) c.now)
+        round.inside c.now (building.loop_in forms.now.bodies.now forms.now.homes.now forms.now.depth round.rule
+        table.now.kind table.now.counts.now table.now.starts.now table.now.body.now)) }
+{
+    match holding(alloc, forms, x, c)? {
+        None => loop_term(alloc, left, forms, round, table, c),
+        Some(held) => hold(alloc, left, forms, round, held, table, c),
+    }
+}
+
+#[cycle(build)]
+fn hold(
+    alloc: Global,
+    left: u32,
+    forms: &Forms<'_>,
+    round: Round,
+    held: Holding,
+    table: &MapTable<'_>,
+    c: &Context,
+) -> Result<Term, AllocError>
+    ensures { IfOk result (λ t. t ≡ building.hold_by (Some held) round.inside c.now
+        (building.loop_in forms.now.bodies.now forms.now.homes.now forms.now.depth round.rule
+        table.now.kind table.now.counts.now table.now.starts.now table.now.body.now)) }
+{
+    let child = call_child(alloc, true, c)?;
+    let parts = hold_parts(alloc, left, forms, round, held.moves.as_slice(), table, c)?;
+    let made = scope(alloc, child, held.buffers, parts)?;
+    Ok(made)
+}
+
+// What comes in, the loop at the child already, and what goes out.
+#[cycle(build)]
+fn hold_parts(
+    alloc: Global,
+    left: u32,
+    forms: &Forms<'_>,
+    round: Round,
+    ms: &[Move],
+    table: &MapTable<'_>,
+    c: &Context,
+) -> Result<Terms, AllocError>
+    ensures { IfOk result (λ ts. ts ≡ term.Par (map terms.hold_in_term ms.now)
+        ∷ building.loop_in forms.now.bodies.now forms.now.homes.now forms.now.depth round.rule
+        table.now.kind table.now.counts.now table.now.starts.now table.now.body.now true (terms.at_child_already c.now)
+        ∷ term.Par (map terms.hold_out_term ms.now) ∷ []) }
+{
+    let inner = at_child_already(alloc, c)?;
+    let mut parts = Items::new(alloc);
+    push_hold_ins(alloc, &mut parts, ms)?;
+    push_loop(
+        alloc,
+        left,
+        forms,
+        round_of_held(round),
+        table,
+        &inner,
+        &mut parts,
+    )?;
+    push_hold_outs(alloc, &mut parts, ms)?;
+    Ok(parts)
+}
+
+#[cycle(build)]
+fn push_loop(
+    alloc: Global,
+    left: u32,
+    forms: &Forms<'_>,
+    round: Round,
+    table: &MapTable<'_>,
+    c: &Context,
+    out: &mut Terms,
+) -> Result<(), AllocError>
+    ensures { OnOk result (out.new ≡ out.old
+        ++ building.loop_in forms.now.bodies.now forms.now.homes.now forms.now.depth round.rule
+        table.now.kind table.now.counts.now table.now.starts.now table.now.body.now round.inside c.now ∷ []) }
+{
+    let made = loop_term(alloc, left, forms, round, table, c)?;
+    out.push(made)?;
+    Ok(())
+}
+
+// A map in the context in which it stands.
+#[cycle(build)]
+fn loop_term(
+    alloc: Global,
+    left: u32,
+    forms: &Forms<'_>,
+    round: Round,
+    table: &MapTable<'_>,
+    c: &Context,
+) -> Result<Term, AllocError>
+    ensures { IfOk result (λ t. t ≡ building.loop_in forms.now.bodies.now forms.now.homes.now forms.now.depth
+        round.rule table.now.kind table.now.counts.now table.now.starts.now table.now.body.now round.inside c.now) }
+{
+    let lower = any_lower(table.body);
+    let same = any_same(table.body);
+    let spread = spread_of(round.rule, table.kind, round.inside, lower, same);
+    let inner = round_in(round, table.kind, spread);
+    let count = count_num(alloc, table.counts, c)?;
+    let parts = turn(alloc, left, forms, inner, &count, table, c)?;
+    let made = map_term(alloc, spread, count, parts)?;
+    Ok(made)
+}
+
+// The parts of an iteration of a map, round which this stands.
+#[cycle(build)]
+fn turn(
+    alloc: Global,
+    left: u32,
+    forms: &Forms<'_>,
+    round: Round,
+    count: &Num,
+    table: &MapTable<'_>,
+    c: &Context,
+) -> Result<Terms, AllocError>
+    ensures { IfOk result (λ ts. ts ≡ terms.all_terms (map
+        (building.part_in forms.now.bodies.now forms.now.homes.now forms.now.depth round.rule) table.now.body.now)
+        round.op round.inside (terms.in_map round.spread count.now table.now.starts.now c.now)) }
+{
+    let inner = in_map(alloc, round.spread, count, table.starts, c)?;
+    statements(alloc, left, forms, round, table.body, &inner)
+}
+
+// A call, which has an arm for each form that it reaches.
+#[cycle(build)]
+fn rows_term(
+    alloc: Global,
+    left: u32,
+    forms: &Forms<'_>,
+    op: Option<RedOp>,
+    lower: bool,
+    instances: &[CallInstance],
+    c: &Context,
+) -> Result<Term, AllocError>
+    ensures { IfOk result (λ t. t ≡ terms.rows_term (terms.body_in forms.now.bodies.now)
+        (terms.homes_in forms.now.homes.now)
+        (building.callee_in forms.now.bodies.now forms.now.homes.now forms.now.depth) op lower c.now instances.now) }
+{
+    let arms = arms_of(alloc, instances)?;
+    let numbers = picks(alloc, &arms, instances)?;
+    let pick = pick_at(alloc, numbers, c)?;
+    let offsets = tables_of(alloc, c.views.as_slice(), instances)?;
+    let call = CallTable {
+        op,
+        lower,
+        instances,
+        offsets: offsets.as_slice(),
+    };
+    let arms = arm_terms(alloc, left, forms, &call, arms.list.as_slice(), c)?;
+    Ok(Term::Case { pick, arms })
+}
+
+#[cycle(build)]
+fn arm_terms(
+    alloc: Global,
+    left: u32,
+    forms: &Forms<'_>,
+    call: &CallTable<'_>,
+    arms: &[Arm<'_>],
+    c: &Context,
+) -> Result<Terms, AllocError>
+    requires { building.AreTables c.now.views call.now.instances.now call.now.offsets.now }
+    ensures { IfOk result (λ ts. ts ≡ term.Skip ∷ map (terms.arm_of_form (terms.body_in forms.now.bodies.now)
+        (terms.homes_in forms.now.homes.now)
+        (building.callee_in forms.now.bodies.now forms.now.homes.now forms.now.depth)
+        call.now.op call.now.lower c.now call.now.instances.now) arms.now) }
+{
+    let mut out = Vec::new(alloc);
+    out.push(Term::Skip)?;
+    for arm in arms {
+        let term = arm_term(alloc, left, forms, call, arm.row, c)?;
+        out.push(term)?;
+    }
+    Ok(Items::from_vec(out))
+}
+
+#[cycle(build)]
+fn arm_term(
+    alloc: Global,
+    left: u32,
+    forms: &Forms<'_>,
+    call: &CallTable<'_>,
+    row: &CallInstance,
+    c: &Context,
+) -> Result<Term, AllocError>
+    requires { building.AreTables c.now.views call.now.instances.now call.now.offsets.now }
+    ensures { IfOk result (λ t. t ≡ terms.arm_of_form (terms.body_in forms.now.bodies.now)
+        (terms.homes_in forms.now.homes.now)
+        (building.callee_in forms.now.bodies.now forms.now.homes.now forms.now.depth)
+        call.now.op call.now.lower c.now call.now.instances.now row.now) }
+{
+    let Some(own) = at(forms.homes, row.form) else {
+        return Err(AllocError);
+    };
+    let made = call_term(alloc, left, forms, own.params.as_slice(), call, row, c)?;
+    Ok(made)
+}
+
+/// A call of one form, whose parameters have these homes.
+#[cycle(build)]
+pub fn call_term(
+    alloc: Global,
+    left: u32,
+    forms: &Forms<'_>,
+    params: &[Home],
+    call: &CallTable<'_>,
+    row: &CallInstance,
+    c: &Context,
+) -> Result<Term, AllocError>
+    requires { building.AreTables c.now.views call.now.instances.now call.now.offsets.now }
+    ensures { IfOk result (λ t. t ≡ terms.arm_term (terms.body_in forms.now.bodies.now)
+        (terms.homes_in forms.now.homes.now)
+        (building.callee_in forms.now.bodies.now forms.now.homes.now forms.now.depth)
+        params.now call.now.op call.now.lower c.now call.now.instances.now row.now) }
+{
+    let Some(own) = at(forms.homes, row.form) else {
+        return Err(AllocError);
+    };
+    let Some(body) = at(forms.bodies, row.form) else {
+        return Err(AllocError);
+    };
+    let callee = CalleeArrays {
+        shapes: body.arrays.as_slice(),
+        homes: params,
+    };
+    let locals = LocalArrays {
+        shapes: local_shapes(callee.shapes, own.params.len()),
+        buffers: own.locals.as_slice(),
+    };
+    let args = row.args.as_slice();
+    let buffers = call_buffers(alloc, params, args)?;
+    let child = call_child(alloc, call.lower, c)?;
+    let ms = moves(alloc, call, &callee, c, args)?;
+    let parts = call_parts(alloc, left, forms, row.form, ms.as_slice(), &locals, c)?;
+    let made = scope(alloc, child, buffers, parts)?;
+    Ok(made)
+}
+
+// What brings the parameters in, the callee, and what gives them back.
+#[cycle(build)]
+fn call_parts(
+    alloc: Global,
+    left: u32,
+    forms: &Forms<'_>,
+    form: usize,
+    ms: &[Move],
+    locals: &LocalArrays<'_>,
+    c: &Context,
+) -> Result<Terms, AllocError>
+    ensures { IfOk result (λ ts. ts ≡ terms.call_parts ms.now
+        (tables.placed_locals locals.now.shapes.now locals.now.buffers.now)
+        (building.callee_in forms.now.bodies.now forms.now.homes.now forms.now.depth form
+        (terms.in_callee c.now ms.now (tables.placed_locals locals.now.shapes.now locals.now.buffers.now)))) }
+{
+    let inner = in_callee(alloc, c, ms, locals)?;
+    let mut parts = Items::new(alloc);
+    push_ins(alloc, &mut parts, ms)?;
+    push_callee(alloc, left, forms, form, locals, &inner, &mut parts)?;
+    push_outs(alloc, &mut parts, ms)?;
+    Ok(parts)
+}
+
+#[cycle(build)]
+fn push_callee(
+    alloc: Global,
+    left: u32,
+    forms: &Forms<'_>,
+    form: usize,
+    locals: &LocalArrays<'_>,
+    inner: &Context,
+    out: &mut Terms,
+) -> Result<(), AllocError>
+    ensures { OnOk result (out.new ≡ out.old ++ terms.callee_term
+        (tables.placed_locals locals.now.shapes.now locals.now.buffers.now)
+        (building.callee_in forms.now.bodies.now forms.now.homes.now forms.now.depth form inner.now) ∷ []) }
+{
+    let term = callee(alloc, left, forms, form, locals, inner)?;
+    out.push(term)?;
+    Ok(())
+}
+
+#[cycle(build)]
+fn callee(
+    alloc: Global,
+    left: u32,
+    forms: &Forms<'_>,
+    form: usize,
+    locals: &LocalArrays<'_>,
+    inner: &Context,
+) -> Result<Term, AllocError>
+    ensures { IfOk result (λ t. t ≡ terms.callee_term
+        (tables.placed_locals locals.now.shapes.now locals.now.buffers.now)
+        (building.callee_in forms.now.bodies.now forms.now.homes.now forms.now.depth form inner.now)) }
+{
+    let buffers = local_buffers(alloc, locals)?;
+    let mut parts = Items::new(alloc);
+    push_fills(alloc, &mut parts, locals)?;
+    let body = form_term(alloc, left, forms, form, inner)?;
+    parts.push(body)?;
+    scope(alloc, None, buffers, parts)
+}
+
+// The term of a form.
+#[cycle(build)]
+fn form_term(
+    alloc: Global,
+    left: u32,
+    forms: &Forms<'_>,
+    form: usize,
+    c: &Context,
+) -> Result<Term, AllocError>
+    ensures { IfOk result (λ t. t ≡
+        building.callee_in forms.now.bodies.now forms.now.homes.now forms.now.depth form c.now) }
+{
+    let Some(depth) = forms.depth.checked_sub(1) else {
+        return Ok(Term::Skip);
+    };
+    let Some(own) = at(forms.homes, form) else {
+        return Err(AllocError);
+    };
+    let Some(body) = at(forms.bodies, form) else {
+        return Err(AllocError);
+    };
+    let inner = Forms {
+        bodies: forms.bodies,
+        homes: forms.homes,
+        depth,
+    };
+    let made = body_term(alloc, left, &inner, own, &body.body, c)?;
+    Ok(made)
+}
+
+#[cycle(build)]
+fn body_term(
+    alloc: Global,
+    left: u32,
+    forms: &Forms<'_>,
+    own: &Homes,
+    body: &Body,
+    c: &Context,
+) -> Result<Term, AllocError>
+    ensures { IfOk result (λ t. t ≡ terms.body_term (terms.body_in forms.now.bodies.now)
+        (terms.homes_in forms.now.homes.now)
+        (building.callee_in forms.now.bodies.now forms.now.homes.now forms.now.depth) own.now body.now c.now) }
+{
+    match body {
+        Body::Leaf(_) => leaf_term(alloc, own.code, c),
+        Body::Inner(list) => {
+            let round = Round {
+                rule: own.rule,
+                op: None,
+                spread: None,
+                inside: false,
+            };
+            let parts = statements(alloc, left, forms, round, list.as_slice(), c)?;
+            Ok(Term::Seq(parts))
+        }
+    }
+}

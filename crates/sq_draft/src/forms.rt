@@ -1,0 +1,111 @@
+//! What a part of a term is made from.
+
+ghost use Rattle.std.specs.Prelude.{◌≡◌, ◌||◌, is_some, drop, true};
+ghost use Rattle.sq_placed.specs.Tables as tables;
+
+use crate::inside::op_of;
+use sq_ir::{BufferIds, Numbers};
+use sq_leaf::Shape;
+use sq_num::RedOp;
+use sq_placed::{Home, Homes};
+use sq_spec::{CallInstance, FormBody, LoopKind, Statement};
+use sq_term::Move;
+use sq_text::SpreadRule;
+use sqlite_items::Items;
+
+/// The forms of a program by their numbers: what each does, and where its arrays stand; and how many calls of forms may
+/// still stand within one another.
+#[derive(Clone, Copy)]
+pub struct Forms<'a> {
+    pub bodies: &'a [FormBody],
+    pub homes: &'a [Homes],
+    pub depth: u32,
+}
+
+/// A map with its tables and its statements.
+#[derive(Clone, Copy)]
+pub struct MapTable<'a> {
+    pub kind: LoopKind,
+    pub counts: &'a [u32],
+    pub starts: &'a [usize],
+    pub body: &'a [Statement],
+}
+
+/// A call with its rows: by which operator the map round it reduces, and where the blocks of its arguments begin.
+#[derive(Clone, Copy)]
+pub struct CallTable<'a> {
+    pub op: Option<RedOp>,
+    pub lower: bool,
+    pub instances: &'a [CallInstance],
+    pub offsets: &'a [Option<Numbers>],
+}
+
+/// The arrays of a callee, its parameters first, and where these stand.
+#[derive(Clone, Copy)]
+pub struct CalleeArrays<'a> {
+    pub shapes: &'a [Shape],
+    pub homes: &'a [Home],
+}
+
+/// The locals of a form.
+#[derive(Clone, Copy)]
+pub struct LocalArrays<'a> {
+    pub shapes: &'a [Shape],
+    pub buffers: &'a [u32],
+}
+
+/// The arguments that leave a loop, and the buffers that the loop brings into scope.
+#[derive(Drop)]
+pub struct Holding {
+    pub moves: Items<Move>,
+    pub buffers: BufferIds,
+}
+
+/// The shapes of a form's locals, which stand behind its parameters.
+pub fn local_shapes<'a>(shapes: &'a [Shape], params: usize) -> &'a [Shape]
+    ensures { result.now ≡ drop params shapes.now }
+{
+    if params < shapes.len() {
+        &shapes[params..]
+    } else {
+        &[]
+    }
+}
+
+/// What stands round a statement: the rule of its form, by which operator the map round it reduces and whether that is
+/// spread, and whether a spread map, or a loop that arguments leave, stands round it.
+#[derive(Clone, Copy)]
+pub struct Round {
+    pub rule: SpreadRule,
+    pub op: Option<RedOp>,
+    pub spread: Option<SpreadRule>,
+    pub inside: bool,
+}
+
+/// What stands round the statements in a map.
+pub fn round_in(round: Round, kind: LoopKind, spread: Option<SpreadRule>) -> Round
+    ensures rule { result.rule ≡ round.rule }
+    ensures op { result.op ≡ tables.op_of kind }
+    ensures spread { result.spread ≡ spread }
+    ensures inside { result.inside ≡ (round.inside || is_some spread) }
+{
+    Round {
+        rule: round.rule,
+        op: op_of(kind),
+        spread,
+        inside: round.inside || spread.is_some(),
+    }
+}
+
+/// What stands round a loop that arguments leave.
+pub fn round_of_held(round: Round) -> Round
+    ensures rule { result.rule ≡ round.rule }
+    ensures inside { result.inside ≡ true }
+{
+    Round {
+        rule: round.rule,
+        op: round.op,
+        spread: None,
+        inside: true,
+    }
+}

@@ -1,0 +1,214 @@
+//! What is done row by row.
+
+ghost use Rattle.std.specs.Prelude.{◌≡◌, ◌*◌, get_or, IfOk, pos};
+ghost use Rattle.sq_num.specs.Elements as elements;
+ghost use Rattle.sq_num.specs.Reductions as reductions;
+ghost use Rattle.sq_rect.specs.Extents as extents_of;
+ghost use Rattle.sq_ir.specs.Lifting.{lift};
+ghost use Rattle.sq_ir.specs.declared.num.Num.TheVariants as num;
+ghost use Rattle.sq_placed.specs.Trees as trees;
+ghost use Rattle.sq_term.specs.Terms as terms;
+
+use sq_ast::Mode;
+use sq_ir::{Action, LeafView, Num, Slot, Term};
+use sq_num::{Elem, RedOp, identity, width};
+use sq_placed::Home;
+use sq_rect::Dims;
+use sq_term::Move;
+use sqlite_items::{Boxed as Box, at};
+use std::alloc::{AllocError, Global};
+
+// A product that passes its type is answered as want of memory; no array is so large.
+fn product(a: u32, b: u32) -> Result<u32, AllocError>
+    ensures { IfOk result (λ n. n ≡ a * b) }
+{
+    match a.checked_mul(b) {
+        Some(n) => Ok(n),
+        None => Err(AllocError),
+    }
+}
+
+/// A number as one of 64 bits.
+pub fn signed(n: u64) -> Result<i64, AllocError>
+    ensures { IfOk result (λ k. k ≡ pos n) }
+{
+    match i64::try_from(n) {
+        Ok(k) => Ok(k),
+        Err(_) => Err(AllocError),
+    }
+}
+
+fn stride(strides: &[u32], i: usize) -> u32
+    ensures { result ≡ get_or strides.now i 0 }
+{
+    match at(strides, i) {
+        Some(n) => *n,
+        None => 0,
+    }
+}
+
+fn width_of(elem: Elem) -> u32
+    ensures { result ≡ elements.width elem }
+{
+    width(elem) as u32
+}
+
+// A number times a constant.
+fn multiple(alloc: Global, n: Num, by: u32) -> Result<Num, AllocError>
+    ensures { IfOk result (λ r. r ≡ num.Mul n (num.Const (pos by))) }
+{
+    Num::product(alloc, n, Num::Const(i64::from(by)))
+}
+
+fn quotient(alloc: Global, by: u32) -> Result<Num, AllocError>
+    ensures { IfOk result (λ r. r ≡ num.Div (num.Index 0) (num.Const (pos by))) }
+{
+    Num::quotient(alloc, Num::Index(0), Num::Const(i64::from(by)))
+}
+
+fn remainder(alloc: Global, by: u32) -> Result<Num, AllocError>
+    ensures { IfOk result (λ r. r ≡ num.Rem (num.Index 0) (num.Const (pos by))) }
+{
+    Num::remainder(alloc, Num::Index(0), Num::Const(i64::from(by)))
+}
+
+fn planes(alloc: Global, s: u32, q: u32, m: u32) -> Result<Num, AllocError>
+    ensures { IfOk result (λ r. r ≡ num.Add (num.Mul (num.Div (num.Index 0) (num.Const (pos m))) (num.Const (pos s)))
+        (num.Mul (num.Rem (num.Index 0) (num.Const (pos m))) (num.Const (pos q)))) }
+{
+    let plane = quotient(alloc, m)?;
+    let row = remainder(alloc, m)?;
+    Num::sum(alloc, multiple(alloc, plane, s)?, multiple(alloc, row, q)?)
+}
+
+fn row_num(alloc: Global, strides: &[u32], extents: &[u32]) -> Result<Num, AllocError>
+    ensures { IfOk result (λ r. r ≡ terms.row_num strides.now extents.now) }
+{
+    match extents {
+        [_, _] => multiple(alloc, Num::Index(0), stride(strides, 0)),
+        [_, m, _] => planes(alloc, stride(strides, 0), stride(strides, 1), *m),
+        _ => Ok(Num::Const(0)),
+    }
+}
+
+fn row_slot(alloc: Global, v: &LeafView) -> Result<Slot, AllocError>
+    ensures { IfOk result (λ x. x ≡ terms.row_slot v.now) }
+{
+    let first = v.slot.at.lifted(alloc, 1)?;
+    let row = row_num(alloc, v.strides.as_slice(), v.extents.as_slice())?;
+    let far = Num::product(alloc, Num::Const(i64::from(width_of(v.elem))), row)?;
+    let at = Num::sum(alloc, first, far)?;
+    Ok(Slot {
+        buffer: v.slot.buffer,
+        at,
+    })
+}
+
+fn by_rows(alloc: Global, extents: &Dims, each: Action) -> Result<Term, AllocError>
+    ensures { IfOk result (λ x. x ≡ terms.by_rows extents.now each) }
+{
+    let count = signed(extents.rows())?;
+    let body = Box::new(alloc, Term::Act(each))?;
+    Ok(Term::Loop {
+        count: Num::Const(count),
+        body,
+    })
+}
+
+pub fn copy_term(
+    alloc: Global,
+    shape: &LeafView,
+    from: &LeafView,
+    to: &LeafView,
+) -> Result<Term, AllocError>
+    ensures { IfOk result (λ x. x ≡ terms.copy_term shape.now from.now to.now) }
+{
+    let bytes = product(width_of(shape.elem), shape.extents.last())?;
+    let from = row_slot(alloc, from)?;
+    let to = row_slot(alloc, to)?;
+    by_rows(alloc, &shape.extents, Action::CopyRow { from, to, bytes })
+}
+
+/// The fill of an array by one value.
+pub fn fill_term(alloc: Global, value: i64, to: &LeafView) -> Result<Term, AllocError>
+    ensures { IfOk result (λ x. x ≡ terms.fill_term value to.now) }
+{
+    let slot = row_slot(alloc, to)?;
+    let fill = Action::FillRow {
+        to: slot,
+        elem: to.elem,
+        count: to.extents.last(),
+        value,
+    };
+    by_rows(alloc, &to.extents, fill)
+}
+
+fn add_term(
+    alloc: Global,
+    op: RedOp,
+    shape: &LeafView,
+    from: &LeafView,
+    to: &LeafView,
+) -> Result<Term, AllocError>
+    ensures { IfOk result (λ x. x ≡ terms.add_term op shape.now from.now to.now) }
+{
+    let from = row_slot(alloc, from)?;
+    let to = row_slot(alloc, to)?;
+    let acc = Action::AccRow {
+        op,
+        elem: shape.elem,
+        from,
+        to,
+        count: shape.extents.last(),
+    };
+    by_rows(alloc, &shape.extents, acc)
+}
+
+fn is_moved(home: Home) -> bool
+    ensures { result ≡ trees.is_moved home }
+{
+    match home {
+        Home::InPlace => false,
+        Home::Own(_) => true,
+        Home::Held { .. } => false,
+        Home::Twin { .. } => true,
+    }
+}
+
+/// What brings a parameter in.
+pub fn bring_term(alloc: Global, m: &Move) -> Result<Term, AllocError>
+    ensures { IfOk result (λ x. x ≡ terms.bring_term m.now) }
+{
+    match m.gathers {
+        Some(op) => fill_term(alloc, identity(op, m.own.elem), &m.own),
+        None => match m.mode {
+            Mode::Output => fill_term(alloc, 0, &m.own),
+            Mode::Input | Mode::Both => {
+                if is_moved(m.home) {
+                    copy_term(alloc, &m.own, &m.outside, &m.own)
+                } else {
+                    Ok(Term::Skip)
+                }
+            }
+        },
+    }
+}
+
+/// What gives a parameter back.
+pub fn back_term(alloc: Global, m: &Move) -> Result<Term, AllocError>
+    ensures { IfOk result (λ x. x ≡ terms.back_term m.now) }
+{
+    match m.gathers {
+        Some(op) => add_term(alloc, op, &m.own, &m.own, &m.outside),
+        None => match m.mode {
+            Mode::Input => Ok(Term::Skip),
+            Mode::Output | Mode::Both => {
+                if is_moved(m.home) {
+                    copy_term(alloc, &m.own, &m.own, &m.outside)
+                } else {
+                    Ok(Term::Skip)
+                }
+            }
+        },
+    }
+}

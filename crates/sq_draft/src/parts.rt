@@ -1,0 +1,181 @@
+//! Parts of a term.
+
+ghost use Rattle.std.specs.Prelude.{◌≡◌, ◌++◌, [], ◌∷◌, map, IfOk, OnOk};
+ghost use Rattle.sq_ir.specs.declared.term.Term.TheVariants as term;
+ghost use Rattle.sq_ir.specs.declared.term.Action.TheVariants as action;
+ghost use Rattle.sq_placed.specs.Tables as tables;
+ghost use Rattle.sq_placed.specs.Trees as trees;
+ghost use Rattle.sq_term.specs.Terms as terms;
+
+use crate::forms::LocalArrays;
+use crate::held::{hold_ins, hold_outs};
+use crate::moves::{back_term, bring_term, fill_term};
+use crate::places::{buffer_view, copy_nums, copy_views, push_local_buffers};
+use sq_ir::{Action, BufferIds, Num, Term, Terms};
+use sq_leaf::Shape;
+use sq_term::{Context, Move};
+use sq_text::SpreadRule;
+use sqlite_items::{Boxed as Box, Items};
+use std::alloc::{AllocError, Global};
+
+fn brings(alloc: Global, ms: &[Move]) -> Result<Terms, AllocError>
+    ensures { IfOk result (λ ts. ts ≡ map terms.bring_term ms.now) }
+{
+    let mut out = Vec::new(alloc);
+    for m in ms {
+        let term = bring_term(alloc, m)?;
+        out.push(term)?;
+    }
+    Ok(Items::from_vec(out))
+}
+
+fn backs(alloc: Global, ms: &[Move]) -> Result<Terms, AllocError>
+    ensures { IfOk result (λ ts. ts ≡ map terms.back_term ms.now) }
+{
+    let mut out = Vec::new(alloc);
+    for m in ms {
+        let term = back_term(alloc, m)?;
+        out.push(term)?;
+    }
+    Ok(Items::from_vec(out))
+}
+
+fn clear_local(alloc: Global, buffer: u32, shape: &Shape) -> Result<Term, AllocError>
+    ensures { IfOk result (λ x. x ≡ terms.clear_term (terms.local_view (record { shape = shape.now; buffer = buffer }))) }
+{
+    let view = buffer_view(buffer, shape)?;
+    fill_term(alloc, 0, &view)
+}
+
+fn push_clears(
+    alloc: Global,
+    out: &mut Terms,
+    shapes: &[Shape],
+    buffers: &[u32],
+) -> Result<(), AllocError>
+    ensures { OnOk result (out.new ≡ out.old ++ map (λ k. terms.clear_term (terms.local_view k))
+        (tables.placed_locals shapes.now buffers.now)) }
+{
+    match shapes {
+        [] => Ok(()),
+        [shape, more @ ..] => match buffers {
+            [] => Ok(()),
+            [buffer, others @ ..] => {
+                out.push(clear_local(alloc, *buffer, shape)?)?;
+                push_clears(alloc, out, more, others)?;
+                Ok(())
+            }
+        },
+    }
+}
+
+fn clears(alloc: Global, shapes: &[Shape], buffers: &[u32]) -> Result<Terms, AllocError>
+    ensures { IfOk result (λ ts. ts ≡ map (λ k. terms.clear_term (terms.local_view k))
+        (tables.placed_locals shapes.now buffers.now)) }
+{
+    let mut out = Items::new(alloc);
+    push_clears(alloc, &mut out, shapes, buffers)?;
+    Ok(out)
+}
+
+/// The buffers of locals.
+pub fn local_buffers(alloc: Global, locals: &LocalArrays<'_>) -> Result<BufferIds, AllocError>
+    ensures { IfOk result (λ bs. bs ≡ trees.local_buffers
+        (tables.placed_locals locals.now.shapes.now locals.now.buffers.now)) }
+{
+    let mut out = Items::new(alloc);
+    push_local_buffers(&mut out, locals.shapes, locals.buffers)?;
+    Ok(out)
+}
+
+/// Parts in sequence, with buffers in scope.
+pub fn scope(
+    alloc: Global,
+    child: Option<Num>,
+    buffers: BufferIds,
+    parts: Terms,
+) -> Result<Term, AllocError>
+    ensures { IfOk result (λ x. x ≡ term.Within child buffers (term.Seq parts)) }
+{
+    let body = Box::new(alloc, Term::Seq(parts))?;
+    Ok(Term::Within {
+        child,
+        buffers,
+        body,
+    })
+}
+
+/// What brings the parameters in.
+pub fn push_ins(alloc: Global, out: &mut Terms, ms: &[Move]) -> Result<(), AllocError>
+    ensures { OnOk result (out.new ≡ out.old ++ term.Par (map terms.bring_term ms.now) ∷ []) }
+{
+    let parts = brings(alloc, ms)?;
+    out.push(Term::Par(parts))?;
+    Ok(())
+}
+
+/// What gives them back.
+pub fn push_outs(alloc: Global, out: &mut Terms, ms: &[Move]) -> Result<(), AllocError>
+    ensures { OnOk result (out.new ≡ out.old ++ term.Par (map terms.back_term ms.now) ∷ []) }
+{
+    let parts = backs(alloc, ms)?;
+    out.push(Term::Par(parts))?;
+    Ok(())
+}
+
+/// The fills of locals.
+pub fn push_fills(
+    alloc: Global,
+    out: &mut Terms,
+    locals: &LocalArrays<'_>,
+) -> Result<(), AllocError>
+    ensures { OnOk result (out.new ≡ out.old ++ term.Par (map (λ k. terms.clear_term (terms.local_view k))
+        (tables.placed_locals locals.now.shapes.now locals.now.buffers.now)) ∷ []) }
+{
+    let parts = clears(alloc, locals.shapes, locals.buffers)?;
+    out.push(Term::Par(parts))?;
+    Ok(())
+}
+
+/// A leaf call.
+pub fn leaf_term(alloc: Global, code: u32, c: &Context) -> Result<Term, AllocError>
+    ensures { IfOk result (λ x. x ≡ term.Act (action.Leaf code c.now.views c.now.path)) }
+{
+    let views = copy_views(alloc, c.views.as_slice())?;
+    let path = copy_nums(alloc, c.path.as_slice())?;
+    Ok(Term::Act(Action::Leaf { code, views, path }))
+}
+
+/// How a map goes through its iterations.
+pub fn map_term(
+    alloc: Global,
+    spread: Option<SpreadRule>,
+    count: Num,
+    parts: Terms,
+) -> Result<Term, AllocError>
+    ensures { IfOk result (λ x. x ≡ terms.map_term spread count (term.Seq parts)) }
+{
+    let body = Box::new(alloc, Term::Seq(parts))?;
+    match spread {
+        Some(rule) => Ok(Term::Spread { count, rule, body }),
+        None => Ok(Term::Loop { count, body }),
+    }
+}
+
+/// What comes in before a loop.
+pub fn push_hold_ins(alloc: Global, out: &mut Terms, ms: &[Move]) -> Result<(), AllocError>
+    ensures { OnOk result (out.new ≡ out.old ++ term.Par (map terms.hold_in_term ms.now) ∷ []) }
+{
+    let parts = hold_ins(alloc, ms)?;
+    out.push(Term::Par(parts))?;
+    Ok(())
+}
+
+/// What goes out after it.
+pub fn push_hold_outs(alloc: Global, out: &mut Terms, ms: &[Move]) -> Result<(), AllocError>
+    ensures { OnOk result (out.new ≡ out.old ++ term.Par (map terms.hold_out_term ms.now) ∷ []) }
+{
+    let parts = hold_outs(alloc, ms)?;
+    out.push(Term::Par(parts))?;
+    Ok(())
+}
