@@ -1,0 +1,4 @@
+use Rattle.sq_homes.proofs.order.+push_range.Given as goal
+
+abbrev pub decreases-push_range : goal.decreases-push_range
+decreases-push_range l = l.n

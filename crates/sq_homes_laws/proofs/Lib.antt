@@ -1,0 +1,3 @@
+pub mod Standing
+pub mod Leveled
+pub mod Programs

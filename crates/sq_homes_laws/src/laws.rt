@@ -1,0 +1,37 @@
+//! What is true of the homes and buffers of drafts.
+
+ghost use Rattle.sq_homes_laws.specs.Given.{FormsStand, HomesAreLeveled};
+ghost use Rattle.sq_homes_laws.specs.Programs.{BodiesAreTables, PlacedIsProgram, TermIsEntrys};
+
+use sq_form_laws::laws::forms_are_those_found;
+use sq_spec::laws::entry_is_first;
+
+/// The buffers of a form stand one behind the other in the list of buffers, and its homes name them.
+pub fn forms_have_their_buffers()
+    ensures { FormsStand }
+{}
+
+/// Each buffer has the level of its form.
+pub fn buffers_have_their_levels()
+    ensures { HomesAreLeveled }
+{}
+
+/// The bodies that a draft is made of are those of the program's forms.
+pub fn bodies_are_tables()
+    ensures { BodiesAreTables }
+{
+    forms_are_those_found();
+}
+
+/// What is placed for a draft is the program's call of its entry, its places forgotten.
+pub fn placed_is_program()
+    ensures { PlacedIsProgram }
+{
+    forms_are_those_found();
+    entry_is_first();
+}
+
+/// The term of a draft is that of its entry, in the words of terms.
+pub fn terms_are_those_of_entries()
+    ensures { TermIsEntrys }
+{}

@@ -1,0 +1,4 @@
+//! What is true of the homes and buffers of drafts.
+#![tactic(auto)]
+
+pub mod laws;
