@@ -1,10 +1,9 @@
 -- The facts of each row of a form's tables.
-use Rattle.std.proofs.Common.{◌≡◌, ◌≢◌, ℕ, zero, suc, ◌+◌, ◌<◌, Bool, true, false, List, [], ◌∷◌, ◌++◌, length, map}
-use Rattle.std.proofs.Common.{get_or, Option, Some, None, Ok, refl, sym, ap, ap₂, ◌∙◌, subst, arith}
+use Rattle.std.proofs.Common.{◌≡◌, ℕ, zero, suc, ◌<◌, Bool, true, false, List, [], ◌∷◌, ◌++◌, length, map}
+use Rattle.std.proofs.Common.{get_or, Option, Some, None, Ok, refl, sym, ap, ◌∙◌, subst, arith}
 use Rattle.std.specs.Prelude.{slice_get, nat_lt, ◌==◌, ◌&&◌, not, if◌then◌else◌}
 use Rattle.std.specs.Map.{lookup}
 use Rattle.std.proofs.lemmas.Bool.Decides.{nat_tests}
-use Rattle.sq_num.specs.declared.Elem.{Elem}
 use Rattle.sq_text.specs.Names.{Bytes, same_name}
 use Rattle.sq_text.specs.declared.place.Span.{Span}
 use Rattle.sq_ast.specs.Forms.{is_formed}
@@ -22,35 +21,33 @@ use Rattle.sq_mapfile.specs.Sound.{Sound}
 use Rattle.sq_types.specs.Sound.{is_sound}
 use Rattle.sq_leaf.specs.declared.shape.Shape.{Shape}
 use Rattle.sq_blocks.specs.Insides.{AreSpansIn}
-use Rattle.sq_blocks.specs.Spans.{span_of, with_front, wholes}
+use Rattle.sq_blocks.specs.Spans.{with_front, wholes}
 use Rattle.sq_blocks.specs.Arguments.{lengths}
 use Rattle.sq_blocks.specs.declared.argument.Argument.{Argument}
 use Rattle.sq_work.specs.declared.reduction.Reduction.{Reduction}
 use Rattle.sq_forms.specs.declared.form.Found.{Found}
-use Rattle.sq_forms.specs.declared.known.Array.{Array}
-use Rattle.sq_forms.specs.Args.{Names, is_reduced}
+use Rattle.sq_forms.specs.Args.{is_reduced}
 use Rattle.sq_forms.specs.Calls.{flags, extents_of, is_apart}
 use Rattle.sq_forms.specs.Decls.{Scope}
 use Rattle.sq_forms.specs.Resolving.{Resolving, resolution, frame_in, entry_params}
-use Rattle.sq_forms.specs.Steps.{Called, Forms, Key}
+use Rattle.sq_forms.specs.Steps.{Called, Key}
 use Rattle.sq_forms.specs.Tables.{variant_of}
 use Rattle.sq_forms.specs.Worlds.{Callee, Frame, callee_of}
 use Rattle.sq_form_laws.specs.Insides.{LiesIn, arrays_of}
 use Rattle.sq_form_laws.specs.Laws.{NoAlias, Apart}
 use Rattle.sq_form_laws.specs.Reached.{AreExamined, IsCallee, calls_in, steps_of, body_calls, form_number}
-use Rattle.sq_form_laws.specs.Served.{IsServed, FormFits, FormRuns}
+use Rattle.sq_form_laws.specs.Served.{FormRuns}
 use Rattle.sq_form_laws.proofs.CallsHold.{passed_is_unaliased, in_place_is_apart, flag_at, and_both}
 use Rattle.sq_form_laws.proofs.FitHold.{some_same, forms_run}
 use Rattle.sq_form_laws.proofs.InsideHold.{all_good, begun_good}
 use Rattle.sq_form_laws.proofs.ServedHold.{calls_are_served}
 use Rattle.sq_spec.specs.declared.statement.CallInstance.{CallInstance}
 use Rattle.sq_spec.specs.declared.body.FormBody.{FormBody}
-use Rattle.sq_spec.specs.Bodies.{body_of, found_body, instance_body, variant_body, scope_body, declared_body, what_runs}
-use Rattle.sq_spec.specs.Statements.{tables, elems_of, array_number, elem_or_long}
+use Rattle.sq_spec.specs.Bodies.{found_body, instance_body, variant_body, scope_body, declared_body, what_runs}
+use Rattle.sq_spec.specs.Statements.{elems_of, array_number, elem_or_long}
 use Rattle.sq_spec.specs.Works.{shapes_of}
-use Rattle.sq_spec_laws.specs.TableRows.{Table, Summed, SumIs, RowIsReached, TableIsReached, summed_in}
+use Rattle.sq_spec_laws.specs.TableRows.{Table, Summed, SumIs, RowIsReached, summed_in}
 use Rattle.sq_spec_laws.specs.Typed.{HasType, param_writes, local_writes}
-use Rattle.sq_spec_laws.specs.Summing.{WholeOf, IsSum}
 use Rattle.sq_spec_laws.proofs.TypedHold.{arguments_have_types, writes_are_permitted}
 use Rattle.sq_spec_laws.proofs.SumsHold.{sums_are_whole, sums_are_alone}
 use Rattle.sq_spec_laws.proofs.ReachedFactsHold.{reached_lie_inside, flags_are_of_text}
@@ -66,7 +63,7 @@ use Rattle.sq_plan_laws.specs.Seated.{IsNear}
 use Rattle.sq_placed_fit.specs.Facts.{ArgFacts, SumFacts, ReducedFacts, RowFacts, home_at}
 use Rattle.sq_forms_fit.specs.Homes.{params_at, may_write, mays_of, bodies_of, AreHomes, HomesFit}
 use Rattle.sq_forms_fit.proofs.Sized.{form_shapes_sized}
-use Rattle.sq_forms_fit.proofs.Shapes.{elems_are, dims_are, Mapped, mapped_at, at_mapped, ParamShape, param_shape}
+use Rattle.sq_forms_fit.proofs.Shapes.{elems_are, dims_are, mapped_at, at_mapped, param_shape}
 
 -- ---- blocks
 
@@ -411,7 +408,8 @@ module _ (program : Program) (levels : List Level) (mapping : Mapping) (sound : 
               let flag = s.others j a at far in (
                 flag,
                 λ w. sums_are_alone program levels mapping formed sound read run.fits.instance vk run.fits.runs
-                    list inner i name pair.1 (named_at name e) fk.extents run.fits.begun sk run.fits.binds run.ran.declared
+                    list inner i name pair.1 (named_at name e) fk.extents run.fits.begun sk run.fits.binds
+                    run.ran.declared
                     h.reached.numbers its.params xs (examined name e) j a at flag s.of.array s.of.is
                     (w ∙ (sym array ∙ s.of.number)),
               );

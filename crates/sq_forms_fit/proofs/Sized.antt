@@ -43,13 +43,13 @@ use Rattle.sq_forms.specs.Calls.{extents_of, bind_from}
 use Rattle.sq_forms.specs.Decls.{Scope, empty_scope, param_at, params_from, all_declared, after_decl, local_at}
 use Rattle.sq_forms.specs.Decls.{with_chop, with_blocks, with_array, array_of, dims_of, dims_from, most_extent}
 use Rattle.sq_forms.specs.Decls.{most_elements}
-use Rattle.sq_forms.specs.Resolving.{Outcome, Resolving, resolution, frame_in, body_steps, outcome_of, more}
+use Rattle.sq_forms.specs.Resolving.{Outcome, Resolving, resolution, more}
 use Rattle.sq_forms.specs.Resolving.{next_walked, walk_of, walk_from, with_locals, with_entry, entry_extents}
 use Rattle.sq_forms.specs.Resolving.{entry_params, dims_or_fault, extent_of, before}
 use Rattle.sq_forms.specs.Steps.{Step, State, Called, Forms, Key, Opens, Counts, Tests, Calls, run, after_count}
 use Rattle.sq_forms.specs.Steps.{after_test, after_entry, number_of, with_form, key_number, most_forms}
-use Rattle.sq_form_laws.specs.Insides.{arrays_of, LiesIn}
-use Rattle.sq_form_laws.specs.Reached.{IsReached, calls_in, steps_of}
+use Rattle.sq_form_laws.specs.Insides.{arrays_of}
+use Rattle.sq_form_laws.specs.Reached.{calls_in, steps_of}
 use Rattle.sq_form_laws.specs.Served.{FormRuns}
 use Rattle.sq_form_laws.proofs.FitHold.{some_same, forms_run}
 use Rattle.sq_form_laws.proofs.FormsHold.{went}
@@ -59,7 +59,7 @@ use Rattle.sq_spec.specs.Works.{shapes_of}
 use Rattle.sq_spec_laws.proofs.ReachedFactsHold.{reached_lie_inside}
 use Rattle.sq_plan_laws.specs.Seated.{HasDims}
 use Rattle.sq_forms_fit.specs.Sizes.{IsSized, AreSized}
-use Rattle.sq_forms_fit.proofs.Shapes.{dims_are, Mapped, mapped_at, at_mapped}
+use Rattle.sq_forms_fit.proofs.Shapes.{dims_are, mapped_at, at_mapped}
 
 -- ---- extents that were examined
 

@@ -13,9 +13,7 @@ use Rattle.sq_ast.specs.declared.program.Variant.{Variant}
 use Rattle.sq_ast.specs.declared.program.VariantKind.{VariantKind}
 use Rattle.sq_ast.specs.declared.program.VariantKind.TheVariants as variant_kind
 use Rattle.sq_ast.specs.declared.stmt.Stmt.{Stmt}
-use Rattle.sq_ast.specs.declared.leaf.LeafStmt.{LeafStmt}
 use Rattle.sq_machfile.specs.declared.level.Level.{Level}
-use Rattle.sq_mapfile.specs.declared.mapping.Instance.{Instance}
 use Rattle.sq_mapfile.specs.declared.mapping.Mapping.{Mapping}
 use Rattle.sq_mapfile.specs.Sound.{Sound}
 use Rattle.sq_types.specs.Sound.{is_sound}
@@ -23,27 +21,24 @@ use Rattle.sq_leaf.specs.Leaf.{Leaf as LeafSource, written_of, local_flags}
 use Rattle.sq_ir.specs.Events.{Leaves}
 use Rattle.sq_forms.specs.declared.form.Found.{Found}
 use Rattle.sq_forms.specs.Resolving.{Resolving, resolution, frame_in}
-use Rattle.sq_forms.specs.Steps.{Forms, Key}
-use Rattle.sq_forms.specs.Tables.{variant_of}
+use Rattle.sq_forms.specs.Steps.{Key}
 use Rattle.sq_form_laws.proofs.FitHold.{of_program, forms_run}
-use Rattle.sq_spec.specs.declared.statement.CallInstance.{CallInstance}
 use Rattle.sq_spec.specs.declared.body.Body.{Body}
 use Rattle.sq_spec.specs.declared.body.Body.TheVariants as body
 use Rattle.sq_spec.specs.declared.body.FormBody.{FormBody}
 use Rattle.sq_spec.specs.Bodies.{no_body, found_body, what_runs}
 use Rattle.sq_spec.specs.Statements.{tables, elems_of}
-use Rattle.sq_spec_laws.specs.TableRows.{Table, tables_in, summed_in}
+use Rattle.sq_spec_laws.specs.TableRows.{Table, tables_in}
 use Rattle.sq_spec_laws.proofs.FilledHold.{tables_are_full}
 use Rattle.sq_spec_laws.proofs.OnesHold.{reductions_are_of_one}
 use Rattle.sq_spec_laws.proofs.TableRowsHold.{rows_are_reached}
 use Rattle.sq_placed.specs.declared.home.Homes.{Homes}
 use Rattle.sq_cells.specs.Tree.{Cause}
-use Rattle.sq_placed_fit.specs.Rows.{reduced_flags, TableFits, ListFits, LeafFits, BodyFits, FormsFit}
+use Rattle.sq_placed_fit.specs.Rows.{TableFits, ListFits, LeafFits, BodyFits, FormsFit}
 use Rattle.sq_placed_fit.proofs.Facts.{facts_fit}
-use Rattle.sq_forms_fit.specs.Homes.{params_at, may_write, mays_of, bodies_of, HomesFit, LeavesStand}
+use Rattle.sq_forms_fit.specs.Homes.{may_write, mays_of, bodies_of, HomesFit, LeavesStand}
 use Rattle.sq_forms_fit.specs.Laws.{ProgramsFit, ArraysAreSized}
 use Rattle.sq_forms_fit.specs.Sizes.{IsSized}
-use Rattle.sq_leaf.specs.declared.shape.Shape.{Shape}
 use Rattle.sq_forms_fit.proofs.Sized.{form_shapes_sized}
 use Rattle.sq_forms_fit.proofs.RowsHold.{arrays_are, Runs, runs, body_is, mays_are, row_facts, row_flags}
 

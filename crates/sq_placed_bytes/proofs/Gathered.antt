@@ -14,7 +14,7 @@ use Rattle.sq_leaf.specs.Source.{Arrays}
 use Rattle.sq_blocks.specs.declared.argument.Argument.{Argument}
 use Rattle.sq_work.specs.declared.reduction.Reduction.{Reduction}
 use Rattle.sq_blocks.specs.Arguments.{lengths}
-use Rattle.sq_ast.specs.Modes.{is_written, is_read}
+use Rattle.sq_ast.specs.Modes.{is_written}
 use Rattle.sq_work.specs.Work as work
 use Rattle.sq_work.specs.Meaning as source
 use Rattle.sq_work.specs.Meaning.{Outcome, covers, is_inside, in_array, in_block, has, block_value, at_entry, at_return}

@@ -405,7 +405,8 @@ module _ (coding : Codings) (offset : ℕ → ℕ) where
         form t = form_of offset first_buffer (call t).called
 
         abbrev one_call : ℕ → Work
-        one_call t = bytes.Call (form t) lower (arity_of (call t).called) (arrays_of outer (call t).called) (call t).body
+        one_call t = bytes.Call (form t) lower (arity_of (call t).called) (arrays_of outer (call t).called)
+            (call t).body
 
         set_at : (t : ℕ) (lt : t < n) (at : Layout) (l p : Spot) → Sets (one_call t) node (kid t) at l p
             → (h : CallTouches outer (call t).called l) × (at l ≡ p) × (h.it.p.gathers ≡ None)
@@ -440,7 +441,8 @@ module _ (coding : Codings) (offset : ℕ → ℕ) where
         aside_array t lt l x h none =
             let i = turns t lt in
             let same = (touched_has outer (call t).called h.i h.k l h.it x h.it).0 in
-            let ne : l.area ≢ r.array = λ z. not_sum outer r (call t).called i.sums h.i h.it.p h.it.there none (same ∙ z)
+            let ne : l.area ≢ r.array = λ z. not_sum outer r (call t).called i.sums h.i h.it.p h.it.there none
+            (same ∙ z)
             in
             grind (arith, nat_tests, ne)
 
@@ -462,7 +464,8 @@ module _ (coding : Codings) (offset : ℕ → ℕ) where
           where
             which_here : (t : ℕ) (lt : t < n) (i : ℕ) (o : Op) → i < arity_of (call t).called
                 → (arrays_of outer (call t).called i).mode ≡ Reduced o → i ≡ which
-            which_here t lt i o li e = sum_fits.only t i lt li (reduced_true (arrays_of outer (call t).called i).mode o e)
+            which_here t lt i o li e = sum_fits.only t i lt li
+                (reduced_true (arrays_of outer (call t).called i).mode o e)
 
             same_op : (o o' : Op) → Reduced o ≡ Reduced o' → o ≡ o'
             same_op o o' e = cc
@@ -1238,8 +1241,17 @@ module _ (coding : Codings) (offset : ℕ → ℕ) where
         = (
           touched_in outer c z.area z.index l h,
           ⊎_elim (λ x. inl x.1)
-              (λ x. inr (let j = keeps.held_in z.area h.p h.there x.0 in record
-              { j = j.0; h = h.p; there = j.1; k = z.index; below = lt; mode = m; block_is = h.block_is; cell_is = x.1 }))
+              (λ x. inr (let j = keeps.held_in z.area h.p h.there x.0 in record {
+                j = j.0;
+                h = h.p;
+                there = j.1;
+                k = z.index;
+                below = lt;
+                mode = m;
+                block_is = h.block_is;
+                cell_is
+                    = x.1;
+              }))
               (found node kid at z l q h e),
         )
 

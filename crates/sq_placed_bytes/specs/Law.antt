@@ -1,10 +1,9 @@
 -- What holds of leaves and tables, as laws.
-use Rattle.std.specs.Prelude.{ℕ, Bool, List, None}
+use Rattle.std.specs.Prelude.{ℕ, List}
 use Rattle.sq_leaf.specs.declared.shape.Shape.{Shape}
 use Rattle.sq_leaf.specs.declared.trap.Trap.{Trap}
 use Rattle.sq_leaf.specs.Leaf.{Leaf}
 use Rattle.sq_ir.specs.Events as events
-use Rattle.sq_placed_bytes.specs.OnBytes.{Codings}
 use Rattle.sq_placed_bytes.specs.Fitting.{LeafCoded}
 use Rattle.sq_placed_bytes.specs.LeafLaws.{IsInside, IsLeafOf, codes_of}
 use Rattle.sq_placed_bytes.specs.LeafRuns.{IsCompiled, LinesCanRun, AreSmall}

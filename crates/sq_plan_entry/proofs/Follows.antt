@@ -1,10 +1,9 @@
 -- From any bytes in the buffers of arrays that are only written.
-use Rattle.std.proofs.Common.{◌≡◌, ℕ, zero, suc, ◌+◌, ◌<◌, Bool, true, false, ◌&&◌, List, [], ◌∷◌, length, map, Option}
+use Rattle.std.proofs.Common.{◌≡◌, ℕ, zero, suc, ◌+◌, ◌<◌, Bool, true, false, ◌&&◌, List, [], ◌∷◌, length, Option}
 use Rattle.std.proofs.Common.{Some, None, Ok, Err, refl, sym, ap, ap₂, ◌∙◌, subst, arith, ◌⊎◌, inl, inr}
 use Rattle.std.specs.Prelude.{slice_get, nat_eq, nat_lt, nat_le, ◌-◌, pos, ℤ, if◌then◌else◌}
 use Rattle.std.proofs.lemmas.Bool.Decides.{nat_tests}
 use mathlib.Core.Path.{fun_ext}
-use Rattle.sq_text.specs.declared.place.Span.{Span}
 use Rattle.sq_rect.specs.Placing.{IsIn}
 use Rattle.sq_ast.specs.Modes.{is_read, is_written}
 use Rattle.sq_ast.specs.declared.program.Mode.{Mode}
@@ -14,7 +13,7 @@ use Rattle.sq_leaf.specs.Source.{Arrays}
 use Rattle.sq_blocks.specs.Arguments.{lengths}
 use Rattle.sq_blocks.specs.declared.argument.Argument.{Argument}
 use Rattle.sq_work.specs.Meaning.{Outcome, and_then, is_inside, covers, in_array, in_block, has, block_value}
-use Rattle.sq_work.specs.Meaning.{param_value, at_entry, with_block, at_return, meaning}
+use Rattle.sq_work.specs.Meaning.{param_value, at_entry, at_return, meaning}
 use Rattle.sq_ir.specs.Runs.{End, exec}
 use Rattle.sq_ir.specs.Events as events
 use Rattle.sq_ir.specs.Events.{Leaves, Bytes}

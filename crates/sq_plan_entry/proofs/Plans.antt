@@ -1,11 +1,10 @@
 -- What is placed of a program's entry is a plan.
-use Rattle.std.proofs.Common.{◌≡◌, ◌≢◌, ℕ, zero, suc, ◌+◌, ◌<◌, ◌≤◌, Bool, true, false, List, [], ◌∷◌, ◌++◌, length}
-use Rattle.std.proofs.Common.{take, drop, map, get_or, Option, Some, None, refl, sym, ap, ap₂, ◌∙◌, subst, arith}
+use Rattle.std.proofs.Common.{◌≡◌, ℕ, zero, suc, ◌+◌, ◌<◌, ◌≤◌, Bool, true, false, List, [], ◌∷◌, length}
+use Rattle.std.proofs.Common.{take, drop, map, get_or, Option, Some, None, refl, sym, ap, ◌∙◌, subst, arith}
 use Rattle.std.specs.Prelude.{slice_get}
 use Rattle.std.specs.List.{All}
 use Rattle.sq_num.specs.declared.RedOp.{RedOp}
 use Rattle.sq_text.specs.declared.place.Span.{Span}
-use Rattle.sq_ast.specs.Modes.{is_written}
 use Rattle.sq_leaf.specs.declared.shape.Shape.{Shape}
 use Rattle.sq_blocks.specs.Arguments.{lengths}
 use Rattle.sq_blocks.specs.declared.argument.Argument.{Argument}
@@ -16,8 +15,8 @@ use Rattle.sq_ir.specs.Events.{Leaves}
 use Rattle.sq_ir.specs.Written.{Setting}
 use Rattle.sq_placed.specs.declared.home.Home.TheVariants.{InPlace}
 use Rattle.sq_placed.specs.declared.home.Homes.{Homes}
-use Rattle.sq_placed.specs.Placed.{Placed, PlacedArg, PlacedLocal, PlacedCall, Call, arguments, plain}
-use Rattle.sq_placed.specs.Tables.{no_shape, placed_args, locals_of, placed_of, entry_call_placed, entry_placed}
+use Rattle.sq_placed.specs.Placed.{PlacedArg, PlacedLocal, PlacedCall, arguments, plain}
+use Rattle.sq_placed.specs.Tables.{no_shape, placed_of, entry_call_placed, entry_placed}
 use Rattle.sq_placed.proofs.Plain.{plain_args}
 use Rattle.sq_cells.specs.Tree.{Cause}
 use Rattle.sq_placed_bytes.specs.Coordinates.{Fits}
@@ -25,17 +24,17 @@ use Rattle.sq_cells.specs.Lowered.{held}
 use Rattle.sq_placed_bytes.specs.Calling.{place_of, PassedFits, ArgsFit, shapes_of}
 use Rattle.sq_placed_bytes.specs.OnBytes.{work}
 use Rattle.sq_placed_bytes.specs.Fitting.{IsPlain, whole, Fitting}
-use Rattle.sq_placed_bytes.specs.Keeping.{CallKeeps, may_by, may_of, Keeping}
+use Rattle.sq_placed_bytes.specs.Keeping.{CallKeeps, may_by, may_of}
 use Rattle.sq_placed_bytes.specs.Entry.{EntryStowed}
 use Rattle.sq_placed_bytes.specs.LeafLaws.{codes_of}
 use Rattle.sq_placed_bytes.proofs.Gathered.{lengths_whole}
-use Rattle.sq_plan_laws.specs.Seated.{HasDims, CallSits, IsNear, IsOwned, Sits, at_node}
+use Rattle.sq_plan_laws.specs.Seated.{CallSits, IsNear, IsOwned, Sits, at_node}
 use Rattle.sq_plan_laws.specs.Entry.{form_at, IsPlan}
 use Rattle.sq_placed_fit.specs.Rows.{FormsFit, IsFit}
 use Rattle.sq_placed_fit.proofs.Rows.{tables_fit, keeping_more}
 use Rattle.sq_placed_fit.proofs.Facts.{passed, passed_at, passed_there, passed_none, passed_shapes, shape_at}
 use Rattle.sq_placed_fit.proofs.Facts.{kept_shapes, drop_length, kept_at, drop_at}
-use Rattle.sq_plan_entry.specs.Entry.{IsWhole, EntryFacts, entry_shapes, anything, EntriesArePlans}
+use Rattle.sq_plan_entry.specs.Entry.{EntryFacts, entry_shapes, anything, EntriesArePlans}
 
 -- ---- lists
 

@@ -1,7 +1,7 @@
 -- The seats of the entry's arrays are one list, however they are told.
-use Rattle.std.proofs.Common.{◌≡◌, ℕ, suc, List, [], ◌∷◌, length, map, take, sym, refl, ap, ◌∙◌}
+use Rattle.std.proofs.Common.{◌≡◌, List, [], ◌∷◌, length, map, take, sym, refl, ap, ◌∙◌}
 use Rattle.sq_leaf.specs.declared.shape.Shape.{Shape}
-use Rattle.sq_ir.specs.Written.{Setting, PlanTree, scoped}
+use Rattle.sq_ir.specs.Written.{Setting, scoped}
 use Rattle.sq_placed.specs.declared.home.Home.{Home}
 use Rattle.sq_placed.specs.Seats.{Seat, buffer_seat}
 use Rattle.sq_placed.specs.Tables.{entry_placed}

@@ -16,8 +16,8 @@ pub fn calls_are_of_tables()
     ensures { CallsAreOfTables }
 {}
 
-/// What is placed of a program's entry is a plan, where the tables of forms fit, no race is in it, and its buffers stand
-/// apart.
+/// What is placed of a program's entry is a plan, where the tables of forms fit, no race is in it, and its buffers
+/// stand apart.
 pub fn entries_are_plans()
     ensures { EntriesArePlans }
 {}

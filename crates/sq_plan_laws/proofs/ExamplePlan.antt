@@ -1,5 +1,5 @@
 -- An array of two `int`s, of which each is handed to a leaf at a child of its own: the plan meets all that is asked.
-use Rattle.std.proofs.Common.{◌≡◌, ℕ, suc, List, [], ◌∷◌, map, refl, sym, subst}
+use Rattle.std.proofs.Common.{suc, [], ◌∷◌, map, refl, sym, subst}
 use Rattle.std.specs.Prelude.{Some}
 use Rattle.sq_text.specs.declared.place.Place.{Place}
 use Rattle.sq_text.specs.declared.spread.SpreadRule.TheVariants.{Cyclic}
@@ -8,7 +8,7 @@ use Rattle.sq_ir.specs.Events.{Leaves, Finishes}
 use Rattle.sq_ir.specs.Written.{Setting}
 use Rattle.sq_cells.specs.Tree.{Cause}
 use Rattle.sq_placed_bytes.specs.LeafLaws.{event_shape}
-use Rattle.sq_placed_bytes.proofs.ExampleReady.{ints, part, whole_call, one_call, only, idle, codes, root, zeros, all}
+use Rattle.sq_placed_bytes.proofs.ExampleReady.{ints, only, idle, codes, root, zeros, all}
 use Rattle.sq_placed_bytes.proofs.ExampleReady.{example, ready}
 use Rattle.sq_plan_laws.specs.Seated.{HasDims}
 use Rattle.sq_plan_laws.specs.Entry.{IsPlan}

@@ -1,20 +1,18 @@
 -- An array of two `int`s, of which each is handed to a leaf at a child of its own, by either rule: it sits, its seats
 -- are there, and so its tree is like that of its work.
-use Rattle.std.proofs.Common.{◌≡◌, ℕ, zero, suc, ◌+◌, ◌-◌, ◌<◌, ◌≤◌, Bool, true, false, List, [], ◌∷◌, map, get_or}
-use Rattle.std.proofs.Common.{refl, sym, ap, ◌∙◌, subst, arith}
-use Rattle.std.specs.Prelude.{Some, None, slice_get}
+use Rattle.std.proofs.Common.{◌≡◌, ℕ, zero, suc, ◌+◌, ◌-◌, ◌<◌, ◌≤◌, Bool, true, false, [], ◌∷◌, map}
+use Rattle.std.proofs.Common.{refl, sym, ap, subst, arith}
+use Rattle.std.specs.Prelude.{Some}
 use Rattle.std.specs.List.{All}
-use Rattle.sq_num.specs.declared.Elem.TheVariants.{Int}
 use Rattle.sq_text.specs.declared.place.Place.{Place}
 use Rattle.sq_text.specs.declared.spread.SpreadRule.{SpreadRule}
-use Rattle.sq_ast.specs.declared.program.Mode.TheVariants.{Both}
 use Rattle.sq_leaf.specs.declared.shape.Shape.{Shape}
 use Rattle.sq_leaf.specs.Leaf.{Leaf as LeafSource, written_of}
 use Rattle.sq_ir.specs.Events.{Leaves}
 use Rattle.sq_ir.specs.Written.{Setting}
 use Rattle.sq_placed.specs.declared.home.Home.{Home}
 use Rattle.sq_placed.specs.declared.home.Home.TheVariants.{InPlace, Own}
-use Rattle.sq_placed.specs.Placed.{Placed, PlacedArg, PlacedCall, Nothing, Then, AtOnce, Call, Leaf}
+use Rattle.sq_placed.specs.Placed.{Placed, PlacedArg, Nothing, Then, AtOnce, Call, Leaf}
 use Rattle.sq_placed.specs.Trees.{tree}
 use Rattle.sq_cells.specs.Tree.{Cause}
 use Rattle.sq_cells.specs.Lowered as lowered
@@ -23,7 +21,7 @@ use Rattle.sq_alike.specs.Alike.{IsLike}
 use Rattle.sq_placed_bytes.specs.Calling.{PassedFits}
 use Rattle.sq_placed_bytes.specs.OnBytes.{work}
 use Rattle.sq_placed_bytes.proofs.ExampleReady.{ints, part, whole_call, one_call, only}
-use Rattle.sq_plan_laws.specs.Seated.{HasDims, CallSits, IsOwned, IsNear, LeafSits, Sits, at_node}
+use Rattle.sq_plan_laws.specs.Seated.{HasDims, CallSits, IsOwned, IsNear, Sits, at_node}
 use Rattle.sq_placed_bytes.specs.LeafLaws.{event_shape, codes_of}
 use Rattle.sq_plan_laws.specs.Entry.{seats_at, form_at}
 use Rattle.sq_plan_laws.proofs.Entry.{entry_seated, entry_here}

@@ -157,7 +157,8 @@ module _ (offset : ℕ → ℕ) (c first : PlacedCall)
   pub first_form : FormIs offset first_buffer (form_of offset first_buffer first) (call_in_set 0 c)
   first_form = subst (λ f. FormIs offset first_buffer f (call_in_set 0 c))
       (form_same offset first_buffer c first homes kept) (record {
-        args = λ i p e. let m = mapped_from (arg_in_set 0) c.args i p e in (form_is offset first_buffer c).args i m.0 m.1
+        args = λ i p e. let m = mapped_from (arg_in_set 0) c.args i p e in (form_is offset first_buffer c).args i m.0
+            m.1
             ∙ sym (ap (λ (x : PlacedArg). offset (first_buffer x.home)) m.2 ∙ ap offset (first_in m.0.home));
         locals = λ j l e. ap (λ n. form_of offset first_buffer c (n + j)) (length-mapped (arg_in_set 0) c.args)
             ∙ (form_is offset first_buffer c).locals j l e;
@@ -166,7 +167,8 @@ module _ (offset : ℕ → ℕ) (c first : PlacedCall)
   pub second_form : FormIs offset first_buffer (form_of offset second_buffer first) (call_in_set 1 c)
   second_form = subst (λ f. FormIs offset first_buffer f (call_in_set 1 c))
       (form_same offset second_buffer c first homes kept) (record {
-        args = λ i p e. let m = mapped_from (arg_in_set 1) c.args i p e in (form_is offset second_buffer c).args i m.0 m.1
+        args = λ i p e. let m = mapped_from (arg_in_set 1) c.args i p e in (form_is offset second_buffer c).args i m.0
+            m.1
             ∙ sym (ap (λ (x : PlacedArg). offset (first_buffer x.home)) m.2 ∙ ap offset (second_in 0 m.0.home));
         locals = λ j l e. ap (λ n. form_of offset second_buffer c (n + j)) (length-mapped (arg_in_set 1) c.args)
             ∙ (form_is offset second_buffer c).locals j l e;

@@ -419,7 +419,8 @@ module _ (s : Setting) (leaves : Leaves Cause) (outer : List Shape) (seats : Lis
 
     abbrev pipe_tree : ℕ → PlanTree
     pipe_tree m = trees.pipeline (λ j. trees.come_tree (laid_in j))
-        (λ j. trees.work_tree below (call_in j) (laid_in j) (locals_in j) (body_in j)) (λ j. trees.back_tree (laid_in j))
+        (λ j. trees.work_tree below (call_in j) (laid_in j) (locals_in j) (body_in j))
+        (λ j. trees.back_tree (laid_in j))
         m
 
     abbrev pipe_cells : cells.Tree
@@ -436,7 +437,8 @@ module _ (s : Setting) (leaves : Leaves Cause) (outer : List Shape) (seats : Lis
         (like_same leaves (pipe_tree (how_many q n))
         (whole (λ j. come (pos j)) (λ j. work' (pos j)) (λ j. back (pos j)) (how_many q n)) pipe_cells
         (piped_like leaves (λ j. trees.come_tree (laid_in j))
-        (λ j. trees.work_tree below (call_in j) (laid_in j) (locals_in j) (body_in j)) (λ j. trees.back_tree (laid_in j))
+        (λ j. trees.work_tree below (call_in j) (laid_in j) (locals_in j) (body_in j))
+        (λ j. trees.back_tree (laid_in j))
         (λ j. come (pos j)) (λ j. work' (pos j)) (λ j. back (pos j)) (how_many q n) come_like work_like back_like)
         (piped_same come work' back q n pos there))
 
@@ -478,7 +480,8 @@ module _ (s : Setting) (leaves : Leaves Cause) (outer : List Shape) (seats : Lis
         (lowered.set_of (Some rule) (at_node s node) n (form_of s.offset first_buffer (calls 0))
         (form_of s.offset second_buffer (calls 0)) t) (arrays_of outer (calls t)) at) (path ++ t ∷ [])))
         (lowered.piped_back (Some rule) (at_node s node) d n (form_of s.offset first_buffer (calls 0))
-        (form_of s.offset second_buffer (calls 0)) (arity_of (calls 0)) (λ t. arrays_of outer (calls t)) at) (its_child d)
+        (form_of s.offset second_buffer (calls 0)) (arity_of (calls 0)) (λ t. arrays_of outer (calls t)) at)
+        (its_child d)
         n
 
     one_child : (d : ℕ) → IsLike leaves (part d (λ j. get_or (its_list d) j 0) (length (its_list d))) (spread_cells d)
@@ -497,7 +500,8 @@ module _ (s : Setting) (leaves : Leaves Cause) (outer : List Shape) (seats : Lis
 
     pub spread_pipes : IsLike leaves
         (par_of (s.children node) (λ c. part c (λ j. get_or (spreading.iterations_at rule n (s.children node) c) j 0)
-        (length (spreading.iterations_at rule n (s.children node) c))) 0) (beside (fan_of (at_node s node)) spread_cells)
+        (length (spreading.iterations_at rule n (s.children node) c))) 0)
+        (beside (fan_of (at_node s node)) spread_cells)
     unfolding fan_of
     spread_pipes = like_children leaves (s.children node) _ spread_cells
         (λ d ld. subst (λ l. IsLike leaves (part d (λ j. get_or l j 0) (length l)) (spread_cells d)) (sym (list_is d))

@@ -1,7 +1,7 @@
 -- The scopes round the events of a call, and the buffers of its arrays.
-use Rattle.std.proofs.Common.{◌≡◌, ◌≢◌, ℕ, zero, suc, ◌+◌, ◌-◌, ◌*◌, ◌<◌, ◌≤◌, Bool, true, false, List, [], ◌∷◌, ◌++◌}
-use Rattle.std.proofs.Common.{length, map, get_or, Option, Some, None, refl, sym, ap, ap₂, ◌∙◌, subst, arith, ◌⊎◌, inl}
-use Rattle.std.proofs.Common.{inr, eqb, eqb-true, ltb-true}
+use Rattle.std.proofs.Common.{◌≡◌, ◌≢◌, ℕ, zero, suc, ◌+◌, ◌-◌, ◌*◌, ◌<◌, Bool, true, false, List, [], ◌∷◌, ◌++◌}
+use Rattle.std.proofs.Common.{length, map, Option, Some, None, refl, sym, ap, ◌∙◌, subst, arith, ◌⊎◌, inl}
+use Rattle.std.proofs.Common.{inr, eqb, eqb-true}
 use Rattle.std.specs.Prelude.{slice_get, ℤ, pos, if◌then◌else◌}
 use Rattle.std.specs.List.{All, Contains}
 use Rattle.std.proofs.lemmas.Bool.Decides.{nat_tests}
@@ -13,35 +13,35 @@ use Rattle.sq_ast.specs.declared.program.Mode.{Mode}
 use Rattle.sq_ast.specs.declared.program.Mode.TheVariants.{Input, Output, Both}
 use Rattle.sq_leaf.specs.declared.shape.Shape.{Shape}
 use Rattle.sq_blocks.specs.Arguments.{lengths}
-use Rattle.sq_ir.specs.Tree.{Skip, Act}
+use Rattle.sq_ir.specs.Tree.{Skip}
 use Rattle.sq_ir.specs.Scopes.{Scope}
 use Rattle.sq_ir.specs.Events.{Leaves}
 use Rattle.sq_ir.specs.Plans.{IsLive, HaveRoom}
 use Rattle.sq_ir.specs.Plans as plans
-use Rattle.sq_ir.specs.Written.{Setting, PlanTree, seq_of, scoped}
+use Rattle.sq_ir.specs.Written.{Setting, PlanTree}
 use Rattle.sq_placed.specs.declared.home.Home.{Home}
 use Rattle.sq_placed.specs.declared.home.Home.TheVariants.{InPlace, Own, Held, Twin}
 use Rattle.sq_placed.specs.Placed.{Placed, PlacedArg, PlacedLocal, PlacedCall}
-use Rattle.sq_placed.specs.Seats.{Seat, SeatedArg, seat_arg, seated_args, own_seat, block_seat, local_seat, buffer_seat}
+use Rattle.sq_placed.specs.Seats.{Seat, SeatedArg, seated_args, own_seat, block_seat, local_seat}
 use Rattle.sq_placed.specs.Trees.{seq_all, par_all, copy_rows, fill_rows, clear, is_moved, bring_by, bring, give_back}
 use Rattle.sq_placed.specs.Trees.{buffer_of, call_buffers, local_buffers, callee_tree, call_tree}
 use Rattle.sq_cells.specs.Machine.{Form, offset_of}
-use Rattle.sq_cells.specs.Cells.{Spot, spot}
+use Rattle.sq_cells.specs.Cells.{Spot}
 use Rattle.sq_cells.specs.Tree.{Cause}
-use Rattle.sq_cells.specs.Work.{Array, Buffer}
+use Rattle.sq_cells.specs.Work.{Array}
 use Rattle.sq_cells.specs.Lowered.{Layout, own, in_place, IsIn, BufferCell}
 use Rattle.sq_cells.proofs.Cells.{spot_path}
 use Rattle.sq_placed_bytes.specs.Coordinates.{Fits}
 use Rattle.sq_placed_bytes.specs.Codes.{bytes_in}
-use Rattle.sq_placed_bytes.specs.Calling.{place_of, shapes_of, local_of, arrays_of, first_buffer, form_of, PassedFits}
+use Rattle.sq_placed_bytes.specs.Calling.{place_of, shapes_of, arrays_of, first_buffer, form_of, PassedFits}
 use Rattle.sq_placed_bytes.specs.OnBytes.{arity_of}
 use Rattle.sq_plan_laws.specs.Seated.{IsSeated, CallSits, at_node}
-use Rattle.sq_plan_laws.proofs.Places.{below_there, behind, length-mapped, length-joined, ArgIs, arg_is, LaidIs}
+use Rattle.sq_plan_laws.proofs.Places.{below_there, behind, length-mapped}
 use Rattle.sq_plan_laws.proofs.Places.{laid_is, length_laid}
 use Rattle.sq_plan_laws.proofs.Calls.{FormIs, array_is, local_is, arity_is}
 use Rattle.sq_plan_laws.proofs.Sets.{form_is, first_is}
 use Rattle.sq_plan_room.specs.Around.{IsAround}
-use Rattle.sq_plan_room.specs.Buffers.{home_buffer, array_buffers, HasBuffer, Names, IsSimple, CallOwns}
+use Rattle.sq_plan_room.specs.Buffers.{home_buffer, HasBuffer, Names, IsSimple, CallOwns}
 use Rattle.sq_plan_room.proofs.Openings.{contains_left, contains_right}
 use Rattle.sq_plan_room.proofs.Grown.{Aside, seq_first, seq_next, par_left, par_right, aside_first, aside_next}
 use Rattle.sq_plan_room.proofs.Grown.{scope_list, in_scoped, aside_scoped, in_seq_of}

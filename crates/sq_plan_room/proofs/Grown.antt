@@ -1,15 +1,13 @@
 -- The scopes round an event of a part are round it in the whole, with those round the part.
-use Rattle.std.proofs.Common.{◌≡◌, ℕ, zero, suc, ◌+◌, ◌<◌, Bool, true, false, ◌||◌, List, [], ◌∷◌, ◌++◌, map, refl, sym}
-use Rattle.std.proofs.Common.{ap, ap₂, ◌∙◌, subst, arith, ◌⊎◌, inl, inr}
-use Rattle.std.specs.Prelude.{if◌then◌else◌, ◌==◌, slice_get, Some}
+use Rattle.std.proofs.Common.{◌≡◌, ℕ, zero, suc, ◌+◌, ◌<◌, Bool, true, false, ◌||◌, List, [], ◌∷◌, ◌++◌, refl, sym}
+use Rattle.std.proofs.Common.{ap, ◌∙◌, subst, arith, inl, inr}
+use Rattle.std.specs.Prelude.{if◌then◌else◌, ◌==◌}
 use Rattle.std.specs.List.{Contains}
 use Rattle.std.proofs.lemmas.Bool.Decides.{nat_tests}
 use Rattle.sq_ir.specs.Tree.{Tree, Skip, Act, Stuck, Seq, Par, Within, is_done, seq, par, within}
 use Rattle.sq_ir.specs.Scopes.{Scope}
-use Rattle.sq_ir.specs.Events.{Event}
 use Rattle.sq_ir.specs.Written.{PlanTree, seq_of, par_of, scoped}
 use Rattle.sq_nests.specs.Stacks.{stands_at, AreAside}
-use Rattle.sq_placed.specs.Trees.{seq_all, par_all}
 use Rattle.sq_plan_room.specs.Around.{IsAround}
 
 -- where there is an event, something is left

@@ -1,14 +1,14 @@
 -- The scopes round an event are open together where just the events before it are finished.
-use Rattle.std.proofs.Common.{◌≡◌, ℕ, zero, suc, ◌<◌, Bool, true, false, List, [], ◌∷◌, ◌++◌, Some, None, refl, sym, ap}
-use Rattle.std.proofs.Common.{ap₂, ◌∙◌, subst, arith, ◌⊎◌, inl, inr}
-use Rattle.std.specs.Prelude.{if◌then◌else◌, Option}
+use Rattle.std.proofs.Common.{◌≡◌, zero, suc, Bool, true, false, List, [], ◌∷◌, ◌++◌, Some, refl, sym, ap}
+use Rattle.std.proofs.Common.{◌∙◌, subst, arith, inl, inr}
+use Rattle.std.specs.Prelude.{if◌then◌else◌}
 use Rattle.std.specs.List.{Contains}
 use Rattle.sq_ir.specs.Tree.{Tree, Skip, Act, Stuck, Seq, Par, Within, is_done, seq, par, within, IsNormal}
 use Rattle.sq_ir.specs.Unordered.{event_in, IsBefore, IsFresh}
-use Rattle.sq_ir.specs.Scopes.{open_scopes, after_turns}
-use Rattle.sq_ir.specs.Closed.{without, IsClosed, AreReached}
-use Rattle.sq_ir.proofs.Reaching.{untouched, are_reached}
-use Rattle.sq_plan_room.specs.Around.{IsAround, AreOpen, ScopesOpen}
+use Rattle.sq_ir.specs.Scopes.{open_scopes}
+use Rattle.sq_ir.specs.Closed.{without, IsClosed}
+use Rattle.sq_ir.proofs.Reaching.{are_reached}
+use Rattle.sq_plan_room.specs.Around.{IsAround, ScopesOpen}
 
 -- ---- lists
 

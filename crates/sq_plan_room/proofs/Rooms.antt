@@ -1,10 +1,9 @@
 -- A plan whose live buffers have room in each state.
-use Rattle.std.proofs.Common.{◌≡◌, ℕ, zero, suc, ◌+◌, ◌<◌, ◌≤◌, List, [], ◌∷◌, ◌++◌, length, get_or, Some, refl, sym}
-use Rattle.std.proofs.Common.{ap, ◌∙◌, subst, arith}
+use Rattle.std.proofs.Common.{◌≡◌, ℕ, zero, suc, ◌+◌, ◌<◌, List, [], ◌∷◌, ◌++◌, length, get_or, Some, refl, sym}
+use Rattle.std.proofs.Common.{ap, subst, arith}
 use Rattle.std.specs.Prelude.{slice_get}
 use Rattle.std.specs.List.{Contains}
 use Rattle.sq_leaf.specs.declared.shape.Shape.{Shape}
-use Rattle.sq_ir.specs.Tree.{Tree}
 use Rattle.sq_ir.specs.Scopes.{Scope}
 use Rattle.sq_ir.specs.Events.{Event, Leaves}
 use Rattle.sq_ir.specs.Plans.{IsLive, HaveRoom}
@@ -29,7 +28,7 @@ use Rattle.sq_plan_laws.proofs.Places.{below_there}
 use Rattle.sq_plan_room.specs.Around.{IsAround}
 use Rattle.sq_plan_room.specs.Rooms.{IsOwned, KeepsRoom, RoomIsStowed}
 use Rattle.sq_plan_room.proofs.Openings.{scopes_open}
-use Rattle.sq_plan_room.proofs.Grown.{Aside, scope_list, in_scoped, aside_scoped}
+use Rattle.sq_plan_room.proofs.Grown.{scope_list, in_scoped, aside_scoped}
 use Rattle.sq_plan_room.proofs.CallOpens.{IsNamed, named_left, named_right, named_in, is_live, one_buffer}
 use Rattle.sq_plan_room.proofs.Stowing.{Found, on_bytes, scratch, stowed}
 

@@ -1,10 +1,9 @@
 -- The buffers of a placed source stand apart where the live ones do.
-use Rattle.std.proofs.Common.{◌≡◌, ◌≢◌, ℕ, zero, suc, ◌+◌, ◌<◌, ◌≤◌, Bool, true, false, List, [], ◌∷◌, ◌++◌, length}
-use Rattle.std.proofs.Common.{map, get_or, Option, Some, None, refl, sym, ap, ap₂, ◌∙◌, subst, arith, ◌⊎◌, inl, inr}
-use Rattle.std.proofs.Common.{⊎_elim, eqb, eqb-true, ltb-true}
-use Rattle.std.specs.Prelude.{slice_get, if◌then◌else◌, ◌==◌}
+use Rattle.std.proofs.Common.{◌≡◌, ◌≢◌, ℕ, zero, suc, ◌+◌, ◌<◌, Bool, false, List, [], ◌∷◌, ◌++◌}
+use Rattle.std.proofs.Common.{map, Option, Some, None, refl, sym, ap, ◌∙◌, subst, arith, ◌⊎◌, inl, inr}
+use Rattle.std.proofs.Common.{⊎_elim}
+use Rattle.std.specs.Prelude.{if◌then◌else◌, ◌==◌}
 use Rattle.std.specs.List.{Contains}
-use Rattle.std.proofs.lemmas.Bool.Decides.{nat_tests}
 use Rattle.sq_text.specs.declared.spread.SpreadRule.{SpreadRule}
 use Rattle.sq_text.specs.Spreading as spreading
 use Rattle.sq_leaf.specs.declared.shape.Shape.{Shape}
@@ -13,12 +12,12 @@ use Rattle.sq_ir.specs.Scopes.{Scope}
 use Rattle.sq_ir.specs.Events.{Leaves}
 use Rattle.sq_ir.specs.Plans.{HaveRoom}
 use Rattle.sq_ir.specs.Plans as plans
-use Rattle.sq_ir.specs.Written.{Setting, PlanTree, seq_of, par_of, scoped}
-use Rattle.sq_placed.specs.Placed.{Placed, PlacedArg, PlacedCall, Nothing, Then, Each, AtOnce, Gathers, Call, Hold}
+use Rattle.sq_ir.specs.Written.{Setting, PlanTree, seq_of, par_of}
+use Rattle.sq_placed.specs.Placed.{Placed, PlacedCall, Nothing, Then, Each, AtOnce, Gathers, Call, Hold}
 use Rattle.sq_placed.specs.Placed.{Piped, Leaf}
 use Rattle.sq_placed.specs.Seats.{Seat, seated_args, local_seat}
 use Rattle.sq_placed.specs.Trees.{tree, map_tree, callee_node, callee_seats}
-use Rattle.sq_cells.specs.Machine.{Form, Node, fan_of, lane, lane_of, offset_of}
+use Rattle.sq_cells.specs.Machine.{Form, Node, fan_of, lane, offset_of}
 use Rattle.sq_cells.specs.Work.{Work}
 use Rattle.sq_cells.specs.Cells.{Spot}
 use Rattle.sq_cells.specs.Tree.{Cause}
@@ -28,15 +27,15 @@ use Rattle.sq_placed_bytes.specs.Calling.{arrays_of, shapes_of, first_buffer, fo
 use Rattle.sq_placed_bytes.specs.OnBytes.{OneCall, work, share, call_or_none, arity_of}
 use Rattle.sq_placed_bytes.specs.Fitting.{IsOne}
 use Rattle.sq_placed_bytes.specs.LeafLaws.{codes_of}
-use Rattle.sq_placed_bytes.specs.Stowed.{LanesApart, Stowed}
+use Rattle.sq_placed_bytes.specs.Stowed.{Stowed}
 use Rattle.sq_plan_laws.specs.Seated.{IsSeated, CallSits, Sits, at_node}
-use Rattle.sq_plan_laws.proofs.Calls.{IsBuffer, number_is, callee_seated}
+use Rattle.sq_plan_laws.proofs.Calls.{number_is, callee_seated}
 use Rattle.sq_plan_laws.proofs.Sets.{form_is, first_is}
 use Rattle.sq_plan_room.specs.Around.{IsAround}
 use Rattle.sq_plan_room.specs.Buffers.{Names, CallOwns, Owns, HaveLanes}
 use Rattle.sq_plan_room.proofs.Grown.{Aside, seq_first, seq_next, aside_first, aside_next, same_true, in_seq_of}
 use Rattle.sq_plan_room.proofs.Grown.{aside_seq_of, in_par_of, aside_par_of, lanes_apart}
-use Rattle.sq_plan_room.proofs.CallOpens.{IsNamed, is_live, named_right, args_scope, locals_scope, of_body, live_cell}
+use Rattle.sq_plan_room.proofs.CallOpens.{IsNamed, named_right, args_scope, locals_scope, of_body, live_cell}
 use Rattle.sq_plan_room.proofs.CallOpens.{aside_body, separate, below_all}
 
 append_joins : {A : Type 0} (xs ys zs : List A) → (xs ++ ys) ++ zs ≡ xs ++ (ys ++ zs)
@@ -224,7 +223,8 @@ module _ (s : Setting) (leaves : Leaves Cause) (outer : List Shape) (seats : Lis
 
   module _ (ih : (x : Spot) → Scratch (on_bytes s leaves w (shapes_of c)) (at_node s inside) 0 x → Found s body w x)
     where
-      found_in : (x : Spot) → InCall (at_node s inside) x → Found s (tree s (Call c w) node child seats path) (Call c w) x
+      found_in : (x : Spot) → InCall (at_node s inside) x
+          → Found s (tree s (Call c w) node child seats path) (Call c w) x
       found_in x (inl z) =
           let f = live_cell s leaves outer seats at seated c sits inside w owns body x z in
           record {
@@ -392,9 +392,11 @@ module _ (s : Setting) (leaves : Leaves Cause) where
         record {
           lanes = λ a b la lb ne x ha hb.
               apart s spread node child n part aside w a b la lb (lanes a la).0 (lanes b lb).0 ne x
-              (scratch (w a) node (kid a) outer seats at (path ++ a ∷ []) (sits a la) seated (owns a la) (lanes a la).1 x
+              (scratch (w a) node (kid a) outer seats at (path ++ a ∷ []) (sits a la) seated (owns a la) (lanes a la).1
+              x
               ha)
-              (scratch (w b) node (kid b) outer seats at (path ++ b ∷ []) (sits b lb) seated (owns b lb) (lanes b lb).1 x
+              (scratch (w b) node (kid b) outer seats at (path ++ b ∷ []) (sits b lb) seated (owns b lb) (lanes b lb).1
+              x
               hb);
         },
         λ t lt. (
@@ -416,9 +418,11 @@ module _ (s : Setting) (leaves : Leaves Cause) where
         record {
           lanes = λ a b la lb ne x ha hb.
               apart s spread node child (suc n) part aside w a b la lb (lanes a la).0 (lanes b lb).0 ne x
-              (scratch (w a) node (kid a) outer seats at (path ++ a ∷ []) (sits.1 a la).2 seated (owns a la) (lanes a la).1
+              (scratch (w a) node (kid a) outer seats at (path ++ a ∷ []) (sits.1 a la).2 seated (owns a la)
+              (lanes a la).1
               x (one_scratch s leaves outer node (w a) (sits.1 a la).0 lower (same a la) (kid a) x ha))
-              (scratch (w b) node (kid b) outer seats at (path ++ b ∷ []) (sits.1 b lb).2 seated (owns b lb) (lanes b lb).1
+              (scratch (w b) node (kid b) outer seats at (path ++ b ∷ []) (sits.1 b lb).2 seated (owns b lb)
+              (lanes b lb).1
               x (one_scratch s leaves outer node (w b) (sits.1 b lb).0 lower (same b lb) (kid b) x hb));
         },
         λ t lt.

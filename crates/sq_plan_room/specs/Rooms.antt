@@ -1,5 +1,5 @@
 -- From room in each state of a plan to buffers that stand apart.
-use Rattle.std.specs.Prelude.{◌≡◌, ◌<◌, ◌≤◌, ℕ, List, [], ◌∷◌, length, Some, slice_get}
+use Rattle.std.specs.Prelude.{◌≡◌, ◌≤◌, ℕ, List, [], ◌∷◌, length, Some, slice_get}
 use Rattle.sq_leaf.specs.declared.shape.Shape.{Shape}
 use Rattle.sq_ir.specs.Tree.{IsNormal}
 use Rattle.sq_ir.specs.Unordered.{IsFresh}

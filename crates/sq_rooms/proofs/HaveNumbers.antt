@@ -170,7 +170,8 @@ module _ (s : Setting) (depth : ℕ → ℕ) (forest : IsForest s depth) (levels
         → Ok (by_rows extents x) env bs
     rows_are extents x env bs h =
         let c = sure_const s env.turns (rows_of extents) h in
-        subst (λ (f : AskedOfTerms). f env bs) (sym (meets_loop s Nothing (n.Const (pos (rows_of extents))) (term.Act x))) (
+        subst (λ (f : AskedOfTerms). f env bs)
+        (sym (meets_loop s Nothing (n.Const (pos (rows_of extents))) (term.Act x))) (
           sure_count s env (n.Const (pos (rows_of extents))) (rows_of extents) (c.has env.level env.nodes)
               (c.is.value env.level env.nodes),
           λ t l. act_ok x (at_turn env t) bs,
@@ -268,7 +269,8 @@ module _ (s : Setting) (depth : ℕ → ℕ) (forest : IsForest s depth) (levels
                 (λ z. z ≢ pos 0) (sym (children_is s in_env))
                 (λ e. let z = ap nat_abs e in absurd (omega (arith, z, many))),
           );
-          value = rem_is s in_env (n.Index 0) n.Children t (s.children node) (index_is s in_env 0) (children_is s in_env);
+          value = rem_is s in_env (n.Index 0) n.Children t (s.children node) (index_is s in_env 0)
+              (children_is s in_env);
           there = λ l. (spreads Cyclic m (s.children node) many).below t lt;
           level = h.level;
           depth_is = h.depth_is;
@@ -310,7 +312,8 @@ module _ (s : Setting) (depth : ℕ → ℕ) (forest : IsForest s depth) (levels
                 count_is))
                 (less (t * s.children node / m) 64 (omega (arith, inside, most)) (small 64 (omega arith))),
           );
-          value = div_is s in_env (n.Mul (n.Index 0) n.Children) (lift 1 count) (t * s.children node) m product count_is;
+          value = div_is s in_env (n.Mul (n.Index 0) n.Children) (lift 1 count) (t * s.children node) m product
+              count_is;
           there = λ l. inside;
           level = h.level;
           depth_is = h.depth_is;
@@ -321,8 +324,11 @@ module _ (s : Setting) (depth : ℕ → ℕ) (forest : IsForest s depth) (levels
         → ((t : ℕ) → t < m → Ok x (at_turn env t) bs) → Ok (map_term spread count x) env bs
     map_ok None count m x env bs c a h =
         let v = c.is.value env.level env.nodes in
-        subst (λ (f : AskedOfTerms). f env bs) (sym (meets_loop s Nothing count x))
-        (sure_count s env count m (c.has env.level env.nodes) v, λ t l. h t (let e = ap nat_abs v in omega (arith, e, l)))
+        subst (λ (f : AskedOfTerms). f env bs) (sym (meets_loop s Nothing count x)) (
+          sure_count s env count m (c.has env.level env.nodes) v,
+          λ t l. h t
+              (let e = ap nat_abs v in omega (arith, e, l)),
+        )
     map_ok (Some rule) count m x env bs c a h =
         let v = c.is.value env.level env.nodes in
         subst (λ (f : AskedOfTerms). f env bs) (sym (meets_spread s Nothing count rule x)) (
@@ -336,87 +342,99 @@ module _ (s : Setting) (depth : ℕ → ℕ) (forest : IsForest s depth) (levels
 
     module _ (bodies : ℕ → FormBody) (homes : ℕ → Homes) (level : ℕ → ℕ) (fit : AreFit s levels bodies homes level)
         (callee : ℕ → Context → Term)
-        (good : (f : ℕ) (c : Context) (env : Env) (bs : List ℕ) → IsSafe env (level f) c 0 → Ok (callee f c) env bs) where
-      pub arm_ok : (hs : List Home) (op : Option RedOp) (lower : Bool) (c : Context) (times : List CallInstance)
-          (r : CallInstance) (env : Env) (bs : List ℕ) (at k : ℕ)
-          → ((i : ℕ) → EachOf (IsBuffer s (level r.form)) (buffer_of (get_or hs i InPlace) []))
-          → IsSafe env at c k → level r.form ≡ below lower at
-          → Ok (arm_term bodies homes callee hs op lower c times r) env bs
-      arm_ok hs op lower c times r env bs at k own h to =
-          let low = fit.low r.form in
-          let ent = enters lower env at c k h (subst (λ (z : ℕ). z < levels) to low) in
-          let o = call_child lower c in
-          let in_env = inside_of s env o in
-          let ms = moves_from op (bodies r.form).arrays hs c times 0 r.args in
-          let ks = locals_of (bodies r.form) (homes r.form) in
-          let named = buffers_from hs 0 r.args in
-          let inner = in_callee c ms ks in
-          let x = callee r.form inner in
-          let at_level : in_env.level ≡ level r.form = ent.level ∙ sym to in
-          let zero_is = sure_const s in_env.turns 0 nothing_fits in
-          let rowed = moves_rowed op (bodies r.form).arrays hs c times (fit.shapes r.form) 0 r.args in
-          let safe : IsSafe in_env (level r.form) inner 0 = record {
-            ordinal = zero_is;
-            goes = n.Const (pos 0);
-            child = 0;
-            child_is = refl;
-            has = zero_is.has in_env.level in_env.nodes;
-            value = zero_is.is.value in_env.level in_env.nodes;
-            there = λ l. some (node_of in_env) (let d = ent.depth_is in omega (arith, l, d, to));
-            level = at_level;
-            depth_is = ent.depth_is ∙ sym to;
-          } in
-          within_ok o named (term.Seq (call_parts ms ks x)) env bs ent.is_child
-          (subst (λ (z : ℕ). EachOf (IsBuffer s z) named) (sym at_level)
-          (args_there s (level r.form) hs own 0 r.args))
-          (seq_ok (call_parts ms ks x) in_env (named ++ bs) (
-            par_ok IsRowed bring_term in_env (named ++ bs) (λ m g. bring_ok in_env (named ++ bs) m.gathers m.mode m g) ms
-                rowed,
-            (
-              within_ok None (local_buffers ks) (term.Seq (term.Par (map (λ k. clear_term (local_view k)) ks) ∷ x ∷ []))
-                  in_env (named ++ bs) tt
-                  (subst (λ (z : ℕ). EachOf (IsBuffer s z) (local_buffers ks)) (sym at_level) (fit.locals r.form))
-                  (seq_ok (term.Par (map (λ k. clear_term (local_view k)) ks) ∷ x ∷ []) in_env (local_buffers ks ++ (named ++ bs)) (
-                    par_ok (λ (k : PlacedLocal). Fits (rows_of k.shape.extents)) (λ k. clear_term (local_view k)) in_env
-                        (local_buffers ks ++ (named ++ bs))
-                        (λ k g. rows_are k.shape.extents _ in_env (local_buffers ks ++ (named ++ bs)) g) ks (fit.kept r.form),
-                    (good r.form inner in_env (local_buffers ks ++ (named ++ bs)) safe, tt),
-                  )),
+        (good : (f : ℕ) (c : Context) (env : Env) (bs : List ℕ) → IsSafe env (level f) c 0 → Ok (callee f c) env bs)
+      where
+        pub arm_ok : (hs : List Home) (op : Option RedOp) (lower : Bool) (c : Context) (times : List CallInstance)
+            (r : CallInstance) (env : Env) (bs : List ℕ) (at k : ℕ)
+            → ((i : ℕ) → EachOf (IsBuffer s (level r.form)) (buffer_of (get_or hs i InPlace) []))
+            → IsSafe env at c k → level r.form ≡ below lower at
+            → Ok (arm_term bodies homes callee hs op lower c times r) env bs
+        arm_ok hs op lower c times r env bs at k own h to =
+            let low = fit.low r.form in
+            let ent = enters lower env at c k h (subst (λ (z : ℕ). z < levels) to low) in
+            let o = call_child lower c in
+            let in_env = inside_of s env o in
+            let ms = moves_from op (bodies r.form).arrays hs c times 0 r.args in
+            let ks = locals_of (bodies r.form) (homes r.form) in
+            let named = buffers_from hs 0 r.args in
+            let inner = in_callee c ms ks in
+            let x = callee r.form inner in
+            let at_level : in_env.level ≡ level r.form = ent.level ∙ sym to in
+            let zero_is = sure_const s in_env.turns 0 nothing_fits in
+            let rowed = moves_rowed op (bodies r.form).arrays hs c times (fit.shapes r.form) 0 r.args in
+            let safe : IsSafe in_env (level r.form) inner 0 = record {
+              ordinal = zero_is;
+              goes = n.Const (pos 0);
+              child = 0;
+              child_is = refl;
+              has = zero_is.has in_env.level in_env.nodes;
+              value = zero_is.is.value in_env.level in_env.nodes;
+              there = λ l. some (node_of in_env) (let d = ent.depth_is in omega (arith, l, d, to));
+              level = at_level;
+              depth_is = ent.depth_is ∙ sym to;
+            } in
+            within_ok o named (term.Seq (call_parts ms ks x)) env bs ent.is_child
+            (subst (λ (z : ℕ). EachOf (IsBuffer s z) named) (sym at_level)
+            (args_there s (level r.form) hs own 0 r.args))
+            (seq_ok (call_parts ms ks x) in_env (named ++ bs) (
+              par_ok IsRowed bring_term in_env (named ++ bs) (λ m g. bring_ok in_env (named ++ bs) m.gathers m.mode m g)
+                  ms
+                  rowed,
               (
-                par_ok IsRowed back_term in_env (named ++ bs) (λ m g. back_ok in_env (named ++ bs) m.gathers m.mode m g) ms
-                    rowed,
-                tt,
+                within_ok None (local_buffers ks)
+                    (term.Seq (term.Par (map (λ k. clear_term (local_view k)) ks) ∷ x ∷ []))
+                    in_env (named ++ bs) tt
+                    (subst (λ (z : ℕ). EachOf (IsBuffer s z) (local_buffers ks)) (sym at_level) (fit.locals r.form))
+                    (seq_ok (term.Par (map (λ k. clear_term (local_view k)) ks) ∷ x ∷ []) in_env
+                    (local_buffers ks ++ (named ++ bs)) (
+                      par_ok (λ (k : PlacedLocal). Fits (rows_of k.shape.extents)) (λ k. clear_term (local_view k))
+                          in_env
+                          (local_buffers ks ++ (named ++ bs))
+                          (λ k g. rows_are k.shape.extents _ in_env (local_buffers ks ++ (named ++ bs)) g) ks
+                          (fit.kept r.form),
+                      (good r.form inner in_env (local_buffers ks ++ (named ++ bs)) safe, tt),
+                    )),
+                (
+                  par_ok IsRowed back_term in_env (named ++ bs)
+                      (λ m g. back_ok in_env (named ++ bs) m.gathers m.mode m g)
+                      ms
+                      rowed,
+                  tt,
+                ),
               ),
-            ),
-          ))
+            ))
 
-      this_at : (f : CallInstance → Term) (qs : List CallInstance) (j : ℕ) (q : CallInstance) (env : Env) (bs : List ℕ)
-          → slice_get qs j ≡ Some q → Ok (f q) env bs → this_arm (Meets s Nothing) (map f qs) (pos j) env bs
-      this_at f [] j q env bs e h = tt
-      this_at f (x ∷ qs) zero q env bs e h = let z : x ≡ q = cc in subst (λ (y : CallInstance). Ok (f y) env bs) (sym z) h
-      this_at f (x ∷ qs) (suc j) q env bs e h = this_at f qs j q env bs e h
+        this_at : (f : CallInstance → Term) (qs : List CallInstance) (j : ℕ) (q : CallInstance) (env : Env)
+            (bs : List ℕ)
+            → slice_get qs j ≡ Some q → Ok (f q) env bs → this_arm (Meets s Nothing) (map f qs) (pos j) env bs
+        this_at f [] j q env bs e h = tt
+        this_at f (x ∷ qs) zero q env bs e h = let z : x ≡ q
+            = cc in subst (λ (y : CallInstance). Ok (f y) env bs) (sym z) h
+        this_at f (x ∷ qs) (suc j) q env bs e h = this_at f qs j q env bs e h
 
-      pub call_ok : (op : Option RedOp) (lower : Bool) (c : Context) (times : List CallInstance) (env : Env) (bs : List ℕ)
-          (at k : ℕ) → IsSafe env at c k → AreLevel level at (calls_in_rows lower times)
-          → k < length times → Fits (length (arms_of times)) → Ok (rows_term bodies homes callee op lower c times) env bs
-      call_ok op lower c times env bs at k h deep lt f =
-          let w = row_of times k lt in
-          let r = w.row in
-          let has = arm_of_row times k r w.there in
-          let arm = arm_of_form bodies homes callee op lower c times in
-          let ps = picks (arms_of times) times in
-          let count = length-map times (λ q. suc (arm_number (arms_of times) q)) in
-          let picked : get_or ps k 0 ≡ suc (arm_number (arms_of times) r) = picks_are (arms_of times) times k
-          ∙ ap (pick_of (arms_of times)) w.there in
-          let few_arms = there_less (arms_of times) (arm_number (arms_of times) r) has.arm has.there in
-          let sure = sure_pick s env.turns ps c.ordinal k h.ordinal (omega (arith, lt, count))
-          (less (get_or ps k 0) (length (arms_of times)) (omega (arith, picked, few_arms)) f) in
-          subst (λ (g : AskedOfTerms). g env bs)
-          (sym (meets_case s Nothing (n.Pick (numbers ps) c.ordinal) (term.Skip ∷ map arm (arms_of times)))) (
-            sure.has env.level env.nodes,
-            subst (λ (z : ℤ). this_arm (Meets s Nothing) (term.Skip ∷ map arm (arms_of times)) z env bs)
-                (sym (sure.is.value env.level env.nodes ∙ ap pos picked))
-                (this_at arm (arms_of times) (arm_number (arms_of times) r) has.arm env bs has.there
-                (arm_ok (homes has.arm.form).params op lower c times has.arm env bs at k (fit.args has.arm.form) h
-                (ap level (sym has.form) ∙ row_level level at lower times k r deep w.there))),
-          )
+        pub call_ok : (op : Option RedOp) (lower : Bool) (c : Context) (times : List CallInstance) (env : Env)
+            (bs : List ℕ)
+            (at k : ℕ) → IsSafe env at c k → AreLevel level at (calls_in_rows lower times)
+            → k < length times → Fits (length (arms_of times))
+            → Ok (rows_term bodies homes callee op lower c times) env bs
+        call_ok op lower c times env bs at k h deep lt f =
+            let w = row_of times k lt in
+            let r = w.row in
+            let has = arm_of_row times k r w.there in
+            let arm = arm_of_form bodies homes callee op lower c times in
+            let ps = picks (arms_of times) times in
+            let count = length-map times (λ q. suc (arm_number (arms_of times) q)) in
+            let picked : get_or ps k 0 ≡ suc (arm_number (arms_of times) r) = picks_are (arms_of times) times k
+            ∙ ap (pick_of (arms_of times)) w.there in
+            let few_arms = there_less (arms_of times) (arm_number (arms_of times) r) has.arm has.there in
+            let sure = sure_pick s env.turns ps c.ordinal k h.ordinal (omega (arith, lt, count))
+            (less (get_or ps k 0) (length (arms_of times)) (omega (arith, picked, few_arms)) f) in
+            subst (λ (g : AskedOfTerms). g env bs)
+            (sym (meets_case s Nothing (n.Pick (numbers ps) c.ordinal) (term.Skip ∷ map arm (arms_of times)))) (
+              sure.has env.level env.nodes,
+              subst (λ (z : ℤ). this_arm (Meets s Nothing) (term.Skip ∷ map arm (arms_of times)) z env bs)
+                  (sym (sure.is.value env.level env.nodes ∙ ap pos picked))
+                  (this_at arm (arms_of times) (arm_number (arms_of times) r) has.arm env bs has.there
+                  (arm_ok (homes has.arm.form).params op lower c times has.arm env bs at k (fit.args has.arm.form) h
+                  (ap level (sym has.form) ∙ row_level level at lower times k r deep w.there))),
+            )

@@ -87,7 +87,8 @@ module _ (bodies : ℕ → FormBody) (homes : ℕ → Homes) (level : ℕ → �
       all_good [] op inside k h = (tt, λ s i. tt)
       all_good (x ∷ xs) op inside k h =
           let a = x.1.held op inside k (level_left level at (calls_in x.0) (all_calls (map calls_in (begun xs))) h) in
-          let c = all_good xs op inside k (level_right level at (calls_in x.0) (all_calls (map calls_in (begun xs))) h) in (
+          let c = all_good xs op inside k (level_right level at (calls_in x.0) (all_calls (map calls_in (begun xs))) h)
+          in (
             (a.0, c.0),
             λ s i. (
               a.1 (or_left (part x.0).same (any_same (map part (begun xs))) s) i,
@@ -106,11 +107,16 @@ module _ (bodies : ℕ → FormBody) (homes : ℕ → Homes) (level : ℕ → �
           ((λ q. omega (arith, e, z), subst (λ l. IsSpreadWell levels l (callee r.form)) e (good r.form)), λ s i. refl)
       row_good op false inside (Some r) h
           = (
-            (λ q. absurd (let z = q in cc), subst (λ l. IsSpreadWell levels l (callee r.form)) (h r refl) (good r.form)),
+            (
+              λ q. absurd (let z = q in cc),
+              subst (λ l. IsSpreadWell levels l (callee r.form)) (h r refl)
+                  (good r.form),
+            ),
             λ s i. absurd (let z = s in cc),
           )
 
-      map_good : (m : LoopKind) (place : Place) (inside : Bool) (count start : ℕ) (v same : Bool) (w : Bool → ℕ → Placed)
+      map_good : (m : LoopKind) (place : Place) (inside : Bool) (count start : ℕ) (v same : Bool)
+          (w : Bool → ℕ → Placed)
           → (v ≡ true → same ≡ false) → (inside ≡ true → v ≡ false) → (is_beside m ≡ false → v ≡ false)
           → ((i : Bool) (t : ℕ) → Holds (w i t) same i)
           → Holds (map_placed m place (if v then Some rule else None) count
@@ -128,7 +134,11 @@ module _ (bodies : ℕ → FormBody) (homes : ℕ → Homes) (level : ℕ → �
             (refl, λ t. (h (inside || false) (start + t)).1 s (ap (λ z. z || false) i)),
       )
       map_good loop_kind.Parallel place false count start true same w p q r h
-          = (λ t. ((h true (start + t)).0, λ some. (h true (start + t)).1 (p refl) refl), λ s i. absurd (let z = i in cc))
+          = (
+            λ t. ((h true (start + t)).0, λ some. (h true (start + t)).1 (p refl) refl),
+            λ s i. absurd
+                (let z = i in cc),
+          )
       map_good loop_kind.Parallel place true count start true same w p q r h = absurd (let z = q refl in cc)
       map_good (loop_kind.Reduction g) place inside count start false same w p q r h = (
         λ t. ((h (inside || false) (start + t)).0, λ some. absurd (some refl)),
@@ -136,7 +146,11 @@ module _ (bodies : ℕ → FormBody) (homes : ℕ → Homes) (level : ℕ → �
             (refl, λ t. (h (inside || false) (start + t)).1 s (ap (λ z. z || false) i)),
       )
       map_good (loop_kind.Reduction g) place false count start true same w p q r h
-          = (λ t. ((h true (start + t)).0, λ some. (h true (start + t)).1 (p refl) refl), λ s i. absurd (let z = i in cc))
+          = (
+            λ t. ((h true (start + t)).0, λ some. (h true (start + t)).1 (p refl) refl),
+            λ s i. absurd
+                (let z = i in cc),
+          )
       map_good (loop_kind.Reduction g) place true count start true same w p q r h = absurd (let z = q refl in cc)
 
       -- a loop that arguments leave stands above the last level
@@ -164,7 +178,8 @@ module _ (bodies : ℕ → FormBody) (homes : ℕ → Homes) (level : ℕ → �
           so false = refl
 
       map_alone : (m : LoopKind) (starts : List ℕ) (xs : List G)
-          → IsAlone level at (chain_of first_of m starts (chains (map part (begun xs)))) (any_same (map part (begun xs)))
+          → IsAlone level at (chain_of first_of m starts (chains (map part (begun xs))))
+          (any_same (map part (begun xs)))
           (all_calls (map calls_in (begun xs)))
       map_alone loop_kind.Sequential starts [] = tt
       map_alone loop_kind.Sequential starts (x ∷ [])

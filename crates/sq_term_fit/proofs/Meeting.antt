@@ -198,7 +198,8 @@ module _ (s : Setting) (most : Bounds) (bounds : AreBounds most) (last : ℕ) (i
                 (homes arm.form).locals (leveled.locals arm.form) (tabled.locals arm.form)))
                 (fine_seq s Nothing in_env _ _ (
                   fine_par s Nothing in_env _ _
-                      (clears_fine s in_env _ (drop (length (homes arm.form).params) (bodies arm.form).arrays) (homes arm.form).locals
+                      (clears_fine s in_env _ (drop (length (homes arm.form).params) (bodies arm.form).arrays)
+                      (homes arm.form).locals
                       (rows_dropped (length (homes arm.form).params) (bodies arm.form).arrays (tabled.rows arm.form))),
                   (
                     callees arm.form (in_callee c ms (locals_of (bodies arm.form) (homes arm.form))) in_env _ (record {
@@ -324,12 +325,14 @@ module _ (s : Setting) (most : Bounds) (bounds : AreBounds most) (last : ℕ) (i
               (leaving_there s (level f) (homes f).params (leveled.params f) (tabled.params f) (p ∷ ps)))
               (fine_seq s Nothing in_env (new ++ bs) _ (
                 fine_par s Nothing in_env (new ++ bs) _
-                    (fine_all s Nothing in_env (new ++ bs) IsRowed hold_in_term (hold_in_fine s in_env (new ++ bs)) ms rowed),
+                    (fine_all s Nothing in_env (new ++ bs) IsRowed hold_in_term (hold_in_fine s in_env (new ++ bs)) ms
+                    rowed),
                 (
                   is true (at_child_already c) in_env (new ++ bs) within,
                   (
                     fine_par s Nothing in_env (new ++ bs) _
-                        (fine_all s Nothing in_env (new ++ bs) IsRowed hold_out_term (hold_out_fine s in_env (new ++ bs)) ms
+                        (fine_all s Nothing in_env (new ++ bs) IsRowed hold_out_term
+                        (hold_out_fine s in_env (new ++ bs)) ms
                         rowed),
                     tt,
                   ),
@@ -512,7 +515,8 @@ module _ (s : Setting) (most : Bounds) (bounds : AreBounds most) (last : ℕ) (i
                   (subst (λ (z : Bool). Fits s last is_at env at c inside z k)
                   (ap (λ (p : TermPart). p.same) (built_map bodies homes made rule place m counts starts (begun xs))) g)
                   (loop_term rule m counts starts (all_built_of xs))
-                  (λ within_it d in_env more f. map_fine m counts starts xs n k d in_env within_it more deeper asked l f));
+                  (λ within_it d in_env more f. map_fine m counts starts xs n k d in_env within_it more deeper asked l
+                  f));
             })
 
         agrees : (x : Statement) → Agrees x

@@ -174,13 +174,15 @@ module _ (s : Setting) (most : Bounds) (bounds : AreBounds most) (last : ℕ) (i
         (subst (λ (l : ℕ). All (IsBuffer s l) new) (sym goes.0.level_is) there)
         (fine_seq s (RowsInside s) in_env (new ++ bs) _ (
           fine_par s (RowsInside s) in_env (new ++ bs) _
-              (moves_good in_env (new ++ bs) _ (λ m x i. bring_good s roomy.sizes eight_fits in_env (new ++ bs) x m i) each),
+              (moves_good in_env (new ++ bs) _ (λ m x i. bring_good s roomy.sizes eight_fits in_env (new ++ bs) x m i)
+              each),
           (
             fine_within s (RowsInside s) in_env (new ++ bs) None
                 (local_buffers (locals_of (bodies arm.form) (homes arm.form))) _ tt
                 (subst (λ (l : ℕ). All (IsBuffer s l) (local_buffers (locals_of (bodies arm.form) (homes arm.form))))
                 (deep ∙ sym goes.0.level_is)
-                (kept_there s (level arm.form) rest (homes arm.form).locals (leveled.locals arm.form) (tabled.locals arm.form)))
+                (kept_there s (level arm.form) rest (homes arm.form).locals (leveled.locals arm.form)
+                (tabled.locals arm.form)))
                 (fine_seq s (RowsInside s) in_env _ _ (
                   fine_par s (RowsInside s) in_env _ _
                       (clears_good in_env _ rest (homes arm.form).locals whole (roomy.locals arm.form)),
@@ -196,14 +198,16 @@ module _ (s : Setting) (most : Bounds) (bounds : AreBounds most) (last : ℕ) (i
                       here = goes.0.here;
                     })
                         (callee_sees s roomy.sizes in_env.turns c outer
-                        (subst (λ (t : List ℕ). Sees s t outer c) (sym (turns lower c.child)) seen) (bodies arm.form).arrays
+                        (subst (λ (t : List ℕ). Sees s t outer c) (sym (turns lower c.child)) seen)
+                        (bodies arm.form).arrays
                         (length (homes arm.form).params) ms (homes arm.form).locals each whole (roomy.locals arm.form)),
                     tt,
                   ),
                 )),
             (
               fine_par s (RowsInside s) in_env (new ++ bs) _
-                  (moves_good in_env (new ++ bs) _ (λ m x i. back_good s roomy.sizes eight_fits in_env (new ++ bs) x m i) each),
+                  (moves_good in_env (new ++ bs) _
+                  (λ m x i. back_good s roomy.sizes eight_fits in_env (new ++ bs) x m i) each),
               tt,
             ),
           ),
@@ -334,7 +338,8 @@ module _ (s : Setting) (most : Bounds) (bounds : AreBounds most) (last : ℕ) (i
               x.1.is op m k c env inside bs
                   (level_left level at (calls_in x.0) (all_calls (map calls_in (begun xs))) deep) asked.0 l short
                   (rows_left outer (reached_in x.0) (joined_rows (map reached_in (begun xs))) fitting)
-                  (narrow s last is_at env at c inside _ (built x.0).same k (or_left (built x.0).same more_same) h) seen,
+                  (narrow s last is_at env at c inside _ (built x.0).same k (or_left (built x.0).same more_same) h)
+                  seen,
               all_good xs op m k c env inside bs
                   (level_right level at (calls_in x.0) (all_calls (map calls_in (begun xs))) deep) asked.1 l short
                   (rows_right outer (reached_in x.0) (joined_rows (map reached_in (begun xs))) fitting)
