@@ -66,6 +66,9 @@ pub fn pick_at(alloc: Global, table: Numbers, c: &Context) -> Result<Num, AllocE
 pub fn count_num(alloc: Global, counts: &[u32], c: &Context) -> Result<Num, AllocError>
     ensures { IfOk result (λ n. n ≡ terms.count_num counts.now c.now) }
 {
+    if counts.is_empty() {
+        return Ok(Num::Const(0));
+    }
     let table = count_table(alloc, counts)?;
     pick_at(alloc, table, c)
 }

@@ -18,7 +18,7 @@ use Rattle.sq_homes.specs.Numbering.{standing, form_homes, home_of, local_base, 
 use Rattle.sq_homes.specs.Drafts.{homes_from, homes_of, buffers_of, bodies_of, choice_in, instance_at, rule_by}
 use Rattle.sq_homes.specs.Drafts.{buffer_at}
 use Rattle.sq_homes.proofs.Numbered.{homes_are_own, locals_are_own}
-use Rattle.sq_homes_laws.specs.Given.{FormStands, level_at, HomesAreLeveled}
+use Rattle.sq_homes_laws.specs.Given.{FormStands, level_at, ProgramsDescend, HomesAreLeveled}
 use Rattle.sq_homes_laws.proofs.Standing.{forms_stand, map_length}
 
 get_map : {A B : Type 0} (f : A → B) (g : B → ℕ) (d n : ℕ) (xs : List A) (i : ℕ) → i < length xs
@@ -116,9 +116,9 @@ module _ (r : Resolved) (choices : List Choice) (s : Setting)
   locals_of k None h = subst (λ (x : Homes). LocalsOf s (level_at r k) x.locals) (sym (no_form k h)) tt
   locals_of k (Some b) h = locals_are k b (forms_stand r choices k b h)
 
-pub homes_are_leveled : HomesAreLeveled
-homes_are_leveled r choices s levels calls = record {
+pub homes_are_leveled : ProgramsDescend → HomesAreLeveled
+homes_are_leveled descend r choices s levels = record {
   params = λ k. params_of r choices s levels k (slice_get (bodies_of r) k) refl;
   locals = λ k. locals_of r choices s levels k (slice_get (bodies_of r) k) refl;
-  calls = calls.each;
+  calls = (descend r).each;
 }

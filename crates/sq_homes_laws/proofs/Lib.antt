@@ -1,3 +1,4 @@
 pub mod Standing
 pub mod Leveled
 pub mod Programs
+pub mod Descending

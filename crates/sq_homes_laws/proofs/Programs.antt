@@ -48,7 +48,8 @@ pub bodies_are_tables : AsManyForms → BodiesAreTables
 bodies_are_tables law r k = by (cases_lt k (length r.forms))
   where
     by : (k < length r.forms) ⊎ (length r.forms ≤ k) → body_in (bodies_of r) k ≡ of_program r k
-    by (inl less) = inside (of_program r) no_body 0 (length r.forms) k less
+    by (inl less) = let e : 0 + k ≡ k = omega arith in inside (of_program r) no_body 0 (length r.forms) k less
+        ∙ ap (of_program r) e
     by (inr least) =
         let many = as_many r law in
         outside (of_program r) no_body 0 (length r.forms) k least

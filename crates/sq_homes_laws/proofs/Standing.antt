@@ -17,8 +17,9 @@ get_left (x ∷ xs) ys zero h = refl
 get_left (x ∷ xs) ys (suc i) h = get_left xs ys i (omega (arith, h))
 
 pub get_right : {A : Type 0} (xs ys : List A) (i : ℕ) → slice_get (xs ++ ys) (length xs + i) ≡ slice_get ys i
-get_right [] ys i = refl
-get_right (x ∷ xs) ys i = get_right xs ys i
+get_right [] ys i = let e : 0 + i ≡ i = omega arith in ap (slice_get ys) e
+get_right (x ∷ xs) ys i = let e : suc (length xs) + i ≡ suc (length xs + i)
+    = omega arith in ap (slice_get (x ∷ (xs ++ ys))) e ∙ get_right xs ys i
 
 pub map_length : {A B : Type 0} (f : A → B) (xs : List A) → length (map f xs) ≡ length xs
 map_length f [] = refl
@@ -54,7 +55,9 @@ module _ (r : Resolved) (choices : List Choice) where
     buffers = λ i h.
         let s = standing b (choice_in choices k) in
         let l = map_length (buffer_at r k b) s in
-        get_left (map (buffer_at r k b) s) (buffers_from r choices (suc k) bs) i (omega (arith, h, l));
+        let e : 0 + i ≡ i = omega arith in
+        ap (slice_get (map (buffer_at r k b) s ++ buffers_from r choices (suc k) bs)) e
+        ∙ get_left (map (buffer_at r k b) s) (buffers_from r choices (suc k) bs) i (omega (arith, h, l));
   }
 
   stands : (k base code : ℕ) (bs : List FormBody) (f : ℕ) (b : FormBody) → slice_get bs f ≡ Some b

@@ -33,8 +33,11 @@ level_at r k = level_by (slice_get r.forms k)
 pub record CallsDescend (r : Resolved) : Type 0 where
   pub each : (k : ℕ) → AreLevel (level_at r) (level_at r k) (calls_of (body_in (bodies_of r) k).body)
 
+abbrev pub ProgramsDescend : Type 0
+ProgramsDescend = (r : Resolved) → CallsDescend r
+
 -- The buffers of each form have its level.
 abbrev pub HomesAreLeveled : Type 0
 HomesAreLeveled = (r : Resolved) (choices : List Choice) (s : Setting)
-    → ((b : ℕ) → s.level b ≡ of_buffer (buffers_of r choices) (λ x. x.level) b) → CallsDescend r
+    → ((b : ℕ) → s.level b ≡ of_buffer (buffers_of r choices) (λ x. x.level) b)
     → AreLeveled s (body_in (bodies_of r)) (homes_in (homes_of r choices)) (level_at r)

@@ -1,6 +1,6 @@
 //! What is true of the homes and buffers of drafts.
 
-ghost use Rattle.sq_homes_laws.specs.Given.{FormsStand, HomesAreLeveled};
+ghost use Rattle.sq_homes_laws.specs.Given.{FormsStand, ProgramsDescend, HomesAreLeveled};
 ghost use Rattle.sq_homes_laws.specs.Programs.{BodiesAreTables, PlacedIsProgram, TermIsEntrys};
 
 use sq_form_laws::laws::forms_are_those_found;
@@ -11,10 +11,19 @@ pub fn forms_have_their_buffers()
     ensures { FormsStand }
 {}
 
-/// Each buffer has the level of its form.
+/// The calls of each form go to its own level or the next one, as they say.
+pub fn calls_descend()
+    ensures { ProgramsDescend }
+{
+    forms_are_those_found();
+}
+
+/// Each buffer has the level of its form, and so have its calls.
 pub fn buffers_have_their_levels()
     ensures { HomesAreLeveled }
-{}
+{
+    calls_descend();
+}
 
 /// The bodies that a draft is made of are those of the program's forms.
 pub fn bodies_are_tables()

@@ -1,6 +1,6 @@
 //! From a resolved program to a draft in which every argument has a buffer.
 #![tactic(auto)]
 
-mod lower;
+mod lowering;
 
-pub use lower::lower;
+pub use lowering::lower;

@@ -44,10 +44,10 @@ use Rattle.sq_nests.specs.Under.{IsForest}
 use Rattle.sq_nests.specs.Drafts.{Nothing}
 use Rattle.sq_nests.proofs.Machines.{some-there, root-there, layered}
 use Rattle.sq_rooms.specs.Orders.{EachOf}
-use Rattle.sq_rooms.specs.Begins.{Asks, each_asks, begins_step, Begins, Fits}
+use Rattle.sq_rooms.specs.Begins.{Asks, HasCount, each_asks, begins_step, Begins, Fits}
 use Rattle.sq_rooms.specs.Fitting.{statements, AreFit}
 use Rattle.sq_rooms.specs.Lowered.{TablesHaveNumbers}
-use Rattle.sq_rooms.proofs.Sure.{sure_const, sure_lift, sure_turn, sure_sum, sure_pick}
+use Rattle.sq_rooms.proofs.Sure.{sure_const, sure_lift, sure_turn, sure_sum, sure_pick, sure_times}
 use Rattle.sq_rooms.proofs.HaveNumbers.{less, nothing_fits, Ok, skip_ok, act_ok, seq_ok, within_ok, IsSafe, child_safe}
 use Rattle.sq_rooms.proofs.HaveNumbers.{map_ok, arm_ok, call_ok}
 use Rattle.sq_rooms.proofs.Lowered.{far, far_there, far_forest, have_children}
@@ -63,9 +63,9 @@ natural : (X : Type 0) (v : X → Statement) (k : Statement → Asks) (x : State
     ≡ begins_step Statement (λ y. y) k (map-Statement X Statement v x)
 natural X v k (Statement-F.Call lower times) = refl
 natural X v k (Statement-F.Map place m counts starts xs) =
-    ap (λ (f : Asks). λ j. (j < length counts) × (j < length starts) × Fits (get_or counts j 0 * 64)
-    × Fits (get_or starts j 0) × ((t : ℕ) → t < get_or counts j 0 → Fits (get_or starts j 0 + t) × f
-    (get_or starts j 0 + t))) (each_same v k xs)
+    ap (λ (f : Asks). λ j. HasCount counts j × Fits (get_or counts j 0 * 64) × Fits (get_or starts j 0)
+    × ((t : ℕ) → t < get_or counts j 0 → (j < length starts) × Fits (get_or starts j 0 + t)
+    × f (get_or starts j 0 + t))) (each_same v k xs)
 
 begins_roll : (d : Statement-F Statement) → Begins (roll-Statement d) ≡ begins_step Statement (λ y. y) Begins d
 begins_roll d = rec-roll-Statement Asks begins_step natural d
@@ -189,8 +189,8 @@ module _ (s : Setting) (depth : ℕ → ℕ) (forest : IsForest s depth) (levels
           let count = count_num counts c in
           let total = get_or counts k 0 in
           let inner = in_map spread count starts c in
-          let counted = sure_pick s env.turns counts c.ordinal k h.ordinal a.0
-          (less total (total * 64) (omega arith) a.2) in
+          let counted = sure_times s env.turns counts c k h.ordinal a.0
+          (less total (total * 64) (omega arith) a.1) in
           let is_deep : is_some spread ≡ true → suc at < levels
           = (λ e. deep (sym (lowers xs) ∙ spread_lower rule (is_beside m) inside (any_lower parts) (any_same parts)
           e)) in
@@ -205,12 +205,12 @@ module _ (s : Setting) (depth : ℕ → ℕ) (forest : IsForest s depth) (levels
           (λ t l. seq_ok s depth forest levels some few (all_terms parts (op_of m) (inside || is_some spread) inner)
           (at_turn env t) bs
           (all_ok xs (op_of m) (inside || is_some spread) inner (get_or starts k 0 + t) (at_turn env t) bs deep to
-          (a.4 t l).1
+          (a.3 t l).2
           (child_safe s depth forest levels some few spread env at c k total t count (get_or starts k 0 + t) h counted
-          a.2 l is_deep starts
+          a.1 l is_deep starts
           (sure_sum s (t ∷ env.turns) (n.Pick (numbers starts) (lift 1 c.ordinal)) (n.Index 0) (get_or starts k 0) t
-          (sure_pick s (t ∷ env.turns) starts (lift 1 c.ordinal) k (sure_lift s env.turns c.ordinal k t h.ordinal) a.1
-          a.3) (sure_turn s env.turns t (less t (total * 64) (omega (arith, l)) a.2)) (a.4 t l).0)))));
+          (sure_pick s (t ∷ env.turns) starts (lift 1 c.ordinal) k (sure_lift s env.turns c.ordinal k t h.ordinal)
+          (a.3 t l).0 a.2) (sure_turn s env.turns t (less t (total * 64) (omega (arith, l)) a.1)) (a.3 t l).1)))));
     }
 
     good_step : (y : Statement-F G) → Good (roll-Statement (map-Statement G Statement (λ p. p.0) y))

@@ -1,7 +1,7 @@
 -- Numbers that have their values in 64 bits, under any node in force.
 use Rattle.std.proofs.Common.{◌≡◌, ℕ, suc, ◌+◌, ◌<◌, pos, ◌+ℤ◌, ◌-ℤ◌, ◌*ℤ◌, List, ◌∷◌, length, get_or, sym, ap₂, subst}
-use Rattle.std.proofs.Common.{◌∙◌, arith}
-use Rattle.std.specs.Prelude.{◌≢◌, ◌≤ℤ◌, int_div}
+use Rattle.std.proofs.Common.{refl, ◌∙◌, arith, inl, inr}
+use Rattle.std.specs.Prelude.{◌≢◌, ◌≤ℤ◌, int_div, Bool, true, false, if◌then◌else◌, ◌==◌}
 use Rattle.std.proofs.lemmas.Int.{ints}
 use Rattle.std.proofs.lemmas.List.{length-map}
 use Rattle.sq_num.specs.declared.Elem.TheVariants.{Long}
@@ -18,10 +18,11 @@ use Rattle.sq_ir.proofs.LiftEquations.{lift_min, lift_pick, lift_children}
 use Rattle.sq_ir.proofs.LiftOnce.{lift_one}
 use Rattle.sq_ir.proofs.Counting.{has_const, has_index, has_add, has_sub, has_mul, has_div, has_rem, has_min, has_pick}
 use Rattle.sq_ir.proofs.Counting.{has_children}
-use Rattle.sq_term.specs.Terms.{numbers}
+use Rattle.sq_term.specs.declared.context.Context.{Context}
+use Rattle.sq_term.specs.Terms.{numbers, count_num}
 use Rattle.sq_term.specs.Stands.{IsNumber}
-use Rattle.sq_rooms.specs.Begins.{Fits}
-use Rattle.sq_term.proofs.Numbers.{numbers_are, constant, turn, sum, picked, lifted_is}
+use Rattle.sq_rooms.specs.Begins.{Fits, HasCount}
+use Rattle.sq_term.proofs.Numbers.{numbers_are, none_counted, constant, turn, sum, picked, lifted_is}
 
 -- ---- one loop more
 
@@ -156,6 +157,18 @@ sure_pick s turns ns a x h l f = record {
         subst (IsValue Long) (sym (numbers_are ns x)) f,
       );
 }
+
+-- how many iterations a map has
+pub sure_times : (s : Setting) (turns counts : List ℕ) (c : Context) (k : ℕ) → IsSure s turns c.ordinal k
+    → HasCount counts k → Fits (get_or counts k 0) → IsSure s turns (count_num counts c) (get_or counts k 0)
+sure_times s turns counts c k h there f = go (length counts == 0) refl there
+  where
+    go : (b : Bool) → (length counts == 0) ≡ b → HasCount counts k
+        → IsSure s turns (if b then n.Const (pos 0) else n.Pick (numbers counts) c.ordinal) (get_or counts k 0)
+    go true e x = let z = none_counted counts k e in
+        subst (λ x. IsSure s turns (n.Const (pos 0)) x) (sym z) (sure_const s turns 0 (subst Fits z f))
+    go false e (inl x) = let z : true ≡ false = sym x ∙ e in absurd (cc z)
+    go false e (inr x) = sure_pick s turns counts c.ordinal k h x f
 
 -- it is a count
 pub sure_count : (s : Setting) (env : Env) (x : Num) (k : ℕ) → HasValue s x env → value_of s x env ≡ pos k

@@ -1,7 +1,8 @@
 -- Values of numbers that are built of others.
 use Rattle.std.proofs.Common.{◌≡◌, ℕ, zero, suc, ◌+◌, ◌*◌, ◌/◌, ◌%◌, ℤ, pos, ◌+ℤ◌, ◌*ℤ◌, List, [], ◌∷◌, get_or, refl}
-use Rattle.std.proofs.Common.{ap, ap₂, ◌∙◌}
-use Rattle.std.specs.Prelude.{int_div, int_rem, nat_abs}
+use Rattle.std.proofs.Common.{sym, ap, ap₂, ◌∙◌, arith}
+use Rattle.std.specs.Prelude.{int_div, int_rem, nat_abs, Bool, true, false, if◌then◌else◌, ◌==◌, length}
+use Rattle.std.proofs.lemmas.Bool.Decides.{nat_tests}
 use Rattle.std.proofs.Math.IntN.{pos-*ℤ-pos}
 use Rattle.sq_ir.specs.Written.{Setting, Env, value_of, node_of}
 use Rattle.sq_ir.specs.Lifting.{lift}
@@ -10,7 +11,8 @@ use Rattle.sq_ir.specs.declared.num.Num.TheVariants as n
 use Rattle.sq_ir.proofs.Equations.{value_const, value_index, value_add, value_mul, value_div, value_rem, value_pick}
 use Rattle.sq_ir.proofs.Equations.{value_children}
 use Rattle.sq_ir.proofs.LiftOnce.{lift_one}
-use Rattle.sq_term.specs.Terms.{numbers}
+use Rattle.sq_term.specs.declared.context.Context.{Context}
+use Rattle.sq_term.specs.Terms.{numbers, count_num}
 use Rattle.sq_term.specs.Stands.{IsNumber}
 
 module _ (s : Setting) (env : Env) where
@@ -52,6 +54,19 @@ numbers_are (n ∷ ns) (suc k) = numbers_are ns k
 pub table_is : (s : Setting) (env : Env) (ns : List ℕ) (a : Num) (x : ℕ) → value_of s a env ≡ pos x
     → value_of s (n.Pick (numbers ns) a) env ≡ pos (get_or ns x 0)
 table_is s env ns a x h = pick_is s env (numbers ns) a x h ∙ numbers_are ns x
+
+pub none_counted : (counts : List ℕ) (k : ℕ) → (length counts == 0) ≡ true → get_or counts k 0 ≡ 0
+none_counted [] k h = refl
+none_counted (x ∷ counts) k h = grind (arith, nat_tests)
+
+pub count_is : (s : Setting) (env : Env) (counts : List ℕ) (c : Context) (k : ℕ) → value_of s c.ordinal env ≡ pos k
+    → value_of s (count_num counts c) env ≡ pos (get_or counts k 0)
+count_is s env counts c k h = go (length counts == 0) refl
+  where
+    go : (b : Bool) → (length counts == 0) ≡ b
+        → value_of s (if b then n.Const (pos 0) else n.Pick (numbers counts) c.ordinal) env ≡ pos (get_or counts k 0)
+    go true e = const_is s env (pos 0) ∙ ap pos (sym (none_counted counts k e))
+    go false e = table_is s env counts c.ordinal k h
 
 -- ---- numbers whatever the node in force
 

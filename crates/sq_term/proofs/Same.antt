@@ -49,7 +49,7 @@ use Rattle.sq_term.specs.Terms.{term_of}
 use Rattle.sq_term.specs.Stands.{Each, none, more, IsNumber, IsSeat, IsSeated, Goes, to_child, entered, Stands, AreOf}
 use Rattle.sq_term.specs.Stands.{LocalsOf, below, calls_in_rows, all_calls, calls_in, calls_in_all, calls_of, AreLevel}
 use Rattle.sq_term.specs.Stands.{AreLeveled}
-use Rattle.sq_term.proofs.Numbers.{const_is, table_is, constant}
+use Rattle.sq_term.proofs.Numbers.{const_is, table_is, count_is, constant}
 use Rattle.sq_term.proofs.Turns.{each_map, each_append, each_equal, each_is, each_weaken}
 use Rattle.sq_term.proofs.Arms.{IsHead, arm_of_row, pick_of, picks_are}
 use Rattle.sq_term.proofs.Calls.{Entered, enters, seat_inside, kept_are, moves_are, buffers_are, inside_is}
@@ -320,7 +320,7 @@ module _ (s : Setting) (bodies : ℕ → FormBody) (homes : ℕ → Homes) (leve
             may = may_be rule m inside (tables.any_lower (map part (begun xs))) (tables.any_same (map part (begun xs)))
 
             counted : value_of s count env ≡ pos (get_or counts k 0)
-            counted = table_is s env counts c.ordinal k (h.ordinal.value env.level env.nodes)
+            counted = count_is s env counts c k (h.ordinal.value env.level env.nodes)
 
         held_same : (place : Place) (m : LoopKind) (counts starts : List ℕ) (xs : List Known) (op : Option RedOp)
             (k : ℕ) (c : Context) (env : Env) (inside : Bool) (node child : ℕ) (seats : List Seat) (path : List ℕ)
@@ -378,7 +378,8 @@ module _ (s : Setting) (bodies : ℕ → FormBody) (homes : ℕ → Homes) (leve
                   (part_map bodies homes laid_out rule place m counts starts (begun xs)));
               chain = subst (λ (o : Option (Chain Num)). SameChain s o
                   (part (b.Map place m counts starts (begun xs))).chain)
-                  (sym (ap (λ (p : TermPart). p.chain) (built_map bodies homes made rule place m counts starts (begun xs))))
+                  (sym (ap (λ (p : TermPart). p.chain)
+                  (built_map bodies homes made rule place m counts starts (begun xs))))
                   (subst (λ (o : Option (Chain ℕ)). SameChain s
                   (chain_of first_num m starts (terms.chains (map built (begun xs)))) o)
                   (sym (ap (λ (p : PlacedPart). p.chain)
@@ -396,7 +397,8 @@ module _ (s : Setting) (bodies : ℕ → FormBody) (homes : ℕ → Homes) (leve
                   ∙ held_same place m counts starts xs op k c env inside node child seats path
                   (subst (AreLevel level at) (calls_map place m counts starts (begun xs)) deep)
                   (subst (λ (z : Bool). Stands s env at c inside z k node child seats path)
-                  (ap (λ (p : PlacedPart). p.same) (part_map bodies homes laid_out rule place m counts starts (begun xs)))
+                  (ap (λ (p : PlacedPart). p.same)
+                  (part_map bodies homes laid_out rule place m counts starts (begun xs)))
                   h)
                   ∙ sym (ap (λ (p : PlacedPart). trees.tree s (p.placed op inside k) node child seats path)
                   (part_map bodies homes laid_out rule place m counts starts (begun xs)));

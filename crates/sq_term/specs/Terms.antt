@@ -1,6 +1,6 @@
 -- The term of a form, with its loops kept, from the tables of forms and the homes of their arrays.
 use Rattle.std.specs.Prelude.{◌≡◌, ℕ, zero, suc, ◌+◌, ◌*◌, ◌==◌, ℤ, pos, Bool, true, false, not, ◌&&◌, ◌||◌, List, []}
-use Rattle.std.specs.Prelude.{◌∷◌, ◌++◌, map, get_or, slice_get, Option, Some, None, is_some, if◌then◌else◌}
+use Rattle.std.specs.Prelude.{◌∷◌, ◌++◌, length, map, get_or, slice_get, Option, Some, None, is_some, if◌then◌else◌}
 use Rattle.std.specs.List.{list_any, list_all}
 use Rattle.sq_num.specs.declared.RedOp.{RedOp}
 use Rattle.sq_num.specs.Elements.{width}
@@ -390,8 +390,9 @@ abbrev pub map_term : Option SpreadRule → Num → Term → Term
 map_term None count x = term.Loop count x
 map_term (Some rule) count x = term.Spread count rule x
 
+-- how many iterations a map has; one that never has any has no counts
 abbrev pub count_num : List ℕ → Context → Num
-count_num counts c = n.Pick (numbers counts) c.ordinal
+count_num counts c = if length counts == 0 then n.Const (pos 0) else n.Pick (numbers counts) c.ordinal
 
 -- a map in the context in which it stands
 abbrev pub loop_term : SpreadRule → LoopKind → (counts starts : List ℕ) → List TermPart → (inside : Bool) → Context

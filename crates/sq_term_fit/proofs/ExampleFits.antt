@@ -1,5 +1,5 @@
 -- Tables and a machine that are as asked: a `mapseq` of two lower calls, at a root with two children.
-use Rattle.std.proofs.Common.{◌≡◌, ℕ, zero, suc, ◌+◌, ◌<◌, true, [], ◌∷◌, ◌≤◌, get_or, sym, subst, arith}
+use Rattle.std.proofs.Common.{◌≡◌, ℕ, zero, suc, ◌+◌, ◌<◌, true, [], ◌∷◌, ◌≤◌, get_or, sym, subst, arith, inr}
 use Rattle.sq_text.specs.declared.place.Place.{Place}
 use Rattle.sq_ir.specs.Written.{Setting}
 use Rattle.sq_spec.specs.declared.statement.LoopKind.TheVariants as loop_kind
@@ -15,13 +15,16 @@ numbered : (k t : ℕ) → k < 1 → t < get_or (2 ∷ []) k 0 → get_or (0 ∷
 numbered zero t l m = omega (arith, m)
 numbered (suc k) t l m = absurd (omega (arith, l))
 
+started : (k t : ℕ) → k < 1 → t < get_or (2 ∷ []) k 0 → k < 1
+started k t l m = l
+
 -- begun once, it begins its call twice
 tabled : (place : Place) (r : CallInstance)
     → Tabled most 1 0 (b.Map place loop_kind.Sequential (2 ∷ []) (0 ∷ []) (b.Call true (r ∷ r ∷ []) ∷ [])) 1
 tabled place r = subst (λ (f : AskedOfStatement). f 1)
     (sym (tabled_map most 1 0 place loop_kind.Sequential (2 ∷ []) (0 ∷ []) (b.Call true (r ∷ r ∷ []) ∷ []))) (
-      omega arith,
-      omega arith,
+      inr (omega arith),
+      started,
       2,
       omega arith,
       numbered,

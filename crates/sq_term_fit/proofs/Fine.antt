@@ -1,8 +1,9 @@
 -- Numbers in 64 bits, and how a term is well formed, by its variants.
 use Rattle.std.proofs.Common.{◌≡◌, ◌≢◌, ℕ, zero, suc, ◌+◌, ◌*◌, ◌/◌, ◌<◌, ◌≤◌, ℤ, pos, ◌≤ℤ◌, ◌+ℤ◌, ◌*ℤ◌, List, [], ◌∷◌}
-use Rattle.std.proofs.Common.{◌++◌, map, length, get_or, slice_get, Option, Some, refl, sym, ap, ap₂, subst, ◌∙◌, arith}
+use Rattle.std.proofs.Common.{◌++◌, map, length, get_or, slice_get, Option, Some, inl, inr, refl, sym, ap, ap₂, subst}
+use Rattle.std.proofs.Common.{◌∙◌, arith}
 use Rattle.std.specs.List.{All}
-use Rattle.std.specs.Prelude.{int_div, nat_abs}
+use Rattle.std.specs.Prelude.{int_div, nat_abs, Bool, true, false, if◌then◌else◌, ◌==◌}
 use Rattle.std.proofs.Math.IntN.{pos-*ℤ-pos}
 use Rattle.std.proofs.lemmas.Int.{ints}
 use Rattle.sq_num.specs.declared.Elem.TheVariants.{Long}
@@ -20,8 +21,9 @@ use Rattle.sq_term_fit.proofs.LiftHas.{lift_has}
 use Rattle.sq_ir.proofs.Counting.{has_const, has_index, has_add, has_mul, has_div, has_rem, has_pick, has_children}
 use Rattle.sq_term_fit.proofs.Meets.{meets_skip, meets_act, meets_seq, meets_par, meets_loop, meets_spread, meets_case}
 use Rattle.sq_term_fit.proofs.Meets.{meets_within}
-use Rattle.sq_term.specs.Terms.{numbers}
-use Rattle.sq_term_fit.specs.Fits.{Has}
+use Rattle.sq_term.specs.declared.context.Context.{Context}
+use Rattle.sq_term.specs.Terms.{numbers, count_num}
+use Rattle.sq_term_fit.specs.Fits.{Has, HaveCounts}
 use Rattle.sq_term.proofs.Numbers.{numbers_are}
 
 -- ---- numbers
@@ -76,6 +78,18 @@ module _ (s : Setting) (env : Env) where
     subst (IsValue Long)
         (sym (numbers_are ns x)) k,
   )
+
+-- how many iterations a map has
+pub counts_has : (s : Setting) (env : Env) (counts : List ℕ) (c : Context) (times k : ℕ)
+    → value_of s c.ordinal env ≡ pos k → HasValue s c.ordinal env → HaveCounts counts times → k < times
+    → IsValue Long (pos (get_or counts k 0)) → HasValue s (count_num counts c) env
+counts_has s env counts c times k v h there l small = go (length counts == 0) refl there
+  where
+    go : (b : Bool) → (length counts == 0) ≡ b → HaveCounts counts times
+        → HasValue s (if b then n.Const (pos 0) else n.Pick (numbers counts) c.ordinal) env
+    go true e x = const_has s env (pos 0) zero_fits
+    go false e (inl x) = let f : true ≡ false = sym x ∙ e in absurd (cc f)
+    go false e (inr x) = pick_has s env counts c.ordinal k v h (omega (arith, l, x)) small
 
 pub turn_has : (s : Setting) (env : Env) (t : ℕ) → IsValue Long (pos t) → HasValue s (n.Index 0) (at_turn env t)
 turn_has s env t h = subst (λ f. f (at_turn env t)) (sym (has_index s 0)) (omega arith, h)

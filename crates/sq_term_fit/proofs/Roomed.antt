@@ -40,15 +40,18 @@ use Rattle.sq_term.specs.Terms.{first_num, chain_times, chain_num, hold_term, bo
 use Rattle.sq_term.specs.Terms.{entry_row, entry_term, entry_views, buffer_or}
 use Rattle.sq_term.specs.Stands.{below, calls_in_rows, all_calls, calls_in, calls_in_all, calls_of, AreLevel}
 use Rattle.sq_term.specs.Stands.{AreLeveled, Each, none, more}
-use Rattle.sq_term_fit.specs.Fits.{Bounds, AreBounds, IsMachine, AskedOfStatement, all_parts, Tabled, TabledBody}
+use Rattle.sq_term_fit.specs.Fits.{Bounds, AreBounds, IsMachine, AskedOfStatement, HaveCounts, all_parts, Tabled}
+use Rattle.sq_term_fit.specs.Fits.{TabledBody}
 use Rattle.sq_term_fit.specs.Fits.{AreTabled, Way, to_child, entered, Fits, NodeAt}
 use Rattle.sq_term.proofs.Numbers.{constant, table_is}
+use Rattle.sq_term.proofs.Numbers as numbers_of
 use Rattle.sq_term.proofs.Arms.{arm_of_row, pick_of, picks_are, IsHead}
 use Rattle.sq_term.proofs.Maps.{MayBe, may_be}
 use Rattle.sq_term.proofs.Holds.{row_level}
 use Rattle.sq_term.proofs.Same.{level_left, level_right, or_left, or_rest}
 use Rattle.sq_term.proofs.Opened.{built_call, built_map, calls_call, calls_map}
-use Rattle.sq_term_fit.proofs.Fine.{zero_fits, const_has, pick_has, fine_skip, fine_act, fine_seq, fine_par, fine_loop}
+use Rattle.sq_term_fit.proofs.Fine.{zero_fits, const_has, pick_has, counts_has, fine_skip, fine_act, fine_seq, fine_par}
+use Rattle.sq_term_fit.proofs.Fine.{fine_loop}
 use Rattle.sq_term_fit.proofs.Fine.{fine_spread, fine_case, fine_within, fine_arm}
 use Rattle.sq_term_fit.proofs.Fitting.{call_there, kept_there, uses_fit, Inside, goes_in, begins, in_turn, narrow}
 use Rattle.sq_placed.specs.declared.home.Home.TheVariants.{InPlace}
@@ -350,7 +353,8 @@ module _ (s : Setting) (most : Bounds) (bounds : AreBounds most) (last : ℕ) (i
         map_good : (m : LoopKind) (counts starts : List ℕ) (xs : List Known) (n k : ℕ) (c : Context) (env : Env)
             (inside : Bool) (bs : List ℕ)
             → AreLevel level at (all_calls (map calls_in (begun xs)))
-            → (n ≤ length counts) × (n ≤ length starts) × (inner : ℕ) × (inner ≤ most.uses)
+            → HaveCounts counts n × ((k t : ℕ) → k < n → t < get_or counts k 0 → k < length starts) × (inner : ℕ)
+            × (inner ≤ most.uses)
             × ((k t : ℕ) → k < n → t < get_or counts k 0 → get_or starts k 0 + t < inner)
             × all_parts Asked (begun xs) inner
             → k < n → RowsFit bodies homes outer (joined_rows (map reached_in (begun xs)))
@@ -374,7 +378,7 @@ module _ (s : Setting) (most : Bounds) (bounds : AreBounds most) (last : ℕ) (i
             times = get_or counts k 0
 
             counted : value_of s count env ≡ pos times
-            counted = table_is s env counts c.ordinal k (h.ordinal.value env.level env.nodes)
+            counted = numbers_of.count_is s env counts c k (h.ordinal.value env.level env.nodes)
 
             -- the last iteration has a number
             short : (z : ℕ) → z ≡ times → z ≤ most.uses
@@ -385,8 +389,8 @@ module _ (s : Setting) (most : Bounds) (bounds : AreBounds most) (last : ℕ) (i
             few = short times refl
 
             has : HasValue s count env
-            has = pick_has s env counts c.ordinal k (h.ordinal.value env.level env.nodes)
-                (h.has.has env.level env.nodes) (let g = asked.0 in omega (arith, l, g))
+            has = counts_has s env counts c n k (h.ordinal.value env.level env.nodes) (h.has.has env.level env.nodes)
+                asked.0 l
                 (uses_fit s most bounds last is_at machine times few)
 
             body_good : (spread : Option SpreadRule) → MayBe spread inside → (t : ℕ) → t < times
@@ -397,7 +401,7 @@ module _ (s : Setting) (most : Bounds) (bounds : AreBounds most) (last : ℕ) (i
                 (all_good xs (op_of m) asked.2 (get_or starts k 0 + t) (in_map spread count starts c) (at_turn env t)
                 (inside || is_some spread) bs deep asked.5 (asked.4 k t l turned) asked.3 fitting
                 (in_turn s most bounds last is_at machine env at c inside same k spread may count times counted few has
-                starts asked.2 t turned asked.3 (asked.4 k t l turned) (let g = asked.1 in omega (arith, l, g)) h)
+                starts asked.2 t turned asked.3 (asked.4 k t l turned) (asked.1 k t l turned) h)
                 (sees_turn s env.turns outer c spread count starts t
                 (uses_fit s most bounds last is_at machine t (let f = few in omega (arith, turned, f))) seen))
 

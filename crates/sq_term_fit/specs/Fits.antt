@@ -1,6 +1,6 @@
 -- What is asked of tables, homes and a machine so that a built term is well formed.
 use Rattle.std.specs.Prelude.{◌≡◌, ℕ, suc, ◌+◌, ◌*◌, ◌<◌, ◌≤◌, pos, Bool, true, false, List, [], ◌∷◌, length, get_or}
-use Rattle.std.specs.Prelude.{Option, Some, None}
+use Rattle.std.specs.Prelude.{◌==◌, ◌⊎◌, Option, Some, None}
 use Rattle.sq_num.specs.declared.Elem.TheVariants.{Long}
 use Rattle.sq_num.specs.Elements.{IsValue}
 use Rattle.sq_rect.specs.Extents.{rows_of}
@@ -54,6 +54,10 @@ abbrev pub all_parts : {X : Type 0} → (X → AskedOfStatement) → List X → 
 all_parts asked [] n = Unit {0}
 all_parts asked (x ∷ xs) n = asked x n × all_parts asked xs n
 
+-- counts have a row for each of so many times, or none where the map never has an iteration
+abbrev pub HaveCounts : List ℕ → (times : ℕ) → Type 0
+HaveCounts counts n = ((length counts == 0) ≡ true) ⊎ (n ≤ length counts)
+
 -- The tables of a statement of a form of this level, that is begun n times: they have a row for each time; lower calls
 -- are made above the last level; and the iterations of a map are numbered below how often its body is begun.
 abbrev pub tabled_step : Bounds → (last level : ℕ) → (X : Type 0) → (X → Statement) → (X → AskedOfStatement)
@@ -61,7 +65,8 @@ abbrev pub tabled_step : Bounds → (last level : ℕ) → (X : Type 0) → (X �
 tabled_step most last level X begun asked (Statement-F.Call lower times) n = (n ≤ length times)
     × (length times ≤ most.uses) × (lower ≡ true → level < last)
 tabled_step most last level X begun asked (Statement-F.Map place m counts starts parts) n =
-    (n ≤ length counts) × (n ≤ length starts) × (inner : ℕ) × (inner ≤ most.uses)
+    HaveCounts counts n × ((k t : ℕ) → k < n → t < get_or counts k 0 → k < length starts) × (inner : ℕ)
+    × (inner ≤ most.uses)
     × ((k t : ℕ) → k < n → t < get_or counts k 0 → get_or starts k 0 + t < inner) × all_parts asked parts inner
 
 abbrev pub Tabled : Bounds → (last level : ℕ) → Statement → AskedOfStatement

@@ -1,5 +1,5 @@
 use Rattle.std.proofs.Common.{◌≡◌, ◌++◌, false, Bool, map, drop}
-use Rattle.sq_lower.proofs.lower.no_flags.Given as goal
+use Rattle.sq_lower.proofs.lowering.no_flags.Given as goal
 
 abbrev pub invariant-loop-_flag : goal.invariant-loop-_flag
 invariant-loop-_flag l = l.out ++ map (λ (flag : Bool). false) (drop l._flag-index l.flags)
