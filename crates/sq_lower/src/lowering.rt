@@ -1,6 +1,6 @@
 //! Lowering.
 
-ghost use Rattle.std.specs.Prelude.{◌≡◌, [], false, map, IfOk};
+ghost use Rattle.std.specs.Prelude.{◌≡◌, [], map, IfOk};
 ghost use Rattle.sq_homes.specs.Drafts.{IsDraftOf};
 ghost use Rattle.sq_lower.specs.Choices as spec;
 
@@ -11,13 +11,20 @@ use sq_spec::Resolved;
 use sqlite_items::Items;
 use std::alloc::{AllocError, Global};
 
+// In a buffer, whether its form has it in place or not.
+fn in_buffer(_in_place: bool) -> bool
+    ensures { result ≡ spec.in_buffer _in_place }
+{
+    false
+}
+
 // As many flags, none of them set.
 fn no_flags(alloc: Global, flags: &[bool]) -> Result<Items<bool>, AllocError>
-    ensures { IfOk result (λ fs. fs ≡ map (λ flag. false) flags.now) }
+    ensures { IfOk result (λ fs. fs ≡ map spec.in_buffer flags.now) }
 {
     let mut out = Items::new(alloc);
-    for _flag in flags {
-        out.push(false)?;
+    for flag in flags {
+        out.push(in_buffer(*flag))?;
     }
     Ok(out)
 }
