@@ -40,8 +40,8 @@ use Rattle.sq_cli.specs.Steps.{IsRefusedWith, ReadsTree, Stopped, WroteOut}
 use Rattle.sq_cli.specs.Evaluating.{HoldsProgram, HoldsMachine, HoldsSources, EndsFlat, IsWritten, IsCutOff, IsStopped, Evaluates}
 use Rattle.sq_cli.specs.Picking.{Extents, AreGiven, IsUnfit, ReadsGiven}
 use Rattle.sq_cli.proofs.Stopping.{Still, phase_stops, stop_ends, memory_stops, is_there}
-use Rattle.sq_cli.proofs.ProgramPhases.{program_stops}
-use Rattle.sq_cli.proofs.SourcePhases.{ReadsSources, AreOnly, begins, one, sources, only, six}
+use Rattle.sq_cli.specs.SharedFiles.{ReadsSources}
+use Rattle.sq_cli.proofs.SourcePhases.{AreOnly, begins, one, sources, only, six}
 use Rattle.sq_cli.proofs.Ending.{done_whole, done_cut}
 use Rattle.sq_cli.proofs.OutTexts.{texts_are}
 
@@ -79,10 +79,6 @@ module _ (p m k d : List ℕ) (old now : Outside) (err : now.err ≡ old.err) (e
   ends (Err end) (inr stop) = stop_ends (eval_of p m k d) old now end (subst (λ (b : BankSeen). Stopped (eval_of p m k d) old.told old.bank b end) (sym bank) (stop.stopped old.bank)) (record { out = stop.out_is; out_faults = stop.faults_is; err = err; err_faults = err_faults })
 
 -- ---- the phases program and types
-
-module _ (p m k d : List ℕ) (told : Option Content) (out : Option (List ℕ)) (faults : ℕ) where
-  pub program_ends : (end : End) → ReadsTree told p (Err end) → Evaluates (eval_of p m k d) told out out faults faults (Err end)
-  program_ends end reads = stops (eval_of p m k d) told out faults end (λ bank. program_stops (eval_of p m k d) p (begins Eval reads_eval p m k (Some d) told) told bank end reads)
 
 pub program_held : (p : List ℕ) (told that : Option Content) (tree typed : Tree) → that ≡ told → typed ≡ tree → ReadsTree told p (Ok tree) → ((f : Fault) → TypeFault tree f → ⊥) → HoldsProgram that p typed
 program_held p told that tree typed same is reads none = subst (λ (t : Tree). HoldsProgram that p t) (sym is) (record { held = λ c at. reads c (sym same ∙ at); faultless = none })

@@ -30,6 +30,9 @@ use Rattle.sq_cli.specs.declared.words.Kind.TheVariants.{Eval}
 use Rattle.sq_cli.specs.declared.trap.Trap.{Trap}
 use Rattle.sq_cli.specs.declared.end.End.{End}
 use Rattle.sq_cli.specs.declared.end.End.TheVariants.{Usage, Absent, FileFault, NotYet, Refused, Trapped, NoMemory, SinkFault}
+use Rattle.sq_cli.specs.declared.status.Status.{Status}
+use Rattle.sq_cli.specs.declared.status.Status.TheVariants.{Done}
+use Rattle.sq_cli.specs.Ends.{FileCauses}
 use Rattle.sq_cli.specs.Words.{eval_of}
 use Rattle.sq_cli.specs.Programs.{IsFirstTypeFault}
 use Rattle.sq_cli.specs.Races.{IsResolved, IsFirstRaceFault}
@@ -37,10 +40,10 @@ use Rattle.sq_cli.specs.Entry.{params_of, start_of}
 use Rattle.sq_cli.specs.Outputs.{stored_texts}
 use Rattle.sq_cli.specs.Meaning.{done, trapped, IsCause}
 use Rattle.sq_cli.specs.Steps.{ReadsTree, WroteOut, Stopped}
+use Rattle.sq_cli.specs.SharedFiles.{StopsSources}
 use Rattle.sq_cli.specs.Evaluating.{ReadsMachine, ReadsMapping, HoldsProgram, HoldsMachine, HoldsSources, EndsFlat, EndsWith, Evaluates}
 use Rattle.sq_cli.specs.Picking.{AreGiven, ReadsGiven}
-use Rattle.sq_cli.proofs.ProgramPhases.{types_stops}
-use Rattle.sq_cli.proofs.SourcePhases.{begins, one, machine_stops, mapping_stops, resolve_stops, race_stops}
+use Rattle.sq_cli.proofs.SourcePhases.{one}
 use Rattle.sq_cli.proofs.Evaluations.{reads_eval, stops, no_memory, data_stops, gives, traps}
 
 ok_same : {A B : Type 0} (x y : A) → ◌≡◌ {A = Result A B} (Ok x) (Ok y) → x ≡ y
@@ -70,47 +73,39 @@ sources_at told p m k tree that hierarchy memories mapped onto trees machines ma
     subst (λ (h : Hierarchy). HoldsSources told p m k tree h onto) (sym machines) (
     subst (λ (x : Mapped). HoldsSources told p m k tree hierarchy x) (sym mappings) held))
 
--- forms that were found of what they are seen to be of
-pub resolved_is : (tree : Tree) (hierarchy : Hierarchy) (mapped : Mapped) (r : Resolved) → r.typed.now ≡ tree → r.machine.now ≡ hierarchy → r.mapping.now ≡ mapped → AreForms tree mapped r.forms r.uses → found_in (resolution tree.tasks mapped) ≡ r.found.entries
+-- and of another spelling of what is told
+pub sources_told : (told that : Option Content) (p m k : List ℕ) (tree : Tree) (hierarchy : Hierarchy) (mapped : Mapped) → that ≡ told
+    → HoldsSources told p m k tree hierarchy mapped → HoldsSources that p m k tree hierarchy mapped
+sources_told told that p m k tree hierarchy mapped same held =
+    subst (λ (t : Option Content). HoldsSources t p m k tree hierarchy mapped) (sym same) held
+
+-- forms of a program, a machine and a mapping are those of what they are seen to be of
+pub resolved_at : (tree : Tree) (hierarchy : Hierarchy) (mapped : Mapped) (r : Resolved) → IsResolved tree hierarchy mapped r
     → IsResolved r.typed.now r.machine.now r.mapping.now r
-resolved_is tree hierarchy mapped r trees machines mappings forms found = record {
+resolved_at tree hierarchy mapped r are = record {
   tree_is = refl;
   machine_is = refl;
   mapping_is = refl;
-  forms = subst (λ (t : Tree). AreForms t r.mapping.now r.forms r.uses) (sym trees) (subst (λ (x : Mapped). AreForms tree x r.forms r.uses) (sym mappings) forms);
-  found = ap (λ (t : Tree). found_in (resolution t.tasks r.mapping.now)) trees ∙ (ap (λ (x : Mapped). found_in (resolution tree.tasks x)) mappings ∙ found);
+  forms = subst (λ (t : Tree). AreForms t r.mapping.now r.forms r.uses) (sym are.tree_is)
+      (subst (λ (x : Mapped). AreForms tree x r.forms r.uses) (sym are.mapping_is) are.forms);
+  found = ap (λ (t : Tree). found_in (resolution t.tasks r.mapping.now)) are.tree_is
+      ∙ (ap (λ (x : Mapped). found_in (resolution tree.tasks x)) are.mapping_is ∙ are.found);
 }
+
+-- what comes behind a call that went well
+pub causes_after : (f g h m n o : ℕ) (status : Status) → FileCauses f g m n Done → FileCauses g h n o status
+    → FileCauses f h m o status
+causes_after f g h m n o status first then_ =
+    let same = first.quiet tt in
+    subst (λ (x : ℕ). FileCauses x h m o status) same.0 (subst (λ (y : ℕ). FileCauses g h y o status) same.1 then_)
 
 -- ---- how a phase ends the command
 
 module _ (p m k d : List ℕ) (told : Option Content) (out : Option (List ℕ)) (faults : ℕ) where
-  pub machine_ends : (tree : Tree) → HoldsProgram told p tree → (end : End) → ReadsMachine told k (Err end) → Evaluates (eval_of p m k d) told out out faults faults (Err end)
-  machine_ends tree program end reads = stops (eval_of p m k d) told out faults end (λ bank. machine_stops Eval reads_eval p m k (Some d) told tree program bank end reads)
-
-  pub mapping_ends : (tree : Tree) (hierarchy : Hierarchy) → HoldsMachine told p k tree hierarchy → (end : End) → ReadsMapping tree hierarchy.levels told m (Err end) → Evaluates (eval_of p m k d) told out out faults faults (Err end)
-  mapping_ends tree hierarchy machine end reads = stops (eval_of p m k d) told out faults end (λ bank. mapping_stops Eval reads_eval p m k (Some d) told tree hierarchy machine bank end reads)
-
-  -- a fault that stops the command, or want of memory
-  with_ends : (Fails : Fault → Type 0) → ((f : Fault) → Fails f → (bank : BankSeen) → Stopped (eval_of p m k d) told bank bank (Refused f)) → (end : End) → EndsWith Fails end → Evaluates (eval_of p m k d) told out out faults faults (Err end)
-  with_ends Fails stopped Usage ends = absurd ends
-  with_ends Fails stopped (Absent name) ends = absurd ends
-  with_ends Fails stopped (FileFault name) ends = absurd ends
-  with_ends Fails stopped (NotYet phase) ends = absurd ends
-  with_ends Fails stopped (Refused f) ends = stops (eval_of p m k d) told out faults (Refused f) (stopped f ends)
-  with_ends Fails stopped (Trapped trap) ends = absurd ends
-  with_ends Fails stopped NoMemory ends = no_memory (eval_of p m k d) told out faults
-  with_ends Fails stopped SinkFault ends = absurd ends
-
-  pub types_ends : (tree : Tree) → ReadsTree told p (Ok tree) → (end : End) → EndsWith (IsFirstTypeFault tree) end → Evaluates (eval_of p m k d) told out out faults faults (Err end)
-  types_ends tree reads end ends = with_ends (IsFirstTypeFault tree) (λ f first bank. types_stops (eval_of p m k d) p (begins Eval reads_eval p m k (Some d) told) told tree reads (Machine ∷ Mapping ∷ Resolve ∷ Race ∷ Input ∷ []) refl bank (Refused f) (λ c at. first)) end ends
-
-  pub resolve_ends : (tree : Tree) (hierarchy : Hierarchy) (mapped : Mapped) → HoldsSources told p m k tree hierarchy mapped → (end : End) → EndsWith (IsFirstMet tree mapped) end → Evaluates (eval_of p m k d) told out out faults faults (Err end)
-  resolve_ends tree hierarchy mapped held end ends = with_ends (IsFirstMet tree mapped) (λ f first bank. resolve_stops Eval reads_eval p m k (Some d) told tree hierarchy mapped held bank f first) end ends
+  pub sources_end : (end : End) → StopsSources told p m k end → Evaluates (eval_of p m k d) told out out faults faults (Err end)
+  sources_end end stopped = stops (eval_of p m k d) told out faults end (λ bank. stopped Eval reads_eval (Some d) bank)
 
   module _ (r : Resolved) (are : IsResolved r.typed.now r.machine.now r.mapping.now r) (held : HoldsSources told p m k r.typed.now r.machine.now r.mapping.now) where
-    pub race_ends : (end : End) → EndsWith (IsFirstRaceFault r) end → Evaluates (eval_of p m k d) told out out faults faults (Err end)
-    race_ends end ends = with_ends (IsFirstRaceFault r) (λ f first bank. race_stops Eval reads_eval p m k (Some d) told r.typed.now r.machine.now r.mapping.now held r are bank f first) end ends
-
     module _ (free : IsFirstRace r None) where
       pub data_ends : (end : End) → ReadsGiven r told d (Err end) → Evaluates (eval_of p m k d) told out out faults faults (Err end)
       data_ends end reads = stops (eval_of p m k d) told out faults end (λ bank. data_stops p m k d told r are held free bank end reads)

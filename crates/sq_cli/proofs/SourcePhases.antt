@@ -17,30 +17,21 @@ use Rattle.sq_race.specs.Race.{variant_by, maps_by, HoldsIn, HoldsAt, IsFirstRac
 use Rattle.sq_small.specs.Bank.{BankSeen}
 use Rattle.sq_cli.specs.declared.words.Kind.{Kind}
 use Rattle.sq_cli.specs.declared.end.End.{End}
-use Rattle.sq_cli.specs.declared.end.End.TheVariants.{Refused}
+use Rattle.sq_cli.specs.declared.end.End.TheVariants.{Usage, Absent, FileFault, NotYet, Refused, Trapped, NoMemory, SinkFault}
 use Rattle.sq_cli.specs.Words.{Command}
 use Rattle.sq_cli.specs.Phases.{phases, Inputs, inputs_of, IsTold}
 use Rattle.sq_cli.specs.Holding.{Holds, HoldsOnly}
-use Rattle.sq_cli.specs.Programs.{IsProgramText}
+use Rattle.sq_cli.specs.Programs.{IsProgramText, IsFirstTypeFault}
 use Rattle.sq_cli.specs.Sources.{IsMachineText, IsFirstMachineFault, IsMappingText, IsFirstMappingFault, Sources}
 use Rattle.sq_cli.specs.Races.{IsResolved, IsFirstRaceFault}
 use Rattle.sq_cli.specs.Small.{Refusal, not_yet, fault}
 use Rattle.sq_cli.specs.Faults.{IsRefusal, IsFault}
 use Rattle.sq_cli.specs.Meaning.{Passed, AllPassed, Reached}
-use Rattle.sq_cli.specs.Steps.{IsRefusedWith, HoldsRight, Stopped}
-use Rattle.sq_cli.specs.Evaluating.{ReadsMachine, ReadsMapping, HoldsProgram, HoldsMachine, HoldsSources}
-use Rattle.sq_cli.proofs.Stopping.{told_of, phase_stops, is_there, no_file_there}
-use Rattle.sq_cli.proofs.ProgramPhases.{BeginsWith, types_passed}
-
--- a command with these phases, whose faults are those of its phases
-pub record ReadsSources (kind : Kind) : Type 0 where
-  pub rest : List Phase
-  pub split : phases kind ≡ Program ∷ Types ∷ Machine ∷ Mapping ∷ Resolve ∷ Race ∷ rest
-  pub to : (phase : Phase) (inputs : Inputs) (refusal : Refusal) → IsRefusal phase inputs refusal → IsFault kind phase inputs refusal
-  pub from : (phase : Phase) (inputs : Inputs) (refusal : Refusal) → IsFault kind phase inputs refusal → IsRefusal phase inputs refusal
-
-abbrev pub command_with : Kind → List ℕ → List ℕ → List ℕ → Option (List ℕ) → Command
-command_with kind p m k i = record { kind = kind; files = record { program = Some p; mapping = Some m; machine = Some k; input = i } }
+use Rattle.sq_cli.specs.Steps.{IsRefusedWith, HoldsRight, ReadsTree, Stopped}
+use Rattle.sq_cli.specs.SharedFiles.{ReadsSources, command_with, StopsSources}
+use Rattle.sq_cli.specs.Evaluating.{EndsWith, ReadsMachine, ReadsMapping, HoldsProgram, HoldsMachine, HoldsSources}
+use Rattle.sq_cli.proofs.Stopping.{told_of, phase_stops, memory_stops, is_there, no_file_there}
+use Rattle.sq_cli.proofs.ProgramPhases.{BeginsWith, program_stops, types_stops, types_passed}
 
 ok_same : {A B : Type 0} (x y : A) → ◌≡◌ {A = Result A B} (Ok x) (Ok y) → x ≡ y
 ok_same x y is = cc
@@ -191,3 +182,52 @@ module _ (kind : Kind) (its : ReadsSources kind) (p m k : List ℕ) (i : Option 
 
         pub six : (c : Content) → told ≡ Some c → AllPassed (command_with kind p m k i) c (Program ∷ Types ∷ Machine ∷ Mapping ∷ Resolve ∷ Race ∷ [])
         six c is = let before = five c is in (before.0, (before.1.0, (before.1.1.0, (before.1.1.1.0, (before.1.1.1.1.0, (race_passed c is, tt))))))
+
+-- ---- whatever a command over these files is to do with them
+
+module _ (p m k : List ℕ) (told : Option Content) where
+  -- a fault that stops it, or want of memory
+  stop_with : (Fails : Fault → Type 0) → ((f : Fault) → Fails f → StopsSources told p m k (Refused f)) → (end : End)
+      → EndsWith Fails end → StopsSources told p m k end
+  stop_with Fails stopped Usage ends = absurd ends
+  stop_with Fails stopped (Absent name) ends = absurd ends
+  stop_with Fails stopped (FileFault name) ends = absurd ends
+  stop_with Fails stopped (NotYet phase) ends = absurd ends
+  stop_with Fails stopped (Refused f) ends = stopped f ends
+  stop_with Fails stopped (Trapped trap) ends = absurd ends
+  stop_with Fails stopped NoMemory ends = λ kind its i bank. memory_stops (command_with kind p m k i) told bank bank refl
+  stop_with Fails stopped SinkFault ends = absurd ends
+
+  pub stops_at_program : (end : End) → ReadsTree told p (Err end) → StopsSources told p m k end
+  stops_at_program end reads kind its i bank =
+      program_stops (command_with kind p m k i) p (begins kind its p m k i told) told bank end reads
+
+  pub stops_at_types : (tree : Tree) → ReadsTree told p (Ok tree) → (end : End) → EndsWith (IsFirstTypeFault tree) end
+      → StopsSources told p m k end
+  stops_at_types tree reads end ends = stop_with (IsFirstTypeFault tree)
+      (λ f first kind its i bank. types_stops (command_with kind p m k i) p (begins kind its p m k i told) told tree reads
+      (Machine ∷ Mapping ∷ Resolve ∷ Race ∷ its.rest) refl bank (Refused f) (λ c at. first)) end ends
+
+  pub stops_at_machine : (tree : Tree) → HoldsProgram told p tree → (end : End) → ReadsMachine told k (Err end)
+      → StopsSources told p m k end
+  stops_at_machine tree program end reads kind its i bank = machine_stops kind its p m k i told tree program bank end reads
+
+  pub stops_at_mapping : (tree : Tree) (hierarchy : Hierarchy) → HoldsMachine told p k tree hierarchy → (end : End)
+      → ReadsMapping tree hierarchy.levels told m (Err end) → StopsSources told p m k end
+  stops_at_mapping tree hierarchy machine end reads kind its i bank =
+      mapping_stops kind its p m k i told tree hierarchy machine bank end reads
+
+  module _ (tree : Tree) (hierarchy : Hierarchy) (mapped : Mapped) (held : HoldsSources told p m k tree hierarchy mapped) where
+    pub stops_at_resolve : (end : End) → EndsWith (IsFirstMet tree mapped) end → StopsSources told p m k end
+    stops_at_resolve end ends = stop_with (IsFirstMet tree mapped)
+        (λ f first kind its i bank. resolve_stops kind its p m k i told tree hierarchy mapped held bank f first) end ends
+
+    pub stops_at_race : (r : Resolved) → IsResolved tree hierarchy mapped r → (end : End) → EndsWith (IsFirstRaceFault r) end
+        → StopsSources told p m k end
+    stops_at_race r are end ends = stop_with (IsFirstRaceFault r)
+        (λ f first kind its i bank. race_stops kind its p m k i told tree hierarchy mapped held r are bank f first) end ends
+
+-- the same of another spelling of what is told
+pub stops_same : (p m k : List ℕ) (told that : Option Content) (end : End) → that ≡ told → StopsSources that p m k end
+    → StopsSources told p m k end
+stops_same p m k told that end same stops = subst (λ (t : Option Content). StopsSources t p m k end) same stops

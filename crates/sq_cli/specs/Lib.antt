@@ -15,6 +15,7 @@ pub mod Placing
 pub mod Programs
 pub mod Races
 pub mod Roots
+pub mod SharedFiles
 pub mod Small
 pub mod Sources
 pub mod Steps

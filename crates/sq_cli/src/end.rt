@@ -1,6 +1,6 @@
 //! Why a command stops before it is done.
 ghost use Rattle.std.specs.Prelude.{◌≡◌, ◌≢◌, ◌≤◌};
-ghost use Rattle.sq_port.specs.Ports.{Rose, Gains, Wrote};
+ghost use Rattle.sq_port.specs.Ports.{Rose, Gains, GainsPrefix, Wrote};
 ghost use Rattle.sq_cli.specs.Texts.{usage_line};
 ghost use Rattle.sq_cli.specs.Ends.{status_of, end_text};
 
@@ -75,7 +75,7 @@ fn put_usage_line<E: Sink>(err: &mut E) -> Result<(), Failed>
 /// What the tool answers where a word is no text: the usage line.
 pub fn put_usage<E: Sink>(err: &mut E) -> Status
     ensures usage { result ≢ Status.SinkFault → (result ≡ Status.Usage) × Gains (E.written err.old) (E.written err.new) usage_line }
-    ensures sink_fault { result ≡ Status.SinkFault → Rose (E.faults err.old) (E.faults err.new) }
+    ensures sink_fault { result ≡ Status.SinkFault → GainsPrefix (E.written err.old) (E.written err.new) usage_line × Rose (E.faults err.old) (E.faults err.new) }
 {
     match put_end(err, &End::Usage) {
         Ok(()) => Status::Usage,
