@@ -16,7 +16,7 @@ use Rattle.sq_spec.specs.declared.statement.CallInstance.{CallInstance}
 use Rattle.sq_spec.specs.declared.statement.Statement.{Statement}
 use Rattle.sq_forms.specs.Steps.{Forms}
 use Rattle.sq_forms.specs.Args.{Names}
-use Rattle.sq_forms.specs.Worlds.{Frame, Callee, callee_of}
+use Rattle.sq_forms.specs.Worlds.{Frame, Callee}
 use Rattle.sq_forms.specs.Stmts.{reduced_by}
 use Rattle.sq_spec.specs.Statements.{starts_from, iteration_points, count_at, has_iterations, rows_if, count_rows}
 use Rattle.sq_spec.specs.Statements.{call_instance, loop_kind_of, StatementTable, all_of, call_table, table_of}
@@ -66,10 +66,10 @@ counted_there (x ∷ counts) (suc k) t lt = let l = counted_there counts k t lt 
 
 -- ---- maps that stand in a statement
 
-nests_call : (c : CallStmt) → nests_of (s.Call c) ≡ []
+pub nests_call : (c : CallStmt) → nests_of (s.Call c) ≡ []
 nests_call c = ap nests_of (sym (s.rolls-Call c)) ∙ fold-roll-Stmt (List Nest) nests_step (Stmt-F.Call c)
 
-nests_map : (p : Place) (k : MapKind) (rs : List Range) (xs : List Stmt)
+pub nests_map : (p : Place) (k : MapKind) (rs : List Range) (xs : List Stmt)
     → nests_of (s.Map p k rs xs) ≡ map (λ n. rs ∷ n) ([] ∷ joined (map nests_of xs))
 nests_map p k rs xs = ap nests_of (sym (s.rolls-Map p k rs xs))
     ∙ fold-roll-Stmt (List Nest) nests_step (Stmt-F.Map p k rs xs)

@@ -2,8 +2,20 @@
 #![tactic(auto)]
 
 ghost use Rattle.sq_begun.specs.Begun.{TablesAreBegun};
+ghost use Rattle.sq_begun.specs.Few.{RunsAreFew};
+ghost use Rattle.sq_begun.specs.Programs.{ProgramsAreTabled};
 
 /// Where an instance serves each call and no map's body is begun too often, the tables are as asked.
 pub fn tables_are_begun()
     ensures { TablesAreBegun }
+{}
+
+/// Where the walk of a form goes through, no map's body is begun more often than an outermost map may have uses.
+pub fn runs_are_few()
+    ensures { RunsAreFew }
+{}
+
+/// Of a program without a fault, under a mapping that was read with it, the tables of all forms are as asked.
+pub fn programs_are_tabled()
+    ensures { ProgramsAreTabled }
 {}
