@@ -1,3 +1,5 @@
 pub mod Begun
 pub mod Few
 pub mod Programs
+pub mod Begins
+pub mod Lower

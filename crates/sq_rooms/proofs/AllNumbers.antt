@@ -63,18 +63,18 @@ natural : (X : Type 0) (v : X → Statement) (k : Statement → Asks) (x : State
     ≡ begins_step Statement (λ y. y) k (map-Statement X Statement v x)
 natural X v k (Statement-F.Call lower times) = refl
 natural X v k (Statement-F.Map place m counts starts xs) =
-    ap (λ (f : Asks). λ j. HasCount counts j × Fits (get_or counts j 0 * 64) × Fits (get_or starts j 0)
+    ap (λ (f : Asks). λ j. HasCount counts j × Fits (get_or counts j 0 * 64)
     × ((t : ℕ) → t < get_or counts j 0 → (j < length starts) × Fits (get_or starts j 0 + t)
     × f (get_or starts j 0 + t))) (each_same v k xs)
 
 begins_roll : (d : Statement-F Statement) → Begins (roll-Statement d) ≡ begins_step Statement (λ y. y) Begins d
 begins_roll d = rec-roll-Statement Asks begins_step natural d
 
-begins_call : (lower : Bool) (times : List CallInstance) → Begins (b.Call lower times)
+pub begins_call : (lower : Bool) (times : List CallInstance) → Begins (b.Call lower times)
     ≡ begins_step Statement (λ y. y) Begins (Statement-F.Call lower times)
 begins_call lower times = ap Begins (sym (b.rolls-Call lower times)) ∙ begins_roll (Statement-F.Call lower times)
 
-begins_map : (place : Place) (m : LoopKind) (counts starts : List ℕ) (parts : List Statement)
+pub begins_map : (place : Place) (m : LoopKind) (counts starts : List ℕ) (parts : List Statement)
     → Begins (b.Map place m counts starts parts)
     ≡ begins_step Statement (λ y. y) Begins (Statement-F.Map place m counts starts parts)
 begins_map place m counts starts parts = ap Begins (sym (b.rolls-Map place m counts starts parts))
@@ -205,12 +205,13 @@ module _ (s : Setting) (depth : ℕ → ℕ) (forest : IsForest s depth) (levels
           (λ t l. seq_ok s depth forest levels some few (all_terms parts (op_of m) (inside || is_some spread) inner)
           (at_turn env t) bs
           (all_ok xs (op_of m) (inside || is_some spread) inner (get_or starts k 0 + t) (at_turn env t) bs deep to
-          (a.3 t l).2
+          (a.2 t l).2
           (child_safe s depth forest levels some few spread env at c k total t count (get_or starts k 0 + t) h counted
           a.1 l is_deep starts
           (sure_sum s (t ∷ env.turns) (n.Pick (numbers starts) (lift 1 c.ordinal)) (n.Index 0) (get_or starts k 0) t
           (sure_pick s (t ∷ env.turns) starts (lift 1 c.ordinal) k (sure_lift s env.turns c.ordinal k t h.ordinal)
-          (a.3 t l).0 a.2) (sure_turn s env.turns t (less t (total * 64) (omega (arith, l)) a.1)) (a.3 t l).1)))));
+          (a.2 t l).0 (less (get_or starts k 0) (get_or starts k 0 + t) (omega arith) (a.2 t l).1))
+          (sure_turn s env.turns t (less t (total * 64) (omega (arith, l)) a.1)) (a.2 t l).1)))));
     }
 
     good_step : (y : Statement-F G) → Good (roll-Statement (map-Statement G Statement (λ p. p.0) y))

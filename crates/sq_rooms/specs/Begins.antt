@@ -26,7 +26,7 @@ each_asks asks (x ∷ xs) k = asks x k × each_asks asks xs k
 abbrev pub begins_step : (X : Type 0) → (X → Statement) → (X → Asks) → Statement-F X → Asks
 begins_step X view asks (Statement-F.Call lower times) k = (k < length times) × Fits (length (arms_of times))
 begins_step X view asks (Statement-F.Map place m counts starts parts) k =
-    HasCount counts k × Fits (get_or counts k 0 * 64) × Fits (get_or starts k 0)
+    HasCount counts k × Fits (get_or counts k 0 * 64)
     × ((t : ℕ) → t < get_or counts k 0 → (k < length starts) × Fits (get_or starts k 0 + t)
     × each_asks asks parts (get_or starts k 0 + t))
 
