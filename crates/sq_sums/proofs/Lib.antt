@@ -16,3 +16,11 @@ pub mod Raising
 pub mod Depths
 pub mod Layouts
 pub mod Gathering
+pub mod SumForms
+pub mod FlowOfForms
+pub mod FlowForms
+pub mod Flowing
+pub mod Events
+pub mod Running
+pub mod Carrying
+pub mod Tolling

@@ -7,3 +7,7 @@ pub mod Sites
 pub mod Routes
 pub mod Sums
 pub mod Laws
+pub mod Totals
+pub mod Tolls
+pub mod Flows
+pub mod Counters

@@ -1,6 +1,9 @@
-//! The greatest sums of buffers whose scopes stand within one another, one for each node.
+//! Sums over a term written out, without writing it out: of buffers whose scopes stand within one another, for each
+//! node; of what events carry over an edge, and of the events of a kind.
 #![tactic(auto)]
 
+mod edges;
+mod flow;
 pub mod laws;
 mod marks;
 mod region;
@@ -8,8 +11,11 @@ mod route;
 mod scale;
 mod stand;
 mod sums;
+mod tally;
+mod toll;
 mod walk;
 
+pub use edges::{event_counts, traffic};
 pub use region::names_no_loop_outside;
 pub use sums::{needs, nested_sums};
 pub use walk::Sums;

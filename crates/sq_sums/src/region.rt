@@ -17,14 +17,14 @@ pub(crate) struct Region {
     pub(crate) routed: bool,
 }
 
-fn greater(a: u64, b: u64) -> u64
+pub(crate) fn greater(a: u64, b: u64) -> u64
     ensures { result ≡ max a b }
 {
     if a < b { b } else { a }
 }
 
 // How many of the loops round it a number may name.
-fn loops_in(number: &Num) -> u64
+pub(crate) fn loops_in(number: &Num) -> u64
     ensures { result ≡ loops_in number.now }
 {
     match number {
@@ -42,7 +42,7 @@ fn loops_in(number: &Num) -> u64
 }
 
 // Whether a number names how many children there are.
-fn names_children(number: &Num) -> bool
+pub(crate) fn names_children(number: &Num) -> bool
     ensures { result ≡ names_children number.now }
 {
     match number {

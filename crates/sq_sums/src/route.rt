@@ -32,6 +32,12 @@ impl<'a> Model for Number<'a> {
 }
 
 impl<'a> Number<'a> {
+    pub(crate) fn new(number: &'a Num) -> Number<'a>
+        ensures { result ≡ number.now }
+    {
+        Number { number }
+    }
+
     pub(crate) fn number(&self) -> &'a Num
         ensures { result.now ≡ self.now }
     {

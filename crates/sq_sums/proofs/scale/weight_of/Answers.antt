@@ -7,7 +7,8 @@ pub loop-i-preserved : goal.loop-i-preserved
 loop-i-preserved c = (
   c.saturating_add-sum.type_inv,
   weighed_more c.args.scale.now.buffers.now c.args.scale.now.once c.args.named.now
-      c.loop-i.i c.loop-i.sum c.saturating_add-sum.result c.weight_at.result _ c.loop-i-test.true refl c.weight_at.ensures
+      c.loop-i.i c.loop-i.sum c.saturating_add-sum.result c.weight_at.result _ c.loop-i-test.true refl
+      c.weight_at.ensures
       c.saturating_add-sum.ensures c.loop-i.invariant.1,
 )
 
