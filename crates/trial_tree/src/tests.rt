@@ -125,15 +125,30 @@ fn number_of(word: &str) -> i64 {
 fn ints(alloc: Global, text: &str) -> Result<Vec<u8>, AllocError> {
     let mut bytes = Vec::new(alloc);
     for word in text.split_whitespace() {
-        bytes.extend_from_slice(&(number_of(word) as u32).to_le_bytes())?;
+        let low = number_of(word).to_le_bytes();
+        bytes.extend_from_slice(&low[..4])?;
     }
     Ok(bytes)
+}
+
+fn pick_of(word: &str) -> u32 {
+    match u32::try_from(number_of(word)) {
+        Ok(pick) => pick,
+        Err(_) => 0,
+    }
+}
+
+fn seed_of(word: &str) -> u64 {
+    match u64::try_from(number_of(word)) {
+        Ok(seed) => seed,
+        Err(_) => 0,
+    }
 }
 
 fn picks_of(alloc: Global, text: &str) -> Result<Picks, AllocError> {
     let mut picks = Vec::new(alloc);
     for word in text.split_whitespace() {
-        picks.push(number_of(word) as u32)?;
+        picks.push(pick_of(word))?;
     }
     Ok(Picks::new(picks))
 }
@@ -188,7 +203,7 @@ fn run_case<B: Bank>(
         None => run_by(alloc, case, bank, &mut GreatestOrder, trace),
         Some((word, rest)) => {
             if word == "seed" {
-                let mut order = SeedOrder::new(number_of(rest) as u64);
+                let mut order = SeedOrder::new(seed_of(rest));
                 return run_by(alloc, case, bank, &mut order, trace);
             }
             let mut order = ListOrder::new(picks_of(alloc, rest)?);
