@@ -1,6 +1,6 @@
 //! Each rule of names broken in each way, by edits of one program.
-use super::*;
-use sq_text::{Arg, Code, Fault, Place};
+use sq_source::read_program;
+use sq_text::{Arg, Code, Fault, Phase, Place, Stop};
 use std::alloc::Global;
 use std::process::Abort;
 
