@@ -1,0 +1,35 @@
+-- Choices in which nothing leaves a loop and no loop overlaps its transfers, and the memories that a draft is placed in.
+use Rattle.std.specs.Prelude.{◌≡◌, ℕ, Bool, true, false, List, [], length, get_or, slice_get, Some}
+use Rattle.sq_machfile.specs.declared.level.Level.{Level}
+use Rattle.sq_forms.specs.declared.form.Form.{Form}
+use Rattle.sq_ir.specs.declared.plan.PlanNode.{PlanNode}
+use Rattle.sq_ir.specs.Machines.{AreNodes}
+use Rattle.sq_ir.specs.Written.{Setting}
+use Rattle.sq_ir.specs.Plans.{placed}
+use Rattle.sq_spec.specs.declared.resolved.Resolved.{Resolved}
+use Rattle.sq_spec.specs.Walked.{IsWalked}
+use Rattle.sq_homes.specs.declared.choice.Choice.{Choice}
+use Rattle.sq_homes.specs.Drafts.{buffers_of, choice_in}
+
+-- what is known of the forms of a program that was resolved
+abbrev pub Walked : Resolved → Type 0
+Walked r = IsWalked r.typed.now r.machine.now.levels r.mapping.now r.found.entries r.forms r.uses
+
+-- One flag for each parameter of the form; in place are only those that the form was found with so.
+pub record IsSimple (f : Form) (c : Choice) : Type 0 where
+  pub flags : length c.in_place ≡ length f.in_place
+  pub in_place : (i : ℕ) → get_or c.in_place i false ≡ true → slice_get f.in_place i ≡ Some true
+  pub leaves : c.leaves ≡ []
+  pub overlaps : c.overlaps ≡ false
+
+pub record AreSimple (r : Resolved) (choices : List Choice) : Type 0 where
+  pub each : (k : ℕ) (f : Form) → slice_get r.forms k ≡ Some f → IsSimple f (choice_in choices k)
+
+-- the memories of a machine of these levels
+pub record AreMemories (levels : List Level) (nodes : List PlanNode) : Type 0 where
+  pub are : AreNodes nodes
+  pub many : are.levels ≡ length levels
+
+-- the buffers of a draft in them, with these offsets
+abbrev pub setting_of : Resolved → List Choice → List PlanNode → (offset : ℕ → ℕ) → Setting
+setting_of r choices nodes offset = placed (buffers_of r choices) nodes offset
