@@ -34,7 +34,7 @@ use Rattle.sq_placed_fit.specs.Rows.{FormsFit, IsFit}
 use Rattle.sq_placed_fit.proofs.Rows.{tables_fit, keeping_more}
 use Rattle.sq_placed_fit.proofs.Facts.{passed, passed_at, passed_there, passed_none, passed_shapes, shape_at}
 use Rattle.sq_placed_fit.proofs.Facts.{kept_shapes, drop_length, kept_at, drop_at}
-use Rattle.sq_plan_entry.specs.Entry.{EntryFacts, entry_shapes, anything, EntriesArePlans}
+use Rattle.sq_plan_entry.specs.Entry.{EntryFacts, entry_shapes, anything, EntriesSit, EntriesArePlans}
 
 -- ---- lists
 
@@ -66,13 +66,9 @@ whole_fits : (ns : List ℕ) → All (λ k. 0 < k) ns → Fits (whole ns) ns
 whole_fits [] h = tt
 whole_fits (n ∷ ns) h = (h 0 0 (omega arith), omega arith, whole_fits ns (λ k d lt. h (suc k) d (omega (arith, lt))))
 
-module _ (s : Setting) (leaves : Leaves Cause) (bodies : ℕ → FormBody) (homes : ℕ → Homes) (mays : ℕ → ℕ → Bool)
+module _ (leaves : Leaves Cause) (bodies : ℕ → FormBody) (homes : ℕ → Homes) (mays : ℕ → ℕ → Bool)
     (fit : FormsFit leaves bodies homes mays)
-    (n : ℕ) (args : List Argument) (facts : EntryFacts bodies homes (mays 0) args) (buffers : List ℕ)
-    (many : length buffers ≡ length args)
-    (race_free : IsRaceFree (plain (entry_placed bodies homes n args)))
-    (stowed : EntryStowed (at_node s 0) (form_at s buffers) (entry_shapes bodies args)
-    (work (codes_of leaves) s.offset (entry_placed bodies homes n args) (entry_shapes bodies args))) where
+    (n : ℕ) (args : List Argument) (facts : EntryFacts bodies homes (mays 0) args) where
   abbrev inner : List Shape
   inner = (bodies 0).arrays
 
@@ -189,11 +185,18 @@ module _ (s : Setting) (leaves : Leaves Cause) (bodies : ℕ → FormBody) (home
       go None f = ap may_by (passed_none None inner [] 0 args i f)
       go (Some a) f = ap may_by (passed_there None inner [] 0 args i a f) ∙ facts.modes i a f e
 
-  is_plan : IsPlan s leaves outer buffers anything (entry_placed bodies homes n args)
-  is_plan = record {
+  all_sit : Sits leaves (entry_placed bodies homes n args) outer
+  all_sit = (sits, subst (λ (l : List Shape). Sits leaves (placed_of bodies homes n 0) l) (sym shapes) body.sits)
+
+  is_plan : (s : Setting) (buffers : List ℕ) → length buffers ≡ length args
+      → IsRaceFree (plain (entry_placed bodies homes n args))
+      → EntryStowed (at_node s 0) (form_at s buffers) outer
+      (work (codes_of leaves) s.offset (entry_placed bodies homes n args) outer)
+      → IsPlan s leaves outer buffers anything (entry_placed bodies homes n args)
+  is_plan s buffers many race_free stowed = record {
     many = many ∙ sym (taken_long (length args) inner (omega (arith, facts.many, facts.locals)));
     dims = λ k sh e. facts.dims k sh (taken_there (length args) inner k sh e);
-    sits = (sits, subst (λ (l : List Shape). Sits leaves (placed_of bodies homes n 0) l) (sym shapes) body.sits);
+    sits = all_sit;
     ready = record {
       fitting = (
         is_plain,
@@ -208,4 +211,7 @@ module _ (s : Setting) (leaves : Leaves Cause) (bodies : ℕ → FormBody) (home
 
 pub entries_are_plans : EntriesArePlans
 entries_are_plans s leaves bodies homes mays fit n args facts buffers many race_free stowed
-    = is_plan s leaves bodies homes mays fit n args facts buffers many race_free stowed
+    = is_plan leaves bodies homes mays fit n args facts s buffers many race_free stowed
+
+pub entries_sit : EntriesSit
+entries_sit leaves bodies homes mays fit n args facts = all_sit leaves bodies homes mays fit n args facts

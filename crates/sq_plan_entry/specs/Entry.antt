@@ -24,7 +24,7 @@ use Rattle.sq_placed_bytes.specs.OnBytes.{work}
 use Rattle.sq_placed_bytes.specs.Fitting.{whole}
 use Rattle.sq_placed_bytes.specs.Entry.{EntryStowed}
 use Rattle.sq_placed_bytes.specs.LeafLaws.{codes_of}
-use Rattle.sq_plan_laws.specs.Seated.{HasDims, at_node}
+use Rattle.sq_plan_laws.specs.Seated.{HasDims, Sits, at_node}
 use Rattle.sq_plan_laws.specs.Entry.{form_at, plan_tree, held_in, EndsSo, IsPlan}
 use Rattle.sq_placed_fit.specs.Rows.{FormsFit}
 
@@ -75,6 +75,13 @@ entry_shapes bodies args = take (length args) (bodies 0).arrays
 
 abbrev pub anything : ℕ → Bool
 anything i = true
+
+-- What is placed of a program's entry sits as its tree needs, where the tables fit.
+abbrev pub EntriesSit : Type 0
+EntriesSit = (leaves : Leaves Cause) (bodies : ℕ → FormBody) (homes : ℕ → Homes) (mays : ℕ → ℕ → Bool)
+    → FormsFit leaves bodies homes mays
+    → (n : ℕ) (args : List Argument) → EntryFacts bodies homes (mays 0) args
+    → Sits leaves (entry_placed bodies homes n args) (entry_shapes bodies args)
 
 -- What is placed of a program's entry is a plan, where the tables fit, no race is in it, and its buffers stand apart.
 abbrev pub EntriesArePlans : Type 0

@@ -1,7 +1,7 @@
 //! The plan of a program's entry, from any bytes, and its leaf calls by the tables of forms.
 #![tactic(auto)]
 
-ghost use Rattle.sq_plan_entry.specs.Entry.{EntriesFollow, EntriesArePlans};
+ghost use Rattle.sq_plan_entry.specs.Entry.{EntriesFollow, EntriesSit, EntriesArePlans};
 ghost use Rattle.sq_plan_entry.specs.LeafCalls.{CallsAreOfTables};
 ghost use Rattle.sq_plan_entry.specs.Written.{PlansAreWritten};
 
@@ -14,6 +14,11 @@ pub fn entries_follow()
 /// What is placed of tables has their leaf calls, each with the code of its form and its path.
 pub fn calls_are_of_tables()
     ensures { CallsAreOfTables }
+{}
+
+/// What is placed of a program's entry sits as its tree needs, where the tables of forms fit.
+pub fn entries_sit()
+    ensures { EntriesSit }
 {}
 
 /// What is placed of a program's entry is a plan, where the tables of forms fit, no race is in it, and its buffers
