@@ -1,0 +1,12 @@
+pub mod Memories
+pub mod EachForm
+pub mod Codes
+pub mod Dimensions
+pub mod FormDims
+pub mod Worth
+pub mod LeafShapes
+pub mod LeavesHold
+pub mod WalkedHolds
+pub mod Loops
+pub mod NestedCalls
+pub mod ShortHold

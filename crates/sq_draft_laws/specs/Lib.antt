@@ -1,0 +1,4 @@
+pub mod Memories
+pub mod Leaves
+pub mod Opened
+pub mod Short

@@ -1,0 +1,11 @@
+pub mod Found
+pub mod Forms
+pub mod Fitting
+pub mod Entry
+pub mod Levels
+pub mod Sizes
+pub mod Tabled
+pub mod Rows
+pub mod Args
+pub mod Buffers
+pub mod Roomy

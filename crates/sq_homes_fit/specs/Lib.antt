@@ -1,0 +1,3 @@
+pub mod Homes
+pub mod Levels
+pub mod Drafts

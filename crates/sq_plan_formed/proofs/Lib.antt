@@ -1,0 +1,10 @@
+pub mod Back
+pub mod Every
+pub mod Rising
+pub mod Moves
+pub mod Scoped
+pub mod Near
+pub mod Paths
+pub mod Places
+pub mod Formed
+pub mod ExampleFormed

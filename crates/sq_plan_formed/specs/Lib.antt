@@ -1,0 +1,3 @@
+pub mod Scope
+pub mod Paths
+pub mod Laws
