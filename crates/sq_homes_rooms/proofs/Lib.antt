@@ -1,0 +1,12 @@
+pub mod Flags
+pub mod Numbers
+pub mod Rounds
+pub mod Callers
+pub mod Numbered
+pub mod Parts
+pub mod Arrays
+pub mod Owned
+pub mod Entry
+pub mod Machines
+pub mod Lanes
+pub mod Placeable

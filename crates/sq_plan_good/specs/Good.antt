@@ -1,0 +1,84 @@
+-- Which plans are good for a program.
+use Rattle.std.specs.Prelude.{◌≡◌, ℕ, true, List, length, slice_get, Some, []}
+use Rattle.sq_rect.specs.Placing.{IsIn}
+use Rattle.sq_ast.specs.Modes.{is_read}
+use Rattle.sq_leaf.specs.declared.shape.Shape.{Shape}
+use Rattle.sq_leaf.specs.Source.{Arrays}
+use Rattle.sq_blocks.specs.declared.argument.Argument.{Argument}
+use Rattle.sq_work.specs.InTurn.{IsRaceFree}
+use Rattle.sq_spec.specs.declared.resolved.Resolved.{Resolved}
+use Rattle.sq_spec.specs.Works.{work_of, flat}
+use Rattle.sq_ir.specs.Runs.{exec}
+use Rattle.sq_ir.specs.Events as events
+use Rattle.sq_ir.specs.Events.{Bytes}
+use Rattle.sq_ir.specs.Plans.{setting_of, tree_of, IsGood}
+use Rattle.sq_ir.specs.DraftLeaves as draft
+use Rattle.sq_ir.specs.declared.plan.Draft.{Draft}
+use Rattle.sq_ir.specs.declared.plan.Plan.{Plan}
+use Rattle.sq_ir.specs.declared.plan.PlanNode.{PlanNode}
+use Rattle.sq_cells.specs.Cells.{spot}
+use Rattle.sq_alike.specs.Alike.{Weight, leaf_count}
+use Rattle.sq_placed_bytes.specs.Codes.{loaded}
+use Rattle.sq_term.specs.Terms.{body_in, homes_in}
+use Rattle.sq_plan_laws.specs.Entry.{held_in, EndsSo}
+use Rattle.sq_plan_entry.specs.Entry.{entry_shapes}
+use Rattle.sq_plan_entry.specs.LeafCalls.{form_calls}
+use Rattle.sq_nests.specs.Drafts.{IsPlaceable}
+use Rattle.sq_store.specs.Place.{IsPlaced}
+use Rattle.sq_homes.specs.declared.choice.Choice.{Choice}
+use Rattle.sq_homes.specs.Drafts.{bodies_of, homes_of, args_of, IsDraftOf}
+use Rattle.sq_homes_laws.specs.Simple.{AreSimple, AreMemories}
+
+-- no two iterations of its maps race
+abbrev pub HasNoRace : Resolved → Type 0
+HasNoRace r = IsRaceFree (work_of r.typed.now.tasks r.mapping.now r.found.entries)
+
+-- the shapes of the entry's parameters
+abbrev pub shapes_in : Resolved → List Shape
+shapes_in r = entry_shapes (body_in (bodies_of r)) (args_of r)
+
+-- ---- how it ends
+
+-- The arrays that the entry reads hold the numbers that stand in their buffers. Of the others nothing is known.
+pub record IsInput (r : Resolved) (p : Plan) (a : Arrays) (m : Bytes) : Type 0 where
+  pub read : (n : ℕ) (x : Argument) (sh : Shape) (cs : List ℕ) → slice_get (args_of r) n ≡ Some x
+      → is_read x.mode ≡ true → slice_get (shapes_in r) n ≡ Some sh → IsIn sh.extents cs
+      → a n cs ≡ loaded sh (λ k. held_in (setting_of p) p.draft.entry m (spot n k)) cs
+
+-- From whatever bytes, the run under picks 0 ends with the arrays that the program means, or with its first trap.
+abbrev pub EndsAsMeant : Resolved → Plan → Type 0
+EndsAsMeant r p = (a : Arrays) (m : Bytes) → IsInput r p a m
+    → EndsSo (setting_of p) (shapes_in r) p.draft.entry (flat r.typed.now r.mapping.now a)
+    (exec (events.meaning (draft.leaves_of p.draft)) (tree_of p) m)
+
+-- ---- its leaf calls
+
+-- It has one leaf event for each leaf call of the program and no other, with the number of the code of the call's form
+-- and with its path.
+abbrev pub HasLeafCalls : Resolved → List Choice → Plan → Type 0
+HasLeafCalls r choices p = (f : Weight) → leaf_count f (tree_of p)
+    ≡ form_calls (body_in (bodies_of r)) (λ form path. f (homes_in (homes_of r choices) form).code path)
+    (length (bodies_of r)) 0 []
+
+-- ---- the whole
+
+-- The plan of a program under these choices, in these memories: it is well formed, its unordered events are
+-- independent, its live buffers have room in each state, and its run ends as the program means.
+pub record IsGoodFor (r : Resolved) (choices : List Choice) (nodes : List PlanNode) (p : Plan) : Type 0 where
+  pub draft_ : IsDraftOf r choices p.draft
+  pub nodes_ : p.nodes ≡ nodes
+  pub good : IsGood (draft.leaves_of p.draft) p
+  pub ends : EndsAsMeant r p
+  pub calls : HasLeafCalls r choices p
+
+-- A draft of a program in which nothing leaves a loop and no loop overlaps its transfers can be placed.
+abbrev pub DraftsCanBePlaced : Type 0
+DraftsCanBePlaced = (r : Resolved) (choices : List Choice) → AreSimple r choices
+    → (d : Draft) → IsDraftOf r choices d → (nodes : List PlanNode) → AreMemories r.machine.now.levels nodes
+    → IsPlaceable d nodes
+
+-- And where the program has no race, a plan of it is good.
+abbrev pub PlacedAreGood : Type 0
+PlacedAreGood = (r : Resolved) → HasNoRace r → (choices : List Choice) → AreSimple r choices
+    → (d : Draft) → IsDraftOf r choices d → (nodes : List PlanNode) → AreMemories r.machine.now.levels nodes
+    → (p : Plan) → IsPlaced d nodes p → IsGoodFor r choices nodes p

@@ -1,0 +1,63 @@
+-- The laws of which the plan of a program's draft is good.
+use Rattle.sq_work.specs.InTurn.{RaceFreeIsSerial}
+use Rattle.sq_spec.specs.Numbered.{TablesMeanProgram, TablesAreRaceFree}
+use Rattle.sq_plan_laws.specs.Entry.{PlansAreSafe}
+use Rattle.sq_plan_laws.specs.LeafCalls.{PlansCount}
+use Rattle.sq_plan_laws.specs.Room.{PlansInside}
+use Rattle.sq_forms_fit.specs.Laws.{ProgramsFit}
+use Rattle.sq_plan_room.specs.Rooms.{RoomIsStowed}
+use Rattle.sq_plan_entry.specs.Entry.{EntriesSit, EntriesArePlans, EntriesFollow}
+use Rattle.sq_plan_entry.specs.LeafCalls.{CallsAreOfTables}
+use Rattle.sq_plan_entry.specs.Written.{PlansAreWritten}
+use Rattle.sq_plan_formed.specs.Laws.{FormsAreNear, PathsAreShort, PlansAreWellFormed}
+use Rattle.sq_store.specs.Laws.{OffsetsAreAsMany}
+use Rattle.sq_homes_laws.specs.Given.{HomesAreLeveled}
+use Rattle.sq_homes_laws.specs.Programs.{BodiesAreTables, PlacedIsProgram, TermIsEntrys}
+use Rattle.sq_homes_fit.specs.Homes.{HomesFitForms, EntriesAreWhole}
+use Rattle.sq_homes_fit.specs.Levels.{DraftsBeginAtRoot}
+use Rattle.sq_homes_fit.specs.Drafts.{DraftsAreTabled, DraftsAreRoomy}
+use Rattle.sq_homes_rooms.specs.Owned.{DraftsOwn}
+use Rattle.sq_homes_rooms.specs.Lanes.{MachinesAreMachines, LanesAreThere}
+use Rattle.sq_homes_rooms.specs.Placeable.{DraftsArePlaceable}
+use Rattle.sq_draft_laws.specs.Leaves.{LeavesOfDraftsStand}
+use Rattle.sq_draft_laws.specs.Opened.{WalkedIsThere}
+use Rattle.sq_draft_laws.specs.Short.{LeavesAreShort}
+
+-- the laws by which a draft can be placed
+pub record Placing : Type 0 where
+  pub walked : WalkedIsThere
+  pub begins : DraftsBeginAtRoot
+  pub tabled : DraftsAreTabled
+  pub placeable : DraftsArePlaceable
+
+-- and those by which its plan is good: of a draft's bodies, homes and leaves, of plans, and of works
+pub record Laws : Type 0 where
+  pub leveled : HomesAreLeveled
+  pub tables : BodiesAreTables
+  pub program : PlacedIsProgram
+  pub term : TermIsEntrys
+  pub homes : HomesFitForms
+  pub entries : EntriesAreWhole
+  pub roomy : DraftsAreRoomy
+  pub own : DraftsOwn
+  pub machines : MachinesAreMachines
+  pub lanes : LanesAreThere
+  pub stand : LeavesOfDraftsStand
+  pub short : LeavesAreShort
+  pub fits : ProgramsFit
+  pub sit : EntriesSit
+  pub plans : EntriesArePlans
+  pub follow : EntriesFollow
+  pub calls : CallsAreOfTables
+  pub writes : PlansAreWritten
+  pub stowed : RoomIsStowed
+  pub safe : PlansAreSafe
+  pub inside : PlansInside
+  pub counted : PlansCount
+  pub near : FormsAreNear
+  pub paths : PathsAreShort
+  pub formed : PlansAreWellFormed
+  pub many : OffsetsAreAsMany
+  pub serial : RaceFreeIsSerial
+  pub means : TablesMeanProgram
+  pub race_free : TablesAreRaceFree

@@ -1,0 +1,76 @@
+//! The plan of a program's draft is good for the program.
+#![tactic(auto)]
+
+ghost use Rattle.sq_plan_good.specs.Good.{DraftsCanBePlaced, PlacedAreGood};
+
+use sq_draft_laws::laws::{
+    leaves_are_short, leaves_of_drafts_stand, resolved_programs_were_walked,
+};
+use sq_forms_fit::programs_fit;
+use sq_homes_fit::{
+    drafts_are_roomy, drafts_are_tabled, drafts_begin_at_root, entries_are_whole, homes_fit_forms,
+};
+use sq_homes_laws::laws::{
+    bodies_are_tables, buffers_have_their_levels, placed_is_program, terms_are_those_of_entries,
+};
+use sq_homes_rooms::{
+    drafts_can_be_placed, drafts_own_their_buffers, lanes_are_there, memories_are_machines,
+};
+use sq_plan_entry::{
+    calls_are_of_tables, entries_are_plans, entries_follow, entries_sit, plans_are_written,
+};
+use sq_plan_formed::{forms_are_near, paths_are_short, plans_are_well_formed};
+use sq_plan_laws::{plans_are_safe, plans_count, plans_inside};
+use sq_plan_room::room_is_stowed;
+use sq_spec::meaning::{tables_are_free_of_races, tables_mean_the_program};
+use sq_store::laws::the_walk_lays_buffers;
+use sq_work::laws::race_free_maps_are_serial;
+
+/// A draft of a program in which nothing leaves a loop and no loop overlaps its transfers can be placed.
+pub fn simple_drafts_can_be_placed()
+    ensures { DraftsCanBePlaced }
+{
+    resolved_programs_were_walked();
+    drafts_begin_at_root();
+    drafts_are_tabled();
+    drafts_can_be_placed();
+}
+
+/// Where the program has no race, the plan of such a draft is good for it.
+pub fn simple_plans_are_good()
+    ensures { PlacedAreGood }
+{
+    resolved_programs_were_walked();
+    drafts_begin_at_root();
+    drafts_are_tabled();
+    drafts_can_be_placed();
+    buffers_have_their_levels();
+    bodies_are_tables();
+    placed_is_program();
+    terms_are_those_of_entries();
+    homes_fit_forms();
+    entries_are_whole();
+    drafts_are_roomy();
+    drafts_own_their_buffers();
+    memories_are_machines();
+    lanes_are_there();
+    leaves_of_drafts_stand();
+    leaves_are_short();
+    programs_fit();
+    entries_sit();
+    entries_are_plans();
+    entries_follow();
+    calls_are_of_tables();
+    plans_are_written();
+    room_is_stowed();
+    plans_are_safe();
+    plans_inside();
+    plans_count();
+    forms_are_near();
+    paths_are_short();
+    plans_are_well_formed();
+    the_walk_lays_buffers();
+    race_free_maps_are_serial();
+    tables_mean_the_program();
+    tables_are_free_of_races();
+}
