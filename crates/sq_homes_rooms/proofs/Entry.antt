@@ -1,19 +1,12 @@
 -- The entry's arrays have buffers of their own.
 use Rattle.std.proofs.Common.{◌≡◌, ◌⊎◌, inl, inr, ℕ, zero, suc, ◌+◌, ◌≤◌, Bool, true, false, List, [], ◌∷◌, map}
-use Rattle.std.proofs.Common.{length, take, slice_get, get_or, Option, Some, None, Ok, Err, refl, sym, ap, subst, ◌∙◌}
-use Rattle.std.proofs.Common.{arith, length-append}
-use Rattle.sq_ast.specs.declared.program.Param.{Param}
-use Rattle.sq_mapfile.specs.declared.mapping.SizeSet.{SizeSet}
+use Rattle.std.proofs.Common.{length, take, slice_get, get_or, Option, Some, None, refl, sym, ap, subst, ◌∙◌}
+use Rattle.std.proofs.Common.{arith}
 use Rattle.sq_leaf.specs.declared.shape.Shape.{Shape}
 use Rattle.sq_ir.specs.declared.plan.PlanNode.{PlanNode}
-use Rattle.sq_forms.specs.Faults.{Value, and_then}
-use Rattle.sq_forms.specs.Resolving.{entry_params, entry_extents, param_dims, before, none_in_place, entry_form}
-use Rattle.sq_forms.specs.Resolving.{with_locals}
 use Rattle.sq_form_laws.proofs.AllHold.{within_list}
 use Rattle.sq_spec.specs.declared.body.FormBody.{FormBody}
 use Rattle.sq_spec.specs.declared.resolved.Resolved.{Resolved}
-use Rattle.sq_spec.specs.Entry.{EntryIsFirst}
-use Rattle.sq_spec.specs.Works.{param_shapes, local_shapes, entry_arguments, shapes_of as form_shapes}
 use Rattle.sq_placed.specs.declared.home.Home.{Home}
 use Rattle.sq_placed.specs.declared.home.Home.TheVariants.{InPlace}
 use Rattle.sq_placed.specs.declared.home.Homes.{Homes}
@@ -25,16 +18,16 @@ use Rattle.sq_plan_room.specs.Buffers.{home_buffer, HasBuffer, Names, IsSimple, 
 use Rattle.sq_plan_room.specs.Rooms.{EntryOwns}
 use Rattle.sq_plan_entry.specs.Entry.{entry_shapes}
 use Rattle.sq_homes.specs.declared.choice.Choice.{Choice}
-use Rattle.sq_homes.specs.Drafts.{bodies_of, args_of, entry_of, extents_by}
+use Rattle.sq_homes.specs.Drafts.{bodies_of, args_of, entry_of}
 use Rattle.sq_homes_laws.specs.Simple.{Walked, AreSimple, setting_of}
-use Rattle.sq_homes_laws.proofs.Programs.{bodies_are_tables}
 use Rattle.sq_homes_laws.proofs.Standing.{map_length}
-use Rattle.sq_form_laws.proofs.RanHold.{as_many_forms}
+use Rattle.sq_homes_fit.specs.Homes.{HasOwn}
+use Rattle.sq_homes_fit.proofs.Entry.{entry, form, entries_are_whole, entries_have_buffers}
+use Rattle.sq_homes_fit.proofs.Forms.{body_at, body_there}
 use Rattle.sq_homes_rooms.specs.Owned.{draft_placed, DraftsOwn}
 use Rattle.sq_homes_rooms.proofs.Flags.{homes_by}
 use Rattle.sq_homes_rooms.proofs.Numbers.{first_of, form_from}
-use Rattle.sq_homes_rooms.proofs.Callers.{runs_at, body_is}
-use Rattle.sq_homes_rooms.proofs.Numbered.{an_item, at_index, bodies, homes, flags, bodies_many, IsForm, is_form}
+use Rattle.sq_homes_rooms.proofs.Numbered.{an_item, bodies, homes, flags, IsForm, is_form}
 use Rattle.sq_homes_rooms.proofs.Arrays.{Split, front, behind, split, mapped_at, map_there, args_many, arg_at}
 use Rattle.sq_homes_rooms.proofs.Arrays.{HasNumber, params_many, param_number, local_number, same_array, form_is}
 use Rattle.sq_homes_rooms.proofs.Arrays.{fits, local_shape}
@@ -54,39 +47,14 @@ take_many zero xs h = refl
 take_many (suc n) [] h = absurd (omega (arith, h))
 take_many (suc n) (x ∷ xs) h = ap suc (take_many n xs (omega (arith, h)))
 
--- ---- its arguments and parameters
+-- ---- homes by flags
 
-arguments_many : (ps : List Param) (i : ℕ) (extents : List (List ℕ)) → length (entry_arguments ps i extents)
-    ≡ length ps
-arguments_many [] i extents = refl
-arguments_many (p ∷ ps) i extents = ap suc (arguments_many ps (i + 1) extents)
-
-shapes_many : (ps : List Param) (i : ℕ) (extents : List (List ℕ)) → length (param_shapes ps i extents) ≡ length ps
-shapes_many [] i extents = refl
-shapes_many (p ∷ ps) i extents = ap suc (shapes_many ps (i + 1) extents)
-
-one_before : (dims : Value (List ℕ)) (rest : Value (List (List ℕ))) (n : ℕ) (extents : List (List ℕ))
-    → ((es : List (List ℕ)) → rest ≡ Ok es → length es ≡ n)
-    → and_then dims (λ d. before d rest) ≡ Ok extents → length extents ≡ suc n
-one_before (Err f) rest n extents h e = absurd (cc e)
-one_before (Ok d) (Err f) n extents h e = absurd (cc e)
-one_before (Ok d) (Ok es) n extents h e = let is : d ∷ es ≡ extents = cc e in sym (ap length is) ∙ ap suc (h es refl)
-
-extents_many : (sizes : List SizeSet) (ps : List Param) (extents : List (List ℕ)) → entry_extents sizes ps ≡ Ok extents
-    → length extents ≡ length ps
-extents_many sizes [] extents h = let is : [] ≡ extents = cc h in sym (ap length is)
-extents_many sizes (p ∷ ps) extents h =
-    one_before (param_dims sizes p) (entry_extents sizes ps) (length ps) extents
-    (λ es e. extents_many sizes ps es e) h
-
-none_true : (extents : List (List ℕ)) (i : ℕ) → slice_get (none_in_place extents) i ≡ Some true → ⊥
-none_true [] i h = cc h
-none_true (e ∷ es) zero h = cc h
-none_true (e ∷ es) (suc i) h = none_true es i h
-
-flag_false : (t : Bool) → (t ≡ true → ⊥) → t ≡ false
-flag_false true h = absurd (h refl)
-flag_false false h = refl
+own_flags : (n : ℕ) (fs : List Bool) → ((i : ℕ) (h : Home) → slice_get (homes_by n fs) i ≡ Some h → HasOwn h) → (i : ℕ)
+    → get_or fs i false ≡ false
+own_flags n [] own i = refl
+own_flags n (true ∷ fs) own i = absurd (let e = (own 0 InPlace refl).is in cc e)
+own_flags n (false ∷ fs) own zero = refl
+own_flags n (false ∷ fs) own (suc i) = own_flags (suc n) fs (λ j h e. own (suc j) h e) i
 
 -- none is in place
 own_home : (n : ℕ) (fs : List Bool) → ((i : ℕ) → get_or fs i false ≡ false) → (i b : ℕ)
@@ -97,8 +65,7 @@ own_home n (true ∷ fs) none i b h = absurd (let z = none 0 in cc z)
 own_home n (false ∷ fs) none zero b h = h
 own_home n (false ∷ fs) none (suc i) b h = own_home (suc n) fs (λ j. none (suc j)) i b h
 
-module _ (first : EntryIsFirst) (r : Resolved) (w : Walked r) (choices : List Choice)
-    (simple : AreSimple r choices) where
+module _ (r : Resolved) (w : Walked r) (choices : List Choice) (simple : AreSimple r choices) where
   abbrev fb : ℕ → FormBody
   fb = bodies r w choices simple
 
@@ -121,35 +88,19 @@ module _ (first : EntryIsFirst) (r : Resolved) (w : Walked r) (choices : List Ch
 
   pub entry_is : EntryIs
   entry_is =
-      let e = first r in
-      let its = runs_at r w 0 ([], entry_form r.mapping.now.entry e.extents) e.found in
-      let form = with_locals (entry_form r.mapping.now.entry e.extents) its.ran.scope.locals in
-      let there : slice_get r.forms 0 ≡ Some form = its.ran.kept in
-      let chosen = simple.each 0 form there in
-      let m = bodies_many r w choices simple in
-      let l = within_list r.forms 0 form there in
-      let b = at_index (bodies_of r) 0 (omega (arith, m, l)) in
-      let f = is_form r w choices simple 0 b.0 b.1 in
-      let params = entry_params r.typed.now.tasks (slice_get r.mapping.now.instances r.mapping.now.entry) in
-      let many : length e.extents ≡ length params = extents_many r.mapping.now.sizes params e.extents e.fit in
-      let flagged : length fs ≡ length e.extents =
-      chosen.flags ∙ map_length (λ (x : List ℕ). false) e.extents in
-      let own : length e.extents ≡ length its.fits.variant.params = its.fits.many in
-      let shapes = form_shapes its.fits.variant (entry_form r.mapping.now.entry e.extents) its.ran.scope in
-      let arrays : b.0.arrays ≡ shapes =
-      sym (ap (λ (x : FormBody). x.arrays) f.body)
-      ∙ ap (λ (x : FormBody). x.arrays) (bodies_are_tables as_many_forms r 0
-      ∙ body_is r w 0 ([], entry_form r.mapping.now.entry e.extents) e.found its) in
-      let held = length-append (param_shapes its.fits.variant.params 0 e.extents)
-      (local_shapes its.ran.scope.locals) in
-      let of_params = shapes_many its.fits.variant.params 0 e.extents in
-      let in_all : length b.0.arrays ≡ length shapes = ap length arrays in
+      let facts = entries_are_whole r w choices simple in
+      let b = body_at r 0 in
+      let f = is_form r w choices simple 0 b (body_there r w 0 (form r) (entry r).found) in
+      let many = params_many r w choices simple 0 b f in
+      let locals = facts.locals in
+      let all : length (fb 0).arrays ≡ length b.arrays = ap (λ (x : FormBody). length x.arrays) f.body in
       record {
-        body = b.0;
+        body = b;
         form = f;
-        args = arguments_many params 0 (extents_by (slice_get r.forms 0)) ∙ sym many ∙ sym flagged;
-        none = λ i. flag_false (get_or fs i false) (λ t. none_true e.extents i (chosen.in_place i t));
-        long = omega (arith, flagged, own, held, of_params, in_all);
+        args = facts.many ∙ many;
+        none = own_flags (first_of r choices 0) fs (λ i h e.
+            entries_have_buffers r w choices simple i h (ap (λ (hs : List Home). slice_get hs i) f.params ∙ e));
+        long = omega (arith, many, locals, all);
       }
 
   abbrev args : List PlacedArg
@@ -301,13 +252,13 @@ module _ (first : EntryIsFirst) (r : Resolved) (w : Walked r) (choices : List Ch
           ∙ ap (λ (y : FormBody). get_or y.arrays i no_shape) is.form.body);
     }
 
-pub drafts_own : EntryIsFirst → DraftsOwn
-drafts_own first r w choices simple nodes offset =
-    let is = entry_is first r w choices simple in
+pub drafts_own : DraftsOwn
+drafts_own r w choices simple nodes offset =
+    let is = entry_is r w choices simple in
     record {
       owns = (
-        call_owns first r w choices simple is nodes offset (length (bodies_of r)),
+        call_owns r w choices simple is nodes offset (length (bodies_of r)),
         form_owns r w choices simple nodes offset (length (bodies_of r)) 0,
       );
-      entry = entry_owns first r w choices simple is nodes offset;
+      entry = entry_owns r w choices simple is nodes offset;
     }

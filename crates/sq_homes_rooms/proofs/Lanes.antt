@@ -1,17 +1,13 @@
 -- Each iteration of a draft's spread maps has a child.
-use Rattle.std.proofs.Common.{◌≡◌, ℕ, zero, suc, ◌-◌, ◌<◌, Bool, true, false, List, [], length, slice_get, Option}
-use Rattle.std.proofs.Common.{Some, None, is_some, refl, sym, ap, subst, arith}
+use Rattle.std.proofs.Common.{◌≡◌, ℕ, zero, suc, ◌-◌, ◌<◌, Bool, true, false, List, length, Option}
+use Rattle.std.proofs.Common.{Some, None, is_some, refl, sym, subst, arith}
 use Rattle.sq_num.specs.declared.RedOp.{RedOp}
 use Rattle.sq_text.specs.declared.place.Place.{Place}
 use Rattle.sq_text.specs.declared.spread.SpreadRule.{SpreadRule}
 use Rattle.sq_text.proofs.Spreads.{spreads}
-use Rattle.sq_mapfile.specs.declared.mapping.Instance.{Instance}
 use Rattle.sq_ir.specs.Written.{Setting}
 use Rattle.sq_ir.specs.Plans.{node_at}
 use Rattle.sq_ir.specs.declared.plan.PlanNode.{PlanNode}
-use Rattle.sq_forms.specs.Resolving.{entry_form}
-use Rattle.sq_forms.specs.Steps.{Key}
-use Rattle.sq_forms.specs.declared.form.Found.{Found}
 use Rattle.sq_form_laws.proofs.RanHold.{as_many_forms}
 use Rattle.sq_spec.specs.declared.statement.LoopKind.{LoopKind}
 use Rattle.sq_spec.specs.declared.statement.LoopKind.TheVariants as loop_kind
@@ -19,7 +15,6 @@ use Rattle.sq_spec.specs.declared.statement.CallInstance.{CallInstance}
 use Rattle.sq_spec.specs.declared.statement.Statement.{Statement}
 use Rattle.sq_spec.specs.declared.body.FormBody.{FormBody}
 use Rattle.sq_spec.specs.declared.resolved.Resolved.{Resolved}
-use Rattle.sq_spec.specs.Entry.{EntryIsFirst}
 use Rattle.sq_placed.specs.declared.home.Homes.{Homes}
 use Rattle.sq_placed.specs.Placed.{Placed, Call}
 use Rattle.sq_placed.specs.Tables.{map_placed, placed_call, placed_of}
@@ -34,14 +29,15 @@ use Rattle.sq_rooms.specs.Lowers.{lower_in}
 use Rattle.sq_rooms.specs.Orders.{EachOf}
 use Rattle.sq_plan_room.specs.Buffers.{HaveLanes}
 use Rattle.sq_homes.specs.declared.choice.Choice.{Choice}
-use Rattle.sq_homes.specs.Drafts.{bodies_of, level_by, buffers_of}
+use Rattle.sq_homes.specs.Drafts.{bodies_of, buffers_of}
 use Rattle.sq_homes_laws.specs.Given.{level_at}
 use Rattle.sq_homes_laws.specs.Simple.{Walked, AreSimple, AreMemories, setting_of}
 use Rattle.sq_homes_laws.proofs.Descending.{calls_descend}
-use Rattle.sq_homes_fit.proofs.Levels.{have_levels}
 use Rattle.sq_homes_laws.proofs.Programs.{bodies_are_tables}
-use Rattle.sq_homes_rooms.specs.Lanes.{draft_bounds, IsDraftMachine, LanesAreThere}
-use Rattle.sq_homes_rooms.proofs.Callers.{walk, runs_at, RowIs, rows_are}
+use Rattle.sq_homes_fit.specs.Drafts.{limits}
+use Rattle.sq_homes_fit.proofs.Levels.{have_levels, drafts_begin_at_root}
+use Rattle.sq_homes_rooms.specs.Lanes.{IsDraftMachine, LanesAreThere}
+use Rattle.sq_homes_rooms.proofs.Callers.{walk, RowIs, rows_are}
 use Rattle.sq_homes_rooms.proofs.Numbered.{bodies, homes, homes_simple}
 use Rattle.sq_homes_rooms.proofs.Machines.{machines_are_machines}
 use Rattle.sq_homes_rooms.proofs.Parts.{Keeps, body_keeps}
@@ -56,8 +52,7 @@ lane_below : (s : Setting) (rule : SpreadRule) (node n t : ℕ) → 0 < s.childr
 unfolding fan_of lane
 lane_below s rule node n t some l = (spreads rule n (s.children node) some).below t l
 
-module _ (first : EntryIsFirst) (r : Resolved) (w : Walked r) (choices : List Choice)
-    (simple : AreSimple r choices) where
+module _ (r : Resolved) (w : Walked r) (choices : List Choice) (simple : AreSimple r choices) where
   abbrev fb : ℕ → FormBody
   fb = bodies r w choices simple
 
@@ -67,38 +62,29 @@ module _ (first : EntryIsFirst) (r : Resolved) (w : Walked r) (choices : List Ch
   abbrev last : ℕ
   last = length r.machine.now.levels - 1
 
-  pub long : length r.machine.now.levels ≡ suc last
+  long : length r.machine.now.levels ≡ suc last
   long = let l = (w.read.instances r.mapping.now.entry w.read.entry.entry w.read.entry.there).level in omega (arith, l)
 
-  -- each form has the level of its instance
-  pub level_is : (k : ℕ) (form : Key × Found) (x : Instance) → slice_get r.found.entries k ≡ Some form
-      → slice_get r.mapping.now.instances form.1.instance ≡ Some x
-      → level_at r k ≡ x.level
-  level_is k form x there at = have_levels r w k form x there at
-
-  tabled : (k : ℕ) → TabledBody draft_bounds last (level_at r k) (fb k).body
+  tabled : (k : ℕ) → TabledBody limits last (level_at r k) (fb k).body
   tabled k =
-      subst (λ (x : FormBody). TabledBody draft_bounds last (level_at r k) x.body)
+      subst (λ (x : FormBody). TabledBody limits last (level_at r k) x.body)
       (sym (bodies_are_tables as_many_forms r k))
       (programs_are_tabled r.typed.now r.machine.now.levels r.mapping.now w.faultless w.read (walk r w) w.through
-      draft_bounds (omega arith) last long (level_at r) level_is k)
+      limits (omega arith) last long (level_at r) (have_levels r w) k)
 
   deep_at : (k : ℕ) → EachOf (λ (y : Statement). lower_in y ≡ true → level_at r k < last) (statements (fb k).body)
   deep_at k =
       each_as (λ (y : Statement). lower_in y ≡ true → suc (level_at r k) < suc last)
       (λ (y : Statement). lower_in y ≡ true → level_at r k < last) (statements (fb k).body)
       (λ y f e. let l = f e in omega (arith, l))
-      (lower_stand_above draft_bounds last (level_at r k) (fb k).body (tabled k))
+      (lower_stand_above limits last (level_at r k) (fb k).body (tabled k))
 
   levels : (k : ℕ) → AreLevel (level_at r) (level_at r k) (calls_of (fb k).body)
   levels k = (calls_descend as_many_forms r).each k
 
   -- the entry runs at the root
-  pub root_level : level_at r 0 ≡ 0
-  root_level =
-      let e = first r in
-      let its = runs_at r w 0 ([], entry_form r.mapping.now.entry e.extents) e.found in
-      ap level_by its.ran.kept
+  root_level : level_at r 0 ≡ 0
+  root_level = (drafts_begin_at_root r w choices simple).entry
 
   module _ (nodes : List PlanNode) (are : AreMemories r.machine.now.levels nodes) (offset : ℕ → ℕ) where
     abbrev s : Setting
@@ -176,5 +162,5 @@ module _ (first : EntryIsFirst) (r : Resolved) (w : Walked r) (choices : List Ch
         let at : IsAt (level_at r 0) 0 = subst (λ (m : ℕ). IsAt m 0) (sym root_level) its.root in
         laned (length (bodies_of r)) 0 0 at 0 (some_child 0 0 at)
 
-pub lanes_are_there : EntryIsFirst → LanesAreThere
-lanes_are_there first r w choices simple nodes are offset = have_lanes first r w choices simple nodes are offset
+pub lanes_are_there : LanesAreThere
+lanes_are_there r w choices simple nodes are offset = have_lanes r w choices simple nodes are offset

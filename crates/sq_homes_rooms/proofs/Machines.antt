@@ -10,9 +10,10 @@ use Rattle.sq_nests.proofs.Machines.{child-there, root-there, layered}
 use Rattle.sq_term_fit.specs.Fits.{AreBounds, IsMachine, NodeAt}
 use Rattle.sq_term_fit.proofs.Meeting.{within_limits}
 use Rattle.sq_homes_laws.specs.Simple.{AreMemories}
-use Rattle.sq_homes_rooms.specs.Lanes.{draft_bounds, MachinesAreMachines}
+use Rattle.sq_homes_fit.specs.Drafts.{limits}
+use Rattle.sq_homes_rooms.specs.Lanes.{MachinesAreMachines}
 
-are_bounds : AreBounds draft_bounds
+are_bounds : AreBounds limits
 unfolding most_uses
 are_bounds = within_limits
 
@@ -24,7 +25,7 @@ module _ (levels : List Level) (nodes : List PlanNode) (are : AreMemories levels
   abbrev IsAt : ℕ → ℕ → Type 0
   IsAt l n = NodeAt (length nodes) level_of l n
 
-  machine : IsMachine (placed buffers nodes offset) draft_bounds last IsAt
+  machine : IsMachine (placed buffers nodes offset) limits last IsAt
   machine = record {
     below = λ l n c h less.
         (child-there nodes n c are.are less, (layered buffers nodes offset are.are).below n c less ∙ ap suc h.1);

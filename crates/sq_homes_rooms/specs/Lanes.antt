@@ -1,26 +1,22 @@
 -- Each iteration of a draft's spread maps has a child.
 use Rattle.std.specs.Prelude.{◌≡◌, ℕ, suc, List, length}
 use Rattle.sq_machfile.specs.declared.level.Level.{Level}
-use Rattle.sq_forms.specs.Steps.{most_uses}
 use Rattle.sq_ir.specs.Written.{Setting}
 use Rattle.sq_ir.specs.Plans.{node_at, placed}
 use Rattle.sq_ir.specs.declared.plan.Buffer.{Buffer}
 use Rattle.sq_ir.specs.declared.plan.PlanNode.{PlanNode}
 use Rattle.sq_spec.specs.declared.resolved.Resolved.{Resolved}
-use Rattle.sq_term_fit.specs.Fits.{Bounds, AreBounds, IsMachine, NodeAt}
+use Rattle.sq_term_fit.specs.Fits.{AreBounds, IsMachine, NodeAt}
 use Rattle.sq_plan_room.specs.Buffers.{HaveLanes}
 use Rattle.sq_homes.specs.declared.choice.Choice.{Choice}
 use Rattle.sq_homes_laws.specs.Simple.{Walked, AreSimple, AreMemories, setting_of}
+use Rattle.sq_homes_fit.specs.Drafts.{limits}
 use Rattle.sq_homes_rooms.specs.Owned.{draft_placed}
-
--- the limits of programs and machines
-abbrev pub draft_bounds : Bounds
-draft_bounds = record { uses = most_uses; children = 64 }
 
 -- the nodes are a machine as a built term asks, down to this level, and the first one is its root
 pub record IsDraftMachine (s : Setting) (nodes : List PlanNode) (last : ℕ) : Type 0 where
-  pub bounds : AreBounds draft_bounds
-  pub machine : IsMachine s draft_bounds last (NodeAt (length nodes) (λ n. (node_at nodes n).level))
+  pub bounds : AreBounds limits
+  pub machine : IsMachine s limits last (NodeAt (length nodes) (λ n. (node_at nodes n).level))
   pub root : NodeAt (length nodes) (λ n. (node_at nodes n).level) 0 0
 
 abbrev pub MachinesAreMachines : Type 0

@@ -6,8 +6,6 @@ ghost use Rattle.sq_homes_rooms.specs.Owned.{DraftsOwn};
 ghost use Rattle.sq_homes_rooms.specs.Lanes.{MachinesAreMachines, LanesAreThere};
 ghost use Rattle.sq_homes_rooms.specs.Placeable.{DraftsArePlaceable};
 
-use sq_spec::laws::entry_is_first;
-
 /// The buffers of a draft are numbered form by form, and each form but the entry has one caller, which stands before
 /// it.
 pub fn buffers_are_numbered()
@@ -17,9 +15,7 @@ pub fn buffers_are_numbered()
 /// Each array of a draft has a buffer of its own that it fits into, or stands in its caller's array.
 pub fn drafts_own_their_buffers()
     ensures { DraftsOwn }
-{
-    entry_is_first();
-}
+{}
 
 /// The memories of a machine are nodes as a built term asks.
 pub fn memories_are_machines()
@@ -29,13 +25,9 @@ pub fn memories_are_machines()
 /// Each iteration of a draft's spread maps has a child.
 pub fn lanes_are_there()
     ensures { LanesAreThere }
-{
-    entry_is_first();
-}
+{}
 
 /// A draft can be placed.
 pub fn drafts_can_be_placed()
     ensures { DraftsArePlaceable }
-{
-    entry_is_first();
-}
+{}

@@ -1,6 +1,6 @@
 -- The plan of a draft is good, part by part.
 use Rattle.std.proofs.Common.{◌≡◌, ℕ, zero, suc, ◌+◌, ◌<◌, ◌≤◌, ◌^◌, Bool, true, false, List, [], ◌∷◌, length, map}
-use Rattle.std.proofs.Common.{Option, Some, None, get_or, refl, sym, ap, ◌∙◌, subst, arith}
+use Rattle.std.proofs.Common.{Option, Some, None, get_or, take, refl, sym, ap, ◌∙◌, subst, arith}
 use Rattle.std.specs.Prelude.{slice_get}
 use Rattle.std.specs.List.{All}
 use Rattle.sq_rect.specs.Placing.{IsIn}
@@ -43,7 +43,7 @@ use Rattle.sq_nests.specs.Stacks.{AreAside}
 use Rattle.sq_nests.specs.Drafts.{whole, IsPlaceable, KeepsRoom}
 use Rattle.sq_placed.specs.declared.home.Homes.{Homes}
 use Rattle.sq_placed.specs.Placed.{Placed, PlacedArg, PlacedCall, plain}
-use Rattle.sq_placed.specs.Tables.{placed_of, entry_placed, entry_call_placed}
+use Rattle.sq_placed.specs.Tables.{placed_args, placed_of, entry_placed, entry_call_placed}
 use Rattle.sq_placed_bytes.specs.Entry.{EntryStowed}
 use Rattle.sq_placed_bytes.specs.LeafLaws.{codes_of}
 use Rattle.sq_placed_bytes.specs.OnBytes.{work}
@@ -110,6 +110,31 @@ last_of levels nodes m = by_many (length levels) refl
             let low = (q.are.each 0 x refl).level in
             let many = q.many in absurd (omega (arith, low, many, e))
 
+-- ---- lists
+
+taken_at : {A : Type 0} (n : ℕ) (xs : List A) (i : ℕ) → i < n → slice_get (take n xs) i ≡ slice_get xs i
+taken_at zero xs i lt = absurd (omega (arith, lt))
+taken_at (suc n) [] i lt = refl
+taken_at (suc n) (x ∷ xs) zero lt = refl
+taken_at (suc n) (x ∷ xs) (suc i) lt = taken_at n xs i (omega (arith, lt))
+
+below : {A : Type 0} (xs : List A) (i : ℕ) (x : A) → slice_get xs i ≡ Some x → i < length xs
+below [] i x h = absurd (cc h)
+below (y ∷ xs) zero x h = omega arith
+below (y ∷ xs) (suc i) x h = let e = below xs i x h in omega (arith, e)
+
+as_many_args : (shapes : List Shape) (i : ℕ) (args : List Argument)
+    → length (placed_args None shapes [] i args) ≡ length args
+as_many_args shapes i [] = refl
+as_many_args shapes i (a ∷ args) = ap suc (as_many_args shapes (suc i) args)
+
+-- a node of at most 2^30 bytes, or none
+small_at : (ns : List PlanNode) → ((i : ℕ) (n : PlanNode) → slice_get ns i ≡ Some n → n.capacity ≤ 2 ^ 30)
+    → (i : ℕ) → (node_at ns i).capacity ≤ 2 ^ 32
+small_at [] h i = omega arith
+small_at (n ∷ ns) h zero = let a = h 0 n refl in omega (arith, a)
+small_at (n ∷ ns) h (suc i) = small_at ns (λ j m e. h (suc j) m e) i
+
 -- ---- a draft, by its parts
 
 abbrev drawn : Resolved → List Choice → List Note → Draft
@@ -141,20 +166,17 @@ module _ (placing : Placing) (r : Resolved) (choices : List Choice) (simple : Ar
   is_draft : IsDraftOf r choices d
   is_draft = record { term = refl; buffers = refl; leaves = refl; entry = refl }
 
-  last : Last r.machine.now.levels
-  last = last_of r.machine.now.levels nodes memories
-
-  begins : BeginsAtRoot r choices
-  begins = placing.begins r w choices simple
-
   placeable : IsPlaceable d nodes
-  placeable = placing.placeable r w choices simple d is_draft nodes memories last.last last.is (record {
-    tabled = placing.tabled r w choices simple last.last last.is nodes;
-    first = begins.buffer;
-  })
+  placeable = placing.placeable r w choices simple d is_draft nodes memories
 
   module _ (laws : Laws) (race_free : HasNoRace r) (placed : IsPlaced d nodes (record { draft = d; offsets = offsets_of d; nodes = nodes }))
     where
+      last : Last r.machine.now.levels
+      last = last_of r.machine.now.levels nodes memories
+
+      begins : BeginsAtRoot r choices
+      begins = laws.begins r w choices simple
+
       abbrev bodies : ℕ → FormBody
       bodies = body_in (bodies_of r)
 
@@ -215,7 +237,7 @@ module _ (placing : Placing) (r : Resolved) (choices : List Choice) (simple : Ar
       facts = laws.entries r w choices simple
 
       tabled : AreTabled s limits last.last bodies homes (level_at r)
-      tabled = placing.tabled r w choices simple last.last last.is nodes offset
+      tabled = laws.tabled r w choices simple last.last last.is nodes offset
 
       roomy : IsRoomyDraft r choices s
       roomy = laws.roomy r w choices simple nodes offset
@@ -285,6 +307,10 @@ module _ (placing : Placing) (r : Resolved) (choices : List Choice) (simple : Ar
       short : AreShort r
       short = laws.short r w
 
+      few_uses : limits.uses ≤ 2 ^ 32
+      unfolding most_uses
+      few_uses = omega arith
+
       paths : AllEvents HasPath (plan_tree s x outer entry)
       paths = laws.paths s leaves outer entry anything bodies homes n args is_plan limits few_uses last.last (level_at r)
           tabled.body (round_of r) short.paths
@@ -292,23 +318,8 @@ module _ (placing : Placing) (r : Resolved) (choices : List Choice) (simple : Ar
       near : HomesAreNear bodies homes
       near = laws.near leaves bodies homes mays forms_fit (homes_are_simple r choices simple)
 
-      -- a node has at most 2^30 bytes
       small : (node : ℕ) → s.capacity node ≤ 2 ^ 32
-      small node = by (slice_get nodes node) refl
-        where
-          by : (o : Option PlanNode) → slice_get nodes node ≡ o → s.capacity node ≤ 2 ^ 32
-          by None e = subst (λ (q : PlanNode). q.capacity ≤ 2 ^ 32) (sym (ap node_by e)) (omega arith)
-          by (Some q) e =
-              let h = (memories.are.each node q e).capacity in
-              subst (λ (q : PlanNode). q.capacity ≤ 2 ^ 32) (sym (ap node_by e)) (omega (arith, h))
-
-      few_uses : limits.uses ≤ 2 ^ 32
-      unfolding most_uses
-      few_uses = omega arith
-
-      node_by : Option PlanNode → PlanNode
-      node_by None = record { level = 0; capacity = 0; first_child = 0; children = 0 }
-      node_by (Some q) = q
+      small = small_at nodes (λ i q e. (memories.are.each i q e).capacity)
 
       formed : Meets s (IsAllowed leaves s) term at_root entry
       formed = laws.formed s leaves limits machine.bounds last.last (length nodes) (λ k. (node_at nodes k).level)
@@ -317,7 +328,7 @@ module _ (placing : Placing) (r : Resolved) (choices : List Choice) (simple : Ar
 
       entry_there : All (IsBuffer s 0) entry
       entry_there = (subst (λ (f : plans.AskedOfTerms). f at_root []) (meets_within s _ None entry (program_term r choices))
-          (placeable.term offset)).1.0
+          (placeable.term offset)).1
 
       well_formed : IsWellFormed leaves p
       well_formed = record {
@@ -345,7 +356,7 @@ module _ (placing : Placing) (r : Resolved) (choices : List Choice) (simple : Ar
       are_whole : AreWhole outer c.args
       are_whole i q e =
           let h = arg_at i q e in
-          subst (IsWhole outer i) (sym h.2.1) (whole_taken i h.0 h.2.0)
+          subst (IsWhole outer i) (sym h.2) (whole_taken i h.0 h.1)
         where
           whole_taken : (i : ℕ) (a : Argument) → slice_get args i ≡ Some a → IsWhole outer i a
           whole_taken i a e =
@@ -353,7 +364,7 @@ module _ (placing : Placing) (r : Resolved) (choices : List Choice) (simple : Ar
               record {
                 array = z.array;
                 shape = z.shape;
-                there = outer_at i a e ∙ z.there;
+                there = taken_at (length args) (bodies 0).arrays i (below args i a e) ∙ z.there;
                 rect = z.rect;
               }
 
@@ -361,7 +372,7 @@ module _ (placing : Placing) (r : Resolved) (choices : List Choice) (simple : Ar
       reads a m input = record {
         at = λ k q sh cs e read there inner.
             let h = arg_at k q e in
-            input.read k h.0 sh cs h.2.0 (subst (λ (z : Argument). is_read z.mode ≡ true) h.2.1 read) there inner;
+            input.read k h.0 sh cs h.1 (subst (λ (z : Argument). is_read z.mode ≡ true) h.2 read) there inner;
       }
 
       meant : (a : Arrays) → meaning (plain x) a ≡ flat r.typed.now r.mapping.now a
@@ -369,10 +380,15 @@ module _ (placing : Placing) (r : Resolved) (choices : List Choice) (simple : Ar
           ∙ (laws.serial (entry_call r.typed.now.tasks r.mapping.now r.found.entries) tables_free a
           ∙ sym (laws.means r race_free a))
 
+      many_args : length c.args ≡ length outer
+      many_args =
+          as_many_args (bodies 0).arrays 0 args
+          ∙ (facts.many ∙ (sym (mapped buffer_or (homes 0).params) ∙ is_plan.many))
+
       ends : EndsAsMeant r p
       ends a m input = subst (λ (o : Outcome). EndsSo s outer entry o (exec (events.meaning leaves) (tree_of p) m)) (meant a)
           (subst (λ (t : PlanTree). EndsSo s outer entry (meaning (plain x) a) (exec (events.meaning leaves) t m)) (sym tree_is)
-          (laws.follow s leaves outer entry anything c (placed_of bodies homes n 0) is_plan are_whole many a m
+          (laws.follow s leaves outer entry anything c (placed_of bodies homes n 0) is_plan are_whole many_args a m
           (reads a m input)))
 
       -- ---- its leaf calls
@@ -391,11 +407,20 @@ drafts_can_be_placed placing r choices simple d of nodes memories =
     subst (λ (x : Draft). IsPlaceable x nodes) (sym (drawn_is r choices d of))
     (placeable placing r choices simple d.notes nodes memories)
 
+-- with its offsets
+abbrev plan_with : List PlanNode → Draft → Plan
+plan_with nodes d = record { draft = d; offsets = offsets_of d; nodes = nodes }
+
+good_with : Placing → Laws → (r : Resolved) → HasNoRace r → (choices : List Choice) → AreSimple r choices
+    → (notes : List Note) (nodes : List PlanNode) → AreMemories r.machine.now.levels nodes
+    → (d : Draft) → drawn r choices notes ≡ d
+    → IsPlaced d nodes (plan_with nodes d) → IsGoodFor r choices nodes (plan_with nodes d)
+good_with placing laws r race_free choices simple notes nodes memories d is =
+    subst (λ (x : Draft). IsPlaced x nodes (plan_with nodes x) → IsGoodFor r choices nodes (plan_with nodes x)) is
+    (λ placed. all_good placing r choices simple notes nodes memories laws race_free placed)
+
 pub placed_are_good : Placing → Laws → PlacedAreGood
 placed_are_good placing laws r race_free choices simple d of nodes memories p placed =
-    let is = drawn_is r choices d of in
-    let shown : IsPlaced (drawn r choices d.notes) nodes p = subst (λ (x : Draft). IsPlaced x nodes p) is placed in
-    let q : Plan = record { draft = drawn r choices d.notes; offsets = offsets_of (drawn r choices d.notes); nodes = nodes } in
-    subst (IsGoodFor r choices nodes) (sym shown.is)
-    (all_good placing r choices simple d.notes nodes memories laws race_free
-    (subst (IsPlaced (drawn r choices d.notes) nodes) shown.is shown))
+    subst (IsGoodFor r choices nodes) (sym placed.is)
+    (good_with placing laws r race_free choices simple d.notes nodes memories d (sym (drawn_is r choices d of))
+    (subst (IsPlaced d nodes) placed.is placed))

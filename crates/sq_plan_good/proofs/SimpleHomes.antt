@@ -58,7 +58,7 @@ all_homes r cs (b ∷ bs) k base code h zero i =
 all_homes r cs (b ∷ bs) k base code h (suc f) i =
     all_homes r cs bs (suc k) (base + length (standing b (choice_in cs k))) (code + codes_in b.body)
     (λ j lt. let next : k + suc j ≡ suc k + j = omega arith in
-        subst (λ (m : ℕ). Stays (choice_in cs m)) next (h (suc j) (omega (arith, lt)))) f i
+    subst (λ (m : ℕ). Stays (choice_in cs m)) next (h (suc j) (omega (arith, lt)))) f i
 
 mapped_length : {A B : Type 0} (f : A → B) (xs : List A) → length (map f xs) ≡ length xs
 mapped_length f [] = refl

@@ -26,8 +26,6 @@ use Rattle.sq_draft_laws.specs.Short.{LeavesAreShort}
 -- the laws by which a draft can be placed
 pub record Placing : Type 0 where
   pub walked : WalkedIsThere
-  pub begins : DraftsBeginAtRoot
-  pub tabled : DraftsAreTabled
   pub placeable : DraftsArePlaceable
 
 -- and those by which its plan is good: of a draft's bodies, homes and leaves, of plans, and of works
@@ -38,6 +36,8 @@ pub record Laws : Type 0 where
   pub term : TermIsEntrys
   pub homes : HomesFitForms
   pub entries : EntriesAreWhole
+  pub begins : DraftsBeginAtRoot
+  pub tabled : DraftsAreTabled
   pub roomy : DraftsAreRoomy
   pub own : DraftsOwn
   pub machines : MachinesAreMachines

@@ -31,8 +31,6 @@ pub fn simple_drafts_can_be_placed()
     ensures { DraftsCanBePlaced }
 {
     resolved_programs_were_walked();
-    drafts_begin_at_root();
-    drafts_are_tabled();
     drafts_can_be_placed();
 }
 

@@ -2,4 +2,4 @@ use Rattle.sq_homes_rooms.proofs.Placeable.{drafts_are_placeable}
 use Rattle.sq_homes_rooms.proofs.drafts_can_be_placed.Goals as goal
 
 pub returns : goal.returns
-returns c = drafts_are_placeable c.entry_is_first.ensures
+returns c = drafts_are_placeable

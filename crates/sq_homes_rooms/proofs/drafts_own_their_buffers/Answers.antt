@@ -2,4 +2,4 @@ use Rattle.sq_homes_rooms.proofs.Entry.{drafts_own}
 use Rattle.sq_homes_rooms.proofs.drafts_own_their_buffers.Goals as goal
 
 pub returns : goal.returns
-returns c = drafts_own c.entry_is_first.ensures
+returns c = drafts_own

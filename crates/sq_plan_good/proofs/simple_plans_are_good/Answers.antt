@@ -4,8 +4,6 @@ use Rattle.sq_plan_good.proofs.simple_plans_are_good.Goals as goal
 pub returns : goal.returns
 returns c = placed_are_good (record {
   walked = c.resolved_programs_were_walked.ensures;
-  begins = c.drafts_begin_at_root.ensures;
-  tabled = c.drafts_are_tabled.ensures;
   placeable = c.drafts_can_be_placed.ensures;
 }) (record {
   leveled = c.buffers_have_their_levels.ensures;
@@ -14,6 +12,8 @@ returns c = placed_are_good (record {
   term = c.terms_are_those_of_entries.ensures;
   homes = c.homes_fit_forms.ensures;
   entries = c.entries_are_whole.ensures;
+  begins = c.drafts_begin_at_root.ensures;
+  tabled = c.drafts_are_tabled.ensures;
   roomy = c.drafts_are_roomy.ensures;
   own = c.drafts_own_their_buffers.ensures;
   machines = c.memories_are_machines.ensures;
