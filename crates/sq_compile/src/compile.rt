@@ -1,14 +1,13 @@
 //! Compiling: the passes one after another, and then the places of buffers.
 
-ghost use Rattle.std.specs.Prelude.{◌≡◌, map, IfOk, IfErr};
-ghost use Rattle.sq_draft_laws.specs.Memories.{plan_node};
+ghost use Rattle.std.specs.Prelude.{◌≡◌, IfOk, IfErr};
 ghost use Rattle.sq_elim.specs.Choices.{all_in_place};
 ghost use Rattle.sq_homes.specs.Drafts.{IsDraftOf};
+ghost use Rattle.sq_homes_laws.specs.Simple.{AreMemories};
 ghost use Rattle.sq_plan_good.specs.Good.{HasNoRace, IsGoodFor};
 ghost use Rattle.sq_compile.specs.Compiled.{memories_of, IsRefusedFor};
 
 use crate::memories::plan_nodes;
-use sq_draft_laws::laws::nodes_are_memories;
 use sq_elim::drop_copies;
 use sq_ir::{Draft, Plan, PlanNodes};
 use sq_lower::lower;
@@ -21,15 +20,36 @@ use std::alloc::{AllocError, Global};
 fn passed(alloc: Global, r: &Resolved<'_>) -> Result<Draft, AllocError>
     ensures { IfOk result (λ d. IsDraftOf r.now (all_in_place r.now) d) }
 {
-    let draft = lower(alloc, r)?;
-    let draft = drop_copies(alloc, r, draft)?;
-    Ok(draft)
+    let lowered = lower(alloc, r)?;
+    let dropped = drop_copies(alloc, r, lowered)?;
+    Ok(dropped)
 }
 
+// The memories of the program's machine.
 fn memories(alloc: Global, r: &Resolved<'_>) -> Result<PlanNodes, AllocError>
-    ensures { IfOk result (λ nodes. nodes ≡ memories_of r.now) }
+    ensures nodes { IfOk result (λ nodes. nodes ≡ memories_of r.now) }
+    ensures memories { IfOk result (λ nodes. AreMemories r.now.machine.now.levels nodes) }
 {
     plan_nodes(alloc, r.machine())
+}
+
+// The program's draft in these memories.
+fn placed(
+    alloc: Global,
+    r: &Resolved<'_>,
+    draft: Draft,
+    nodes: PlanNodes,
+) -> Result<Plan, StoreFault>
+    requires its { IsDraftOf r.now (all_in_place r.now) draft }
+    requires nodes { nodes ≡ memories_of r.now }
+    requires memories { AreMemories r.now.machine.now.levels nodes }
+    ensures good { IfOk result (λ p. HasNoRace r.now
+        → IsGoodFor r.now (all_in_place r.now) (memories_of r.now) p) }
+    ensures over { IfErr result (λ fault. IsRefusedFor r.now fault) }
+{
+    simple_drafts_can_be_placed();
+    simple_plans_are_good();
+    place(alloc, draft, nodes)
 }
 
 /// The plan of a program on its machine, after all passes. Without a race it is good for the program: well formed, with
@@ -41,14 +61,11 @@ pub fn compile(alloc: Global, r: &Resolved<'_>) -> Result<Plan, StoreFault>
         → IsGoodFor r.now (all_in_place r.now) (memories_of r.now) p) }
     ensures over { IfErr result (λ fault. IsRefusedFor r.now fault) }
 {
-    nodes_are_memories();
-    simple_drafts_can_be_placed();
-    simple_plans_are_good();
-    let Ok(nodes) = memories(alloc, r) else {
-        return Err(StoreFault::NoMemory);
-    };
-    let Ok(draft) = passed(alloc, r) else {
-        return Err(StoreFault::NoMemory);
-    };
-    place(alloc, draft, nodes)
+    match memories(alloc, r) {
+        Err(_) => Err(StoreFault::NoMemory),
+        Ok(nodes) => match passed(alloc, r) {
+            Err(_) => Err(StoreFault::NoMemory),
+            Ok(draft) => placed(alloc, r, draft, nodes),
+        },
+    }
 }

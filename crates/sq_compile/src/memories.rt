@@ -1,8 +1,10 @@
 //! The nodes of a machine as the memories of a plan.
 
 ghost use Rattle.std.specs.Prelude.{◌≡◌, map, IfOk};
+ghost use Rattle.sq_homes_laws.specs.Simple.{AreMemories};
 ghost use Rattle.sq_draft_laws.specs.Memories as spec;
 
+use sq_draft_laws::laws::nodes_are_memories;
 use sq_ir::{PlanNode, PlanNodes};
 use sq_machfile::{Machine, Node};
 use sqlite_items::Items;
@@ -19,13 +21,22 @@ fn plan_node(node: &Node) -> PlanNode
     }
 }
 
+// So many nodes, one for each.
+fn all_nodes(alloc: Global, nodes: &[Node]) -> Result<PlanNodes, AllocError>
+    ensures { IfOk result (λ ns. ns ≡ map spec.plan_node nodes.now) }
+{
+    let mut out = Items::new(alloc);
+    for node in nodes {
+        out.push(plan_node(node))?;
+    }
+    Ok(out)
+}
+
 /// The memories of a machine, level by level, and in each level from the left.
 pub fn plan_nodes(alloc: Global, machine: &Machine) -> Result<PlanNodes, AllocError>
-    ensures { IfOk result (λ nodes. nodes ≡ map spec.plan_node machine.now.nodes) }
+    ensures nodes { IfOk result (λ ns. ns ≡ map spec.plan_node machine.now.nodes) }
+    ensures memories { IfOk result (λ ns. AreMemories machine.now.levels ns) }
 {
-    let mut nodes = Items::new(alloc);
-    for node in machine.tree() {
-        nodes.push(plan_node(node))?;
-    }
-    Ok(nodes)
+    nodes_are_memories();
+    all_nodes(alloc, machine.tree())
 }
