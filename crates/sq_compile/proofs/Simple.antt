@@ -8,9 +8,12 @@ use Rattle.sq_homes.specs.Drafts.{choice_in, no_choice}
 use Rattle.sq_homes_laws.specs.Simple.{IsSimple, AreSimple}
 use Rattle.sq_elim.specs.Choices.{in_place, all_in_place}
 
+same : {x y : Form} → Some x ≡ Some y → x ≡ y
+same e = cc
+
 chosen : (fs : List Form) (k : ℕ) (f : Form) → slice_get fs k ≡ Some f → choice_in (map in_place fs) k ≡ in_place f
 chosen [] k f e = absurd (cc e)
-chosen (g ∷ fs) zero f e = ap in_place (cc e)
+chosen (g ∷ fs) zero f e = ap in_place (same e)
 chosen (g ∷ fs) (suc k) f e = chosen fs k f e
 
 set_there : (flags : List Bool) (i : ℕ) → get_or flags i false ≡ true → slice_get flags i ≡ Some true

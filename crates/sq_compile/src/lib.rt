@@ -1,8 +1,8 @@
 //! From a resolved program to its plan.
 #![tactic(auto)]
 
-mod compile;
 mod memories;
+mod passes;
 
-pub use compile::compile;
 pub use memories::plan_nodes;
+pub use passes::compile;
