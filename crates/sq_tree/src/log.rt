@@ -63,7 +63,7 @@ pub struct LogBank {
 }
 
 impl LogBank {
-    ghost use Rattle.std.specs.Prelude.{None};
+    ghost use Rattle.std.specs.Prelude.{None, map, option_map};
     ghost use Rattle.sq_tree.specs.Raw.{opened_seen};
     ghost use Rattle.sq_tree.specs.Log.{log_seen, telling, room_of};
 
@@ -80,6 +80,17 @@ impl LogBank {
                 is_whole: true,
             },
         })
+    }
+
+    /// The events performed since it was opened, in their order, while there was room for all of them.
+    pub fn events(&self) -> Option<&[Event]>
+        ensures { option_map (λ list. map seen list.now) result ≡ (log_seen self.now).events }
+    {
+        if self.log.is_whole {
+            Some(self.log.events.as_slice())
+        } else {
+            None
+        }
     }
 }
 
