@@ -10,7 +10,7 @@ ghost use Rattle.sq_sched.specs.Seen.{seen};
 ghost use Rattle.sq_sched.specs.Ends.{is_call};
 ghost use Rattle.sq_sched.specs.Rests.{trap_of, has_trapped, MayEnd};
 ghost use Rattle.sq_tree.specs.Bank.{IsPrepared, IsAsked, Performs, TrapsAs, bytes_in, leaves_in};
-ghost use Rattle.sq_tree.specs.Runs.{answer_of, HasRun, HasTrace, TellsFirst, KeepsRoom, is_stopped};
+ghost use Rattle.sq_tree.specs.Runs.{answer_of, state_of, HasRun, HasTrace, Tells, TellsFirst, KeepsRoom, is_stopped};
 ghost use Rattle.sq_tree.specs.Runs.{IsStep, MayPerform, AreSmall};
 
 use crate::bank::Bank;
@@ -152,7 +152,8 @@ fn answer(ended: Option<Ended<Trap>>) -> Result<(), RunEnd>
 
 /// Runs a plan on a bank. Each turn asks the order once, takes its answer modulo the number of ready events, performs
 /// that event and then, where it is asked for, puts its line to the trace. It takes no memory. Whatever the order
-/// answers, the run ends as the run under picks 0: with its trap, or with none and then with its bytes.
+/// answers, the run ends as the run under picks 0: with its trap, or with none and then with its bytes. The answer is
+/// that of the control it leaves, which names the trap with the least path of those that were met.
 pub fn run<B: Bank, O: Order, S: Sink>(
     bank: &mut B,
     ctl: &mut Control<Trap>,
@@ -168,6 +169,7 @@ pub fn run<B: Bank, O: Order, S: Sink>(
         (λ events. traced ≡ true → HasTrace ctl.old.plan (S.written trace.old) (S.written trace.new)
         (S.faults trace.old) (S.faults trace.new) (is_stopped result) events) }
     ensures over { is_stopped result ≡ false → ready ctl.new.left ≡ 0 }
+    ensures own { Tells (bytes_in (B.seen bank.new).nodes) (state_of (B.seen bank.new) ctl.new) result }
     ensures tells { TellsFirst ctl.old.plan (bytes_in (B.seen bank.old).nodes)
         (bytes_in (B.seen bank.new).nodes) result }
     ensures room { KeepsRoom ctl.old.plan (bytes_in (B.seen bank.old).nodes) }
