@@ -1,0 +1,12 @@
+pub mod Terms
+pub mod Laid
+pub mod Drafts
+pub mod Linked
+pub mod Near
+pub mod Unique
+pub mod Listing
+pub mod ListedForms
+pub mod Sizes
+pub mod Ends
+pub mod Reach
+pub mod Agreeing

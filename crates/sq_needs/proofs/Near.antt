@@ -1,0 +1,79 @@
+-- The calls of a text are served nearby.
+use Rattle.std.proofs.Common.{◌≡◌, ℕ, zero, suc, ◌+◌, ◌==◌, ◌⊎◌, inl, inr, Bool, true, false, List, [], ◌∷◌, map, length}
+use Rattle.std.proofs.Common.{slice_get, Option, Some, None, Ok, refl, sym, ap, ap₂, subst, ◌∙◌, arith, if◌then◌else◌}
+use Rattle.std.proofs.lemmas.Bool.Decides.{nat_tests}
+use Rattle.sq_ast.specs.declared.program.Body.{Body as Text}
+use Rattle.sq_ast.specs.declared.program.Body.TheVariants as text
+use Rattle.sq_ast.specs.declared.program.Variant.{Variant}
+use Rattle.sq_ast.specs.declared.stmt.Call.{Call}
+use Rattle.sq_ast.specs.declared.stmt.Stmt.{Stmt}
+use Rattle.sq_mapfile.specs.declared.mapping.Instance.{Instance}
+use Rattle.sq_forms.specs.declared.form.Found.{Found}
+use Rattle.sq_forms.specs.declared.form.Form.{Form}
+use Rattle.sq_forms.specs.Steps.{Forms, Key, Called}
+use Rattle.sq_forms.specs.Tables.{variant_of}
+use Rattle.sq_forms.specs.Worlds.{Frame, Callee, callee_of}
+use Rattle.sq_forms.specs.Decls.{Scope, params_from, empty_scope}
+use Rattle.sq_forms.specs.Resolving.{Resolving, frame_in, with_locals, body_steps}
+use Rattle.sq_form_laws.specs.Reached.{Ran, CalleeIs, calls_in, steps_of, body_calls, form_number}
+use Rattle.sq_form_laws.specs.Served.{FormRuns, IsServed}
+use Rattle.sq_form_laws.proofs.AnswerHold.{forms_are_found}
+use Rattle.sq_form_laws.proofs.EachCall.{AllIn}
+use Rattle.sq_form_laws.proofs.FitHold.{forms_run}
+use Rattle.sq_form_laws.proofs.RanHold.{as_many_forms}
+use Rattle.sq_form_laws.proofs.ServedHold.{calls_are_served}
+use Rattle.sq_spec.specs.declared.body.Body.{Body}
+use Rattle.sq_spec.specs.declared.body.FormBody.{FormBody}
+use Rattle.sq_spec.specs.declared.resolved.Resolved.{Resolved}
+use Rattle.sq_spec.specs.Bodies.{what_runs, declared_body, scope_body, variant_body, instance_body, found_body, body_of}
+use Rattle.sq_spec.specs.Statements.{elems_of}
+use Rattle.sq_spec.specs.Works.{shapes_of}
+use Rattle.sq_spec_laws.specs.Needs.{Reached, reached_by_body, reached_where, reached_with, reached_of, reached_from}
+use Rattle.sq_spec_laws.specs.Needs.{frame_at, variant_for}
+use Rattle.sq_term.specs.Terms.{body_in}
+use Rattle.sq_term.specs.Stands.{Each, below}
+use Rattle.sq_term.specs.Stands as stands
+use Rattle.sq_homes.specs.Drafts.{bodies_of}
+use Rattle.sq_homes_laws.specs.Simple.{Walked}
+use Rattle.sq_homes_laws.proofs.Programs.{bodies_are_tables}
+use Rattle.sq_needs.proofs.Linked.{IsNear}
+
+some_same : {A : Type 0} (x y : A) → Some x ≡ Some y → x ≡ y
+some_same x y h = cc h
+
+module _ (r : Resolved) (w : Walked r) where
+  abbrev pub walk : Resolving
+  walk = record { found = r.found.entries; forms = r.forms; uses = r.uses }
+
+  abbrev variants : List Variant
+  variants = r.typed.now.tasks
+
+  abbrev instances : List Instance
+  instances = r.mapping.now.instances
+
+  pub runs_at : (k : ℕ) (form : Key × Found) → slice_get r.found.entries k ≡ Some form
+      → FormRuns r.typed.now r.mapping.now walk k form.1
+  runs_at k form there =
+      forms_run r.typed.now r.machine.now.levels r.mapping.now w.faultless w.read walk w.through k form there
+
+  near_by : (level : ℕ) (c : Call) (x : Instance) (callee : Callee) → x.level ≡ level
+      → IsServed r.typed.now r.mapping.now x c callee → (callee.level ≡ level) ⊎ (callee.level ≡ suc level)
+  near_by level c x callee is served = by served.near
+    where
+      by : (served.instance.level ≡ x.level) ⊎ (served.instance.level ≡ suc x.level)
+          → (callee.level ≡ level) ⊎ (callee.level ≡ suc level)
+      by (inl e) = inl (served.level ∙ e ∙ is)
+      by (inr e) = inr (served.level ∙ e ∙ ap suc is)
+
+  -- each call of a text is served nearby
+  pub near_calls : (number : ℕ) (x : Instance) (v : Variant) (k : ℕ) (f : Found) → slice_get instances number ≡ Some x
+      → variant_of variants x.task x.kind ≡ Some v → (cs : List Call)
+      → ((i : ℕ) (c : Call) → slice_get cs i ≡ Some c → (j : ℕ) × (slice_get (body_calls v.body) j ≡ Some c))
+      → AllIn (IsNear (frame_in variants instances x k f)) cs
+  near_calls number x v k f there runs [] h = tt
+  near_calls number x v k f there runs (c ∷ cs) h =
+      let j = h 0 c refl in
+      let sv = calls_are_served r.typed.now r.machine.now.levels r.mapping.now w.read number x v there runs j.0 c j.1 k f in (
+        record { callee = sv.0; serves = sv.1; near = near_by x.level c x sv.0 refl sv.2 },
+        near_calls number x v k f there runs cs (λ i d e. h (suc i) d e),
+      )

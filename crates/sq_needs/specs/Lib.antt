@@ -1,0 +1,4 @@
+pub mod Begun
+pub mod Sums
+pub mod Listed
+pub mod Needed

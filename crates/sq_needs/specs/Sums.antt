@@ -1,0 +1,79 @@
+-- What a node needs for a form, by the tables: the greatest sum of the buffers that calls within one another bring to
+-- it.
+use Rattle.std.specs.Prelude.{◌≡◌, ℕ, zero, suc, ◌+◌, ◌==◌, max, List, [], ◌∷◌, ◌++◌, length, get_or, Option, Some, None}
+use Rattle.std.specs.Prelude.{if◌then◌else◌}
+use Rattle.sq_text.specs.declared.spread.SpreadRule.{SpreadRule}
+use Rattle.sq_text.specs.Spreading.{child_of}
+use Rattle.sq_ir.specs.Written.{Setting}
+use Rattle.sq_ir.specs.Plans.{placed}
+use Rattle.sq_ir.specs.declared.plan.Draft.{Draft}
+use Rattle.sq_ir.specs.declared.plan.PlanNode.{PlanNode}
+use Rattle.sq_spec.specs.declared.statement.CallInstance.{CallInstance}
+use Rattle.sq_spec.specs.declared.body.FormBody.{FormBody}
+use Rattle.sq_spec.specs.declared.resolved.Resolved.{Resolved}
+use Rattle.sq_spec_laws.specs.Needs.{Turn}
+use Rattle.sq_nests.specs.Stacks.{total}
+use Rattle.sq_nests.specs.Drafts.{nested_sum}
+use Rattle.sq_placed.specs.declared.home.Home.{Home}
+use Rattle.sq_placed.specs.declared.home.Home.TheVariants.{InPlace, Own, Held, Twin}
+use Rattle.sq_placed.specs.declared.home.Homes.{Homes}
+use Rattle.sq_placed.specs.Tables.{locals_of}
+use Rattle.sq_placed.specs.Trees.{local_buffers, callee_node}
+use Rattle.sq_term.specs.Terms.{buffers_from, body_in, homes_in}
+use Rattle.sq_homes.specs.declared.choice.Choice.{Choice}
+use Rattle.sq_homes.specs.Drafts.{IsDraftOf, bodies_of, homes_of, entry_of}
+use Rattle.sq_homes_laws.specs.Simple.{AreSimple, setting_of}
+use Rattle.sq_needs.specs.Begun.{Begun, calls_of}
+
+-- the child at which a lower call runs: that of its iteration, and child 0 outside of spread maps
+abbrev pub child_in : SpreadRule → (children : ℕ) → Option Turn → ℕ
+child_in rule children None = 0
+child_in rule children (Some u) = child_of rule u.count children u.t
+
+abbrev pub greatest : {A : Type 0} → (A → ℕ) → List A → ℕ
+greatest f [] = 0
+greatest f (x ∷ xs) = max (f x) (greatest f xs)
+
+-- the buffers that a call brings, and those of its locals
+abbrev pub brought : (ℕ → FormBody) → (ℕ → Homes) → CallInstance → List ℕ
+brought bodies homes r =
+    buffers_from (homes r.form).params 0 r.args ++ local_buffers (locals_of (bodies r.form) (homes r.form))
+
+-- so many bytes at this node are none at another one
+abbrev pub here : (node x : ℕ) → ℕ → ℕ
+here node x n = if node == x then n else 0
+
+-- x: the node that is asked for
+module _ (s : Setting) (bodies : ℕ → FormBody) (homes : ℕ → Homes) (x : ℕ) where
+  -- where a call of a form at this node runs
+  abbrev pub callee_at : SpreadRule → (node : ℕ) → Begun → ℕ
+  callee_at rule node b = callee_node s b.lower node (child_in rule (s.children node) b.turn)
+
+  -- inside: what it needs for a form at a node
+  abbrev pub worth : (inside : ℕ → ℕ → ℕ) → SpreadRule → (node : ℕ) → Begun → ℕ
+  worth inside rule node b =
+      here (callee_at rule node b) x (total s.size (brought bodies homes b.row))
+      + inside b.row.form (callee_at rule node b)
+
+  -- for the calls of the k-th form at this node, no more than n forms being called within one another
+  abbrev pub sum_of : (n k node : ℕ) → ℕ
+  sum_of zero k node = 0
+  sum_of (suc n) k node = greatest (worth (sum_of n) (homes k).rule node) (calls_of (bodies k).body)
+
+  -- for the entry, whose arrays have these buffers
+  abbrev pub entry_sum : (n : ℕ) → List ℕ → ℕ
+  entry_sum n entry = here 0 x (total s.size (entry ++ local_buffers (locals_of (bodies 0) (homes 0)))) + sum_of n 0 0
+
+-- ---- the law
+
+-- the nested sum of a draft, by its tables
+abbrev pub table_sum : Resolved → List Choice → List PlanNode → ℕ → ℕ
+table_sum r choices nodes node =
+    entry_sum (setting_of r choices nodes (λ b. 0)) (body_in (bodies_of r)) (homes_in (homes_of r choices)) node
+    (length (bodies_of r)) (entry_of r choices)
+
+-- Where nothing leaves a loop, what stands within one another at a node of a draft are the buffers of calls within one
+-- another.
+abbrev pub SumsAreOfCalls : Type 0
+SumsAreOfCalls = (r : Resolved) (choices : List Choice) → AreSimple r choices → (d : Draft) → IsDraftOf r choices d
+    → (nodes : List PlanNode) (node : ℕ) → nested_sum d nodes node ≡ table_sum r choices nodes node
