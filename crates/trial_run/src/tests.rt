@@ -55,8 +55,19 @@ const RAGGED: Sources = (
     "machine 1; level host { capacity 80; } children 2; level core { capacity 64; }",
 );
 
+// Of whole blocks alone.
 const NEVER: Sources = (
-    DOUBLE,
+    "void task twice::inner(in int A[N], out int B[N]) {
+  tunable int U;
+  blkset Ab = rchop(A, U);
+  blkset Bb = rchop(B, U);
+  mappar (int i = 0 to N / U) {
+    twice(Ab[i], Bb[i]);
+  }
+}
+void task twice::leaf(in int A[N], out int B[N]) {
+  for (int i = 0; i < N; i++) B[i] = A[i] + A[i];
+}",
     "mapping 1; entry top(N = 3); instance top = twice::inner @ host { tunable U = 4; call twice -> low; } instance low = twice::leaf @ core { }",
     "machine 1; level host { capacity 32; } children 2; level core { capacity 0; }",
 );
