@@ -1,0 +1,394 @@
+//! Programs as texts, compiled and run: the events of their plans, the bytes that these leave, their traps, and what has
+//! no room. All was computed by hand from what the language and the passes say.
+ghost use Rattle.std.specs.Prelude.{◌≡◌, None, IfOk};
+ghost use Rattle.sq_ir.specs.Plans.{IsGood};
+ghost use Rattle.sq_ir.specs.DraftLeaves.{leaves_of};
+ghost use Rattle.sq_race.specs.Race.{IsFirstRace};
+
+use sq_compile::compile;
+use sq_ir::Plan;
+use sq_leaf::TrapKind;
+use sq_machfile::read_machine;
+use sq_mapfile::read_mapping;
+use sq_port::{FirstOrder, LastOrder, MemSink, Order, SeedOrder};
+use sq_race::first_race;
+use sq_race::laws::without_a_race;
+use sq_source::read_program;
+use sq_spec::{Resolved, resolve};
+use sq_store::StoreFault;
+use sq_tree::{RawBank, RunEnd};
+use std::alloc::{AllocError, Global};
+use std::process::Abort;
+use std::rc::Rc;
+use std::test::Fail;
+use trial_tree::{Ran, run_on};
+
+// A program, its mapping and its machine.
+type Sources = (&'static str, &'static str, &'static str);
+
+// An order, the root's ints before the run, and its ints after it or the path of its trap.
+type Way = (&'static str, &'static str, &'static str);
+
+const DOUBLE: &str = "void task twice::inner(in int A[N], out int B[N]) {
+  tunable int U;
+  blkset Ab = rchop(A, U);
+  blkset Bb = rchop(B, U);
+  mappar (int i = 0 to (N + U - 1) / U) {
+    twice(Ab[i], Bb[i]);
+  }
+}
+void task twice::leaf(in int A[N], out int B[N]) {
+  for (int i = 0; i < N; i++) B[i] = A[i] + A[i];
+}";
+
+const TWO: &str = "machine 1; level host { capacity 64; } children 2; level core { capacity 32; }";
+
+const DOUBLED: Sources = (
+    DOUBLE,
+    "mapping 1; entry top(N = 8); instance top = twice::inner @ host { tunable U = 4; call twice -> low; } instance low = twice::leaf @ core { }",
+    TWO,
+);
+
+const RAGGED: Sources = (
+    DOUBLE,
+    "mapping 1; entry top(N = 10); instance top = twice::inner @ host { tunable U = 4; call twice -> low; } instance low = twice::leaf @ core { }",
+    "machine 1; level host { capacity 80; } children 2; level core { capacity 64; }",
+);
+
+// Of whole blocks alone.
+const NEVER: Sources = (
+    "void task twice::inner(in int A[N], out int B[N]) {
+  tunable int U;
+  blkset Ab = rchop(A, U);
+  blkset Bb = rchop(B, U);
+  mappar (int i = 0 to N / U) {
+    twice(Ab[i], Bb[i]);
+  }
+}
+void task twice::leaf(in int A[N], out int B[N]) {
+  for (int i = 0; i < N; i++) B[i] = A[i] + A[i];
+}",
+    "mapping 1; entry top(N = 3); instance top = twice::inner @ host { tunable U = 4; call twice -> low; } instance low = twice::leaf @ core { }",
+    "machine 1; level host { capacity 32; } children 2; level core { capacity 0; }",
+);
+
+const BLOCKED: Sources = (
+    DOUBLE,
+    "mapping 2; entry top(N = 10); instance top = twice::inner @ host { spread = blocked; tunable U = 4; call twice -> low; } instance low = twice::leaf @ core { }",
+    "machine 2; levels host, core; node h { capacity 80; node a { capacity 32; } node b { capacity 32; } }",
+);
+
+const IN_PLACE: Sources = (
+    "void task dup::inner(in int A[N], out int B[N]) {
+  twice(A, B);
+}
+void task twice::leaf(in int A[N], out int B[N]) {
+  for (int i = 0; i < N; i++) B[i] = A[i] + A[i];
+}",
+    "mapping 1; entry top(N = 3); instance top = dup::inner @ host { call twice -> low; } instance low = twice::leaf @ host { }",
+    "machine 1; level host { capacity 32; }",
+);
+
+const ALIASED: Sources = (
+    "void task fold::inner(inout int A[N]) {
+  rev(A, A);
+}
+void task rev::leaf(in int X[N], inout int Y[N]) {
+  for (int i = 0; i < N; i++) Y[i] += X[N - 1 - i];
+}",
+    "mapping 1; entry top(N = 3); instance top = fold::inner @ host { call rev -> low; } instance low = rev::leaf @ host { }",
+    "machine 1; level host { capacity 48; }",
+);
+
+const SUMMED: Sources = (
+    "void task total::inner(in int A[N], inout int S[1]) {
+  blkset Ab = rchop(A, 2);
+  mapreduce (int i = 0 to N / 2) reduce (+, S) {
+    total(Ab[i], S);
+  }
+}
+void task total::leaf(in int A[N], inout int S[1]) {
+  for (int i = 0; i < N; i++) S[0] += A[i];
+}",
+    "mapping 1; entry top(N = 4); instance top = total::inner @ host { call total -> low; } instance low = total::leaf @ core { }",
+    "machine 1; level host { capacity 32; } children 2; level core { capacity 32; }",
+);
+
+const TENS: Sources = (
+    "void task tens::inner(in int A[N], out int B[N]) {
+  blkset Ab = rchop(A, 1);
+  blkset Bb = rchop(B, 1);
+  mappar (int i = 0 to N) {
+    tens(Ab[i], Bb[i]);
+  }
+}
+void task tens::leaf(in int A[N], out int B[N]) {
+  for (int i = 0; i < N; i++) B[i] = 10 / A[i];
+}",
+    "mapping 1; entry top(N = 4); instance top = tens::inner @ host { call tens -> low; } instance low = tens::leaf @ core { }",
+    "machine 1; level host { capacity 32; } children 4; level core { capacity 32; }",
+);
+
+// Events in order, for one input.
+const TRACES: [(Sources, &'static str, &'static str); 6] = [
+    (
+        DOUBLED,
+        "1 2 3 4 5 6 7 8 9 9 9 9 9 9 9 9",
+        "fill 0.0:32 32\ncopy 0.0:0 1.0:0 16\nfill 1.0:16 16\nleaf 1.0 low\ncopy 1.0:16 0.0:32 16\ncopy 0.0:16 1.1:0 16\nfill 1.1:16 16\nleaf 1.1 low\ncopy 1.1:16 0.0:48 16\n",
+    ),
+    (NEVER, "1 2 3", "fill 0.0:16 12\n"),
+    (
+        IN_PLACE,
+        "1 2 3 0 9 9 9",
+        "fill 0.0:16 12\nfill 0.0:16 12\nleaf 0.0 low\n",
+    ),
+    (
+        ALIASED,
+        "1 2 3",
+        "copy 0.0:0 0.0:16 12\ncopy 0.0:0 0.0:32 12\nleaf 0.0 low\ncopy 0.0:32 0.0:0 12\n",
+    ),
+    (
+        SUMMED,
+        "1 2 3 4 5",
+        "copy 0.0:0 1.0:0 8\nfill 1.0:8 4\nleaf 1.0 low\nacc + 1.0:8 0.0:16 4\ncopy 0.0:8 1.1:0 8\nfill 1.1:8 4\nleaf 1.1 low\nacc + 1.1:8 0.0:16 4\n",
+    ),
+    (
+        BLOCKED,
+        "1 2 3 4 5 6 7 8 9 10",
+        "fill 0.0:40 40\ncopy 0.0:0 1.0:0 16\nfill 1.0:16 16\nleaf 1.0 low\ncopy 1.0:16 0.0:40 16\ncopy 0.0:16 1.0:0 16\nfill 1.0:16 16\nleaf 1.0 low\ncopy 1.0:16 0.0:56 16\ncopy 0.0:32 1.1:0 8\nfill 1.1:8 8\nleaf 1.1 low\ncopy 1.1:8 0.0:72 8\n",
+    ),
+];
+
+const RUNS: [(Sources, Way); 14] = [
+    (
+        DOUBLED,
+        (
+            "first",
+            "1 2 3 4 5 6 7 8 9 9 9 9 9 9 9 9",
+            "1 2 3 4 5 6 7 8 2 4 6 8 10 12 14 16",
+        ),
+    ),
+    (
+        DOUBLED,
+        (
+            "last",
+            "1 2 3 4 5 6 7 8 9 9 9 9 9 9 9 9",
+            "1 2 3 4 5 6 7 8 2 4 6 8 10 12 14 16",
+        ),
+    ),
+    (
+        RAGGED,
+        (
+            "first",
+            "1 2 3 4 5 6 7 8 9 10 3 3 3 3 3 3 3 3 3 3",
+            "1 2 3 4 5 6 7 8 9 10 2 4 6 8 10 12 14 16 18 20",
+        ),
+    ),
+    (
+        RAGGED,
+        (
+            "seed",
+            "1 2 3 4 5 6 7 8 9 10 3 3 3 3 3 3 3 3 3 3",
+            "1 2 3 4 5 6 7 8 9 10 2 4 6 8 10 12 14 16 18 20",
+        ),
+    ),
+    (
+        BLOCKED,
+        (
+            "last",
+            "1 2 3 4 5 6 7 8 9 10 3 3 3 3 3 3 3 3 3 3",
+            "1 2 3 4 5 6 7 8 9 10 2 4 6 8 10 12 14 16 18 20",
+        ),
+    ),
+    (NEVER, ("first", "1 2 3 0 7 7 7", "1 2 3 0 0 0 0")),
+    (IN_PLACE, ("first", "1 2 3 0 9 9 9", "1 2 3 0 2 4 6")),
+    (ALIASED, ("first", "1 2 3", "4 4 4")),
+    (ALIASED, ("last", "1 2 3", "4 4 4")),
+    (SUMMED, ("first", "1 2 3 4 5", "1 2 3 4 15")),
+    (SUMMED, ("last", "1 2 3 4 5", "1 2 3 4 15")),
+    (SUMMED, ("seed", "1 2 3 4 5", "1 2 3 4 15")),
+    (TENS, ("first", "1 0 2 0", "trap 1")),
+    (TENS, ("last", "1 0 2 0", "trap 1")),
+];
+
+// On this machine the program needs more than a node has: the node, its need and its capacity.
+const REFUSED: [(Sources, &'static str, (u32, u64, u64)); 4] = [
+    (
+        DOUBLED,
+        "machine 1; level host { capacity 64; } children 2; level core { capacity 31; }",
+        (1, 32, 31),
+    ),
+    (
+        IN_PLACE,
+        "machine 1; level host { capacity 31; }",
+        (0, 32, 31),
+    ),
+    (
+        ALIASED,
+        "machine 1; level host { capacity 47; }",
+        (0, 48, 47),
+    ),
+    (
+        BLOCKED,
+        "machine 2; levels host, core; node h { capacity 80; node a { capacity 32; } node b { capacity 15; } }",
+        (2, 16, 15),
+    ),
+];
+
+fn number_of(word: &str) -> i64 {
+    match word.parse::<i64>() {
+        Ok(n) => n,
+        Err(_) => 0,
+    }
+}
+
+// These ints as bytes.
+fn ints(alloc: Global, text: &str) -> Result<Vec<u8>, AllocError> {
+    let mut bytes = Vec::new(alloc);
+    for word in text.split_whitespace() {
+        let low = number_of(word).to_le_bytes();
+        bytes.extend_from_slice(&low[..4])?;
+    }
+    Ok(bytes)
+}
+
+// The plan of a program without a race.
+fn plan_of(alloc: Global, resolved: &Resolved<'_>) -> Result<Plan, StoreFault>
+    requires { IsFirstRace resolved.now None }
+    ensures { IfOk result (λ p. IsGood (leaves_of p.draft) p) }
+{
+    without_a_race();
+    compile(alloc, resolved)
+}
+
+// The plan of a program that has no race.
+fn compiled(rt: &impl Abort, alloc: Global, sources: &Sources) -> Result<Plan, StoreFault>
+    ensures { IfOk result (λ p. IsGood (leaves_of p.draft) p) }
+{
+    let machine = read_machine(alloc, sources.2.as_bytes()).expect(rt, "a machine");
+    let typed = read_program(alloc, sources.0.as_bytes()).expect(rt, "a program");
+    let mapping = read_mapping(alloc, sources.1.as_bytes(), &typed, &machine).expect(
+        rt,
+        "a mapping",
+    );
+    let resolved = resolve(alloc, &typed, &mapping, &machine).expect(rt, "forms");
+    match first_race(alloc, &resolved).expect(rt, "memory") {
+        None => plan_of(alloc, &resolved),
+        Some(_) => panic!(rt; "a race"),
+    }
+}
+
+// It, shared.
+fn planned(rt: &impl Abort, alloc: Global, sources: &Sources) -> Result<Rc<Plan>, AllocError>
+    ensures { IfOk result (λ p. IsGood (leaves_of p.value.draft) p.value) }
+{
+    match compiled(rt, alloc, sources) {
+        Ok(plan) => {
+            let plan = Rc::new(alloc, plan)?;
+            Ok(plan)
+        }
+        Err(_) => Err(AllocError),
+    }
+}
+
+fn run_by<O: Order>(
+    rt: &impl Abort,
+    alloc: Global,
+    sources: &Sources,
+    start: &str,
+    order: &mut O,
+    trace: &mut MemSink,
+) -> Result<Ran, AllocError> {
+    let start = ints(alloc, start)?;
+    let plan = planned(rt, alloc, sources)?;
+    let mut bank = RawBank::new();
+    run_on(alloc, plan, &start, &mut bank, order, true, trace)
+}
+
+// Runs a program in an order.
+fn run_in(
+    rt: &impl Abort,
+    alloc: Global,
+    sources: &Sources,
+    way: &Way,
+    trace: &mut MemSink,
+) -> Result<Ran, AllocError> {
+    if way.0 == "first" {
+        return run_by(rt, alloc, sources, way.1, &mut FirstOrder, trace);
+    }
+    if way.0 == "last" {
+        return run_by(rt, alloc, sources, way.1, &mut LastOrder, trace);
+    }
+    let mut order = SeedOrder::new(2026);
+    run_by(rt, alloc, sources, way.1, &mut order, trace)
+}
+
+// The word and the number of a trap.
+fn is_trap(kind: TrapKind, path: &[u32], wanted: &str) -> bool {
+    match (wanted.split_once(' '), path) {
+        (Some((word, iteration)), [number]) => {
+            word == "trap"
+                && number_of(iteration) == i64::from(*number)
+                && kind == TrapKind::DivZero
+        }
+        _ => false,
+    }
+}
+
+// Whether a run has ended with these ints, or with the trap of this iteration.
+fn ends_so(alloc: Global, ran: &Ran, wanted: &str) -> Result<bool, AllocError> {
+    match &ran.end {
+        Ok(()) => {
+            let root = ints(alloc, wanted)?;
+            Ok(ran.root.as_slice() == root.as_slice())
+        }
+        Err(RunEnd::Trapped { trap, path }) => Ok(is_trap(trap.kind, path.as_slice(), wanted)),
+        Err(RunEnd::SinkFault) => Ok(false),
+    }
+}
+
+#[test]
+fn plans_have_the_events_of_their_programs(rt: HostRuntime) -> Result<(), Fail> {
+    let alloc = rt.alloc();
+    for (sources, start, wanted) in TRACES {
+        let mut trace = MemSink::new(alloc, 2_000)?;
+        let ran = run_by(&rt, alloc, &sources, start, &mut FirstOrder, &mut trace)?;
+        assert!(rt; ran.end.is_ok());
+        assert_eq!(rt; trace.written(), wanted.as_bytes());
+    }
+    Ok(())
+}
+
+#[test]
+fn runs_end_as_the_program_means_in_each_order(rt: HostRuntime) -> Result<(), Fail> {
+    let alloc = rt.alloc();
+    for (sources, way) in RUNS {
+        let mut trace = MemSink::new(alloc, 4_000)?;
+        let ran = run_in(&rt, alloc, &sources, &way, &mut trace)?;
+        assert!(rt; ends_so(alloc, &ran, way.2)?);
+    }
+    Ok(())
+}
+
+fn lacks(rt: &impl Abort, alloc: Global, sources: &Sources, wanted: (u32, u64, u64)) -> bool {
+    match compiled(rt, alloc, sources) {
+        Err(
+            StoreFault::Capacity {
+                node,
+                need,
+                capacity,
+            },
+        ) => node == wanted.0 && need == wanted.1 && capacity == wanted.2,
+        _ => false,
+    }
+}
+
+#[test]
+fn what_has_no_room_is_refused_with_its_node(rt: HostRuntime) -> Result<(), Fail> {
+    let alloc = rt.alloc();
+    for (sources, machine, wanted) in REFUSED {
+        let sources = (sources.0, sources.1, machine);
+        assert!(rt; lacks(&rt, alloc, &sources, wanted));
+    }
+    Ok(())
+}
