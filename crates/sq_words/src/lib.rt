@@ -1,0 +1,11 @@
+//! The command lines of the tool.
+#![tactic(auto)]
+
+mod options;
+mod seeds;
+#[cfg(test)]
+mod tests;
+mod words;
+
+pub use options::Way;
+pub use words::{Check, Command, Eval, Fmt, Kind, Run, parse};
