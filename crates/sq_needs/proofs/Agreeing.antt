@@ -1,4 +1,4 @@
--- What a node needs is the sum at it.
+-- What a node needs is the sum at it, and the sum is what it needs.
 use Rattle.std.proofs.Common.{◌≡◌, ℕ, zero, suc, ◌+◌, ◌<◌, ◌≤◌, ◌==◌, ◌⊎◌, inl, inr, max, Bool, true, false, List, [], ◌∷◌}
 use Rattle.std.proofs.Common.{map, length, slice_get, Option, Some, None, refl, sym, ap, ap₂, subst, ◌∙◌, arith}
 use Rattle.std.specs.List.{range_with_len}
@@ -21,7 +21,7 @@ use Rattle.sq_homes_laws.proofs.Standing.{map_length}
 use Rattle.sq_needs.specs.Begun.{Begun, calls_of}
 use Rattle.sq_needs.specs.Listed.{IsListed}
 use Rattle.sq_needs.specs.Sums.{child_in, greatest, here, worth, table_sum}
-use Rattle.sq_needs.specs.Needed.{NeedsAreSums}
+use Rattle.sq_needs.specs.Needed.{NeedsAreSums, SumsAreNeeds}
 use Rattle.sq_needs.proofs.Drafts.{sums_are_of_calls}
 use Rattle.sq_needs.proofs.ListedForms.{calls_are_listed}
 use Rattle.sq_needs.proofs.Sizes.{in_place_is_simple}
@@ -193,3 +193,9 @@ needs_are_sums r w limits d is node need h =
     need_is_one r.typed.now.tasks r.mapping.now.instances r.machine.now.nodes r.forms node need
     (table_sum r (choices r w limits node) (memories r w limits node) node) h (whole_is_need r w limits node)
     ∙ sym (sums_are_of_calls r (choices r w limits node) (in_place_is_simple r) d is (memories r w limits node) node)
+
+pub sums_are_needs : SumsAreNeeds
+sums_are_needs r w limits d is node =
+    subst (λ (n : ℕ). Needs r.typed.now.tasks r.mapping.now.instances r.machine.now.nodes r.forms node n)
+    (sym (sums_are_of_calls r (choices r w limits node) (in_place_is_simple r) d is (memories r w limits node) node))
+    (whole_is_need r w limits node)

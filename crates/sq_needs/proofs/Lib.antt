@@ -10,3 +10,5 @@ pub mod Sizes
 pub mod Ends
 pub mod Reach
 pub mod Agreeing
+pub mod Few
+pub mod Small

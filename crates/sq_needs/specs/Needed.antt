@@ -1,5 +1,5 @@
 -- The two definitions of what a node needs agree.
-use Rattle.std.specs.Prelude.{◌≡◌, ℕ, map}
+use Rattle.std.specs.Prelude.{◌≡◌, ℕ, ◌≤◌, ◌^◌, map}
 use Rattle.sq_machfile.specs.Machines.{WithinLimits}
 use Rattle.sq_ir.specs.declared.plan.Draft.{Draft}
 use Rattle.sq_spec.specs.declared.resolved.Resolved.{Resolved}
@@ -17,3 +17,16 @@ NeedsAreSums = (r : Resolved) → Walked r → WithinLimits r.machine.now → (d
     → (node need : ℕ)
     → Needs r.typed.now.tasks r.mapping.now.instances r.machine.now.nodes r.forms node need
     → need ≡ nested_sum d (map plan_node r.machine.now.nodes) node
+
+-- And that sum is what the node needs: no form that runs at it ends beyond the sum, and where the sum isn't 0 one ends
+-- just there.
+abbrev pub SumsAreNeeds : Type 0
+SumsAreNeeds = (r : Resolved) → Walked r → WithinLimits r.machine.now → (d : Draft) → IsDraftOf r (all_in_place r) d
+    → (node : ℕ)
+    → Needs r.typed.now.tasks r.mapping.now.instances r.machine.now.nodes r.forms node
+    (nested_sum d (map plan_node r.machine.now.nodes) node)
+
+-- A need is far below 2^64, whatever the node: at most 4,096 forms, of each at most 32 arrays of at most 2^26 elements.
+abbrev pub NeedsAreSmall : Type 0
+NeedsAreSmall = (r : Resolved) → Walked r → (node need : ℕ)
+    → Needs r.typed.now.tasks r.mapping.now.instances r.machine.now.nodes r.forms node need → need ≤ 2 ^ 48
