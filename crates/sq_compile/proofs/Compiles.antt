@@ -1,19 +1,23 @@
 -- What placing the program's draft answers, in words of the program.
-use Rattle.std.proofs.Common.{◌≡◌, List, subst, sym}
+use Rattle.std.proofs.Common.{◌≡◌, List, [], ap, ◌∙◌, subst, sym}
 use Rattle.std.specs.Prelude.{Result, Ok, Err, IfOk, IfErr}
 use Rattle.sq_ir.specs.declared.plan.Draft.{Draft}
 use Rattle.sq_ir.specs.declared.plan.Plan.{Plan}
 use Rattle.sq_ir.specs.declared.plan.PlanNode.{PlanNode}
-use Rattle.sq_nests.specs.Drafts.{IsPlaceable}
+use Rattle.sq_machfile.specs.Machines.{WithinLimits}
+use Rattle.sq_nests.specs.Drafts.{IsPlaceable, HasSpace}
 use Rattle.sq_store.specs.declared.fitting.StoreFault.{StoreFault}
 use Rattle.sq_store.specs.declared.fitting.StoreFault.TheVariants.{Capacity, NoMemory}
 use Rattle.sq_store.specs.Place.{IsPlaced, IsRefusal, IsOver}
 use Rattle.sq_spec.specs.declared.resolved.Resolved.{Resolved}
 use Rattle.sq_homes.specs.Drafts.{IsDraftOf}
-use Rattle.sq_homes_laws.specs.Simple.{AreMemories}
+use Rattle.sq_homes_laws.specs.Simple.{AreMemories, Walked}
 use Rattle.sq_elim.specs.Choices.{all_in_place}
+use Rattle.sq_needs.specs.Needed.{NeedsAreSums, SumsAreNeeds, NeedsAreSmall}
 use Rattle.sq_plan_good.specs.Good.{HasNoRace, IsGoodFor, DraftsCanBePlaced, PlacedAreGood}
-use Rattle.sq_compile.specs.Compiled.{memories_of, IsRefusedFor}
+use Rattle.sq_compile.specs.Capacity.{NoneLacks}
+use Rattle.sq_compile.specs.Compiled.{memories_of, IsPlacedFor, IsRefusedFor}
+use Rattle.sq_compile.proofs.Lacking.{none_lacks, first_lack}
 use Rattle.sq_compile.proofs.Simple.{in_place_is_simple}
 
 module _ (can : DraftsCanBePlaced) (r : Resolved) (d : Draft) (its : IsDraftOf r (all_in_place r) d)
@@ -28,12 +32,38 @@ module _ (can : DraftsCanBePlaced) (r : Resolved) (d : Draft) (its : IsDraftOf r
       (law r race_free (all_in_place r) (in_place_is_simple r) d its nodes memories p (h placeable))
   good law (Err fault) h = tt
 
-  refused : (fault : StoreFault) → IsRefusal d nodes fault → IsRefusedFor r fault
-  refused (Capacity node need capacity) h =
-      record { draft = d; its = its; over = subst (λ (ns : List PlanNode). IsOver d ns node need capacity) are h }
-  refused NoMemory h = tt
+  -- a placed plan, by its own draft
+  of_plan : d.notes ≡ [] → (p : Plan) → IsPlaced d nodes p → IsPlacedFor r p
+  of_plan none p h =
+      let own : p.draft ≡ d = ap (λ (q : Plan). q.draft) h.is in
+      record {
+        its = subst (IsDraftOf r (all_in_place r)) (sym own) its;
+        notes = ap (λ (x : Draft). x.notes) own ∙ none;
+        placed = subst (λ (x : Draft). IsPlaced x (memories_of r) p) (sym own)
+            (subst (λ (ns : List PlanNode). IsPlaced d ns p) are h);
+      }
 
-  pub over : (result : Result Plan StoreFault)
-      → IfErr result (λ fault. IsPlaceable d nodes → IsRefusal d nodes fault) → IfErr result (λ fault. IsRefusedFor r fault)
-  over (Ok p) h = tt
-  over (Err fault) h = refused fault (h placeable)
+  pub placed : d.notes ≡ [] → (result : Result Plan StoreFault)
+      → IfOk result (λ plan. IsPlaceable d nodes → IsPlaced d nodes plan) → IfOk result (λ p. IsPlacedFor r p)
+  placed none (Ok p) h = of_plan none p (h placeable)
+  placed none (Err fault) h = tt
+
+  -- what nodes need by the forms that run at them
+  module _ (agree : NeedsAreSums) (sums : SumsAreNeeds) (small : NeedsAreSmall) (w : Walked r)
+      (limits : WithinLimits r.machine.now) where
+    pub fits : (result : Result Plan StoreFault) → IfOk result (λ plan. IsPlaceable d nodes → IsPlaced d nodes plan)
+        → IfOk result (λ p. NoneLacks r)
+    fits (Ok p) h = none_lacks agree sums small r w limits d its
+        (subst (HasSpace d) are (h placeable).space)
+    fits (Err fault) h = tt
+
+    refused : (fault : StoreFault) → IsRefusal d nodes fault → IsRefusedFor r fault
+    refused (Capacity node need capacity) h =
+        first_lack agree sums small r w limits d its node need capacity
+        (subst (λ (ns : List PlanNode). IsOver d ns node need capacity) are h)
+    refused NoMemory h = tt
+
+    pub over : (result : Result Plan StoreFault)
+        → IfErr result (λ fault. IsPlaceable d nodes → IsRefusal d nodes fault) → IfErr result (λ fault. IsRefusedFor r fault)
+    over (Ok p) h = tt
+    over (Err fault) h = refused fault (h placeable)

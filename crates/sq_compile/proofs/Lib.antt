@@ -1,2 +1,4 @@
 pub mod Simple
+pub mod Lacking
+pub mod Told
 pub mod Compiles

@@ -1,6 +1,7 @@
 //! The nodes of a machine as the memories of a plan.
 
 ghost use Rattle.std.specs.Prelude.{◌≡◌, map, IfOk};
+ghost use Rattle.sq_machfile.specs.Machines.{WithinLimits};
 ghost use Rattle.sq_homes_laws.specs.Simple.{AreMemories};
 ghost use Rattle.sq_draft_laws.specs.Memories as spec;
 
@@ -32,10 +33,11 @@ fn all_nodes(alloc: Global, nodes: &[Node]) -> Result<PlanNodes, AllocError>
     Ok(out)
 }
 
-/// The memories of a machine, level by level, and in each level from the left.
+/// The memories of a machine, which is within the limits, level by level, and in each level from the left.
 pub fn plan_nodes(alloc: Global, machine: &Machine) -> Result<PlanNodes, AllocError>
     ensures nodes { IfOk result (λ ns. ns ≡ map spec.plan_node machine.now.nodes) }
     ensures memories { IfOk result (λ ns. AreMemories machine.now.levels ns) }
+    ensures limits { WithinLimits machine.now }
 {
     nodes_are_memories();
     all_nodes(alloc, machine.tree())

@@ -1,16 +1,20 @@
 //! Compiling: the passes one after another, and then the places of buffers.
 
-ghost use Rattle.std.specs.Prelude.{◌≡◌, IfOk, IfErr};
+ghost use Rattle.std.specs.Prelude.{◌≡◌, [], IfOk, IfErr};
+ghost use Rattle.sq_machfile.specs.Machines.{WithinLimits};
 ghost use Rattle.sq_elim.specs.Choices.{all_in_place};
 ghost use Rattle.sq_homes.specs.Drafts.{IsDraftOf};
 ghost use Rattle.sq_homes_laws.specs.Simple.{AreMemories};
 ghost use Rattle.sq_plan_good.specs.Good.{HasNoRace, IsGoodFor};
-ghost use Rattle.sq_compile.specs.Compiled.{memories_of, IsRefusedFor};
+ghost use Rattle.sq_compile.specs.Capacity.{NoneLacks};
+ghost use Rattle.sq_compile.specs.Compiled.{memories_of, IsPlacedFor, IsRefusedFor};
 
 use crate::memories::plan_nodes;
+use sq_draft_laws::laws::resolved_programs_were_walked;
 use sq_elim::drop_copies;
 use sq_ir::{Draft, Plan, PlanNodes};
 use sq_lower::lower;
+use sq_needs::{needs_are_small, needs_are_sums, sums_are_needs};
 use sq_plan_good::{simple_drafts_can_be_placed, simple_plans_are_good};
 use sq_spec::Resolved;
 use sq_store::{StoreFault, place};
@@ -18,7 +22,8 @@ use std::alloc::{AllocError, Global};
 
 // The draft after all passes.
 fn passed(alloc: Global, r: &Resolved<'_>) -> Result<Draft, AllocError>
-    ensures { IfOk result (λ d. IsDraftOf r.now (all_in_place r.now) d) }
+    ensures its { IfOk result (λ d. IsDraftOf r.now (all_in_place r.now) d) }
+    ensures notes { IfOk result (λ d. d.notes ≡ []) }
 {
     let lowered = lower(alloc, r)?;
     let dropped = drop_copies(alloc, r, lowered)?;
@@ -29,6 +34,7 @@ fn passed(alloc: Global, r: &Resolved<'_>) -> Result<Draft, AllocError>
 fn memories(alloc: Global, r: &Resolved<'_>) -> Result<PlanNodes, AllocError>
     ensures nodes { IfOk result (λ nodes. nodes ≡ memories_of r.now) }
     ensures memories { IfOk result (λ nodes. AreMemories r.now.machine.now.levels nodes) }
+    ensures limits { WithinLimits r.now.machine.now }
 {
     plan_nodes(alloc, r.machine())
 }
@@ -41,24 +47,35 @@ fn placed(
     nodes: PlanNodes,
 ) -> Result<Plan, StoreFault>
     requires its { IsDraftOf r.now (all_in_place r.now) draft }
+    requires notes { draft.notes ≡ [] }
     requires nodes { nodes ≡ memories_of r.now }
     requires memories { AreMemories r.now.machine.now.levels nodes }
+    requires limits { WithinLimits r.now.machine.now }
     ensures good { IfOk result (λ p. HasNoRace r.now
         → IsGoodFor r.now (all_in_place r.now) (memories_of r.now) p) }
+    ensures placed { IfOk result (λ p. IsPlacedFor r.now p) }
+    ensures fits { IfOk result (λ p. NoneLacks r.now) }
     ensures over { IfErr result (λ fault. IsRefusedFor r.now fault) }
 {
+    resolved_programs_were_walked();
     simple_drafts_can_be_placed();
     simple_plans_are_good();
+    needs_are_sums();
+    sums_are_needs();
+    needs_are_small();
     place(alloc, draft, nodes)
 }
 
-/// The plan of a program on its machine, after all passes. Without a race it is good for the program: well formed, with
-/// unordered events independent, room for its live buffers in each state, the machine's memories, a run under picks 0
-/// that ends from every input as the program means, and one leaf call for each of the program's. Refused exactly where
-/// the buffers whose scopes stand within one another need more bytes at a node than it has.
+/// The plan of a program on its machine, after all passes: the draft of `drop_copies`, with no note, in the machine's
+/// memories, its buffers stacked. Without a race it is good for the program: well formed, with unordered events
+/// independent, room for its live buffers in each state, a run under picks 0 that ends from every input as the program
+/// means, and one leaf call for each of the program's. Refused exactly where the forms that run at a node need more bytes
+/// there than it has.
 pub fn compile(alloc: Global, r: &Resolved<'_>) -> Result<Plan, StoreFault>
     ensures good { IfOk result (λ p. HasNoRace r.now
         → IsGoodFor r.now (all_in_place r.now) (memories_of r.now) p) }
+    ensures placed { IfOk result (λ p. IsPlacedFor r.now p) }
+    ensures fits { IfOk result (λ p. NoneLacks r.now) }
     ensures over { IfErr result (λ fault. IsRefusedFor r.now fault) }
 {
     match memories(alloc, r) {
