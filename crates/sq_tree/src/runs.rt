@@ -1,5 +1,5 @@
 //! The run of a plan on a bank, in the order that is asked.
-ghost use Rattle.std.specs.Prelude.{◌≡◌, ◌<◌, if◌then◌else◌, None, Some, Ok, true, false, []};
+ghost use Rattle.std.specs.Prelude.{◌≡◌, ◌<◌, ◌≤◌, if◌then◌else◌, None, Some, Ok, true, false, []};
 ghost use Rattle.sq_port.specs.Ports.{Wrote};
 ghost use Rattle.sq_port.specs.Lines.{nothing_gathered};
 ghost use Rattle.sq_tree.specs.Trace.{event_line};
@@ -132,6 +132,7 @@ fn put_traced<S: Sink>(
         (S.faults trace.new) (event_line plan.now (seen event.now)) result }
     ensures unasked { traced ≡ false → (trace.new ≡ trace.old) × (result ≡ Ok tt) }
     ensures empty { line.new ≡ record { held = []; put = result } }
+    ensures later { S.faults trace.old ≤ S.faults trace.new }
 {
     if traced {
         put_line(line, trace, plan, event)
@@ -175,6 +176,7 @@ pub fn run<B: Bank, O: Order, S: Sink>(
     ensures room { KeepsRoom ctl.old.plan (bytes_in (B.seen bank.old).nodes) }
     ensures untraced { traced ≡ false → (trace.new ≡ trace.old) × (is_stopped result ≡ false) }
     ensures plan { ctl.new.plan ≡ ctl.old.plan }
+    ensures later { S.faults trace.old ≤ S.faults trace.new }
 {
     let mut line = Line::new();
     let mut event = Event::untold();
