@@ -1,0 +1,4 @@
+mod Parts
+mod Fitting
+mod Keeping
+mod Picking
