@@ -3,13 +3,14 @@ use Rattle.std.proofs.Common.{◌≡◌, ℕ, Option, Some, None, Result, Ok, Er
 use Rattle.sq_port.proofs.Gained.{gains_nothing}
 use Rattle.sq_cli.specs.declared.status.Status.{Status}
 use Rattle.sq_cli.specs.declared.end.End.{End}
-use Rattle.sq_cli.specs.declared.end.End.TheVariants.{Usage, Absent, FileFault, Refused, Trapped, NoMemory, SinkFault}
-use Rattle.sq_words.specs.Words.{Command}
+use Rattle.sq_cli.specs.declared.end.End.TheVariants.{Usage, Absent, FileFault, NotYet, Refused, Trapped, NoMemory, SinkFault}
+use Rattle.sq_cli.specs.Words.{Command}
 use Rattle.sq_cli.specs.Ends.{ending, FileCauses}
+use Rattle.sq_cli.specs.Small.{not_yet, fault}
 use Rattle.sq_cli.specs.Meaning.{Answer, done, refused, trapped, usage, file_fault, no_memory, absent}
 use Rattle.sq_cli.specs.Banks.{Writing, whole, cut_out, cut_err}
 use Rattle.sq_cli.specs.Outcome.{IsDone, HasEvents, IsEndOf, Outside, Puts, ResultFor, Ended, trace_for}
-use Rattle.sq_tree.specs.Bank.{BankSeen}
+use Rattle.sq_small.specs.Bank.{BankSeen}
 use Rattle.sq_cli.specs.Top.{BankOf, FilesFor, Executed, Finished, Answered}
 
 pub executed_of : (command : Option Command) (its : Command) (old now : Outside) (result : Result (Unit {0}) End) → command ≡ Some its → Ended its old now result → Executed command old now result
@@ -31,7 +32,7 @@ module _ (f f2 m m2 : ℕ) where
   -- an answer behind events is about no file
   events_files : (answer : Answer) → HasEvents answer → (f2 ≡ f) × (m2 ≡ m) → FilesFor answer f f2 m m2
   events_files (done out trace) has same = same
-  events_files (refused phase its) has same = absurd has
+  events_files (refused phase refusal) has same = absurd has
   events_files (trapped trap trace) has same = same
   events_files usage has same = absurd has
   events_files (file_fault phase name) has same = absurd has
@@ -40,7 +41,7 @@ module _ (f f2 m m2 : ℕ) where
 
   done_events : (answer : Answer) → IsDone answer → HasEvents answer
   done_events (done out trace) its = tt
-  done_events (refused phase fault) its = absurd its
+  done_events (refused phase refusal) its = absurd its
   done_events (trapped trap trace) its = absurd its
   done_events usage its = absurd its
   done_events (file_fault phase name) its = absurd its
@@ -54,7 +55,8 @@ module _ (f f2 m m2 : ℕ) where
   end_files answer Usage is causes = at_answer answer usage is (causes.quiet tt)
   end_files answer (Absent name) is causes = at_answer answer (absent is.0 name.now) is.1 (causes.absent refl)
   end_files answer (FileFault name) is causes = at_answer answer (file_fault is.0 name.now) is.1 (causes.fault refl)
-  end_files answer (Refused its) is causes = at_answer answer (refused is.0 its) is.1 (causes.quiet tt)
+  end_files answer (NotYet phase) is causes = at_answer answer (refused phase not_yet) is (causes.quiet tt)
+  end_files answer (Refused its) is causes = at_answer answer (refused is.0 (fault its)) is.1 (causes.quiet tt)
   end_files answer (Trapped trap) is causes = at_answer answer (trapped trap is.0) is.1 (causes.quiet tt)
   end_files answer NoMemory is causes = at_answer answer no_memory is (causes.quiet tt)
   end_files answer SinkFault is causes = absurd is

@@ -12,7 +12,6 @@ use Rattle.sq_text.specs.declared.fault.Fault.{Fault}
 use Rattle.sq_ast.specs.declared.program.Param.{Param}
 use Rattle.sq_arrays.specs.Arrays.{Wanted, arrays_of, size_of, AreValuesOf}
 use Rattle.sq_arrays.specs.Targets.{GivesArrays, Refuses, name_at, HasRoom, cells_of}
-use Rattle.sq_arrays.specs.Causes.{IsThereUnlessFailed}
 use Rattle.sq_arrays.specs.Window.{IsTold, IsThere}
 use Rattle.sq_arrays.specs.declared.refusal.ArraysEnd.{ArraysEnd}
 use Rattle.sq_arrays.specs.declared.refusal.InputCode.{InputCode}
@@ -26,39 +25,13 @@ use Rattle.sq_spec.specs.declared.resolved.Resolved.{Resolved}
 use Rattle.sq_flat.specs.Memory as memory
 use Rattle.sq_flat.specs.Held.{Stored, zero_bytes}
 use Rattle.sq_cli.specs.Data.{code_for, args_for, data_fault}
+use Rattle.sq_cli.specs.Small.{Refusal as Why, not_yet, fault}
 use Rattle.sq_cli.specs.declared.end.End.{End}
 use Rattle.sq_cli.specs.declared.end.End.TheVariants as end
 use Rattle.sq_cli.specs.Entry.{params_of, want_of, wants_of, start_of}
-use Rattle.sq_cli.specs.Givens.{Given, Extents, read_wants}
-use Rattle.sq_cli.specs.Picking.{picked, unpicked, KeepsOthers, Unfit, IsFilled, ReadsData, AreGiven, IsUnfit, ReadsGiven}
+use Rattle.sq_cli.specs.Picking.{picked, unpicked, KeepsOthers, Given, Unfit, IsFilled, ReadsData, Extents, read_wants, AreGiven, IsUnfit, ReadsGiven}
 use Rattle.sq_cli.proofs.Entries.{entry_small, wants_small}
 use Rattle.sq_cli.proofs.Starts.{starts}
-
--- an end that is written out
-pub there_at : (told : Option Content) (name : List ℕ) (end : InputEnd) (code : InputCode) (place : Place) → end ≡ Refused code place → IsThereUnlessFailed {T = Unit {0}} told name (Err end) → IsThere told name
-there_at told name end code place is there = subst (λ (e : InputEnd). IsThereUnlessFailed {T = Unit {0}} told name (Err e)) is there
-
-module _ (ws : List Wanted) (told : Option Content) (name : List ℕ) (arrays : List (List ℕ)) (result : Result (Unit {0}) ArraysEnd)
-    (gives : (bytes : List ℕ) → IsTold told name bytes → GivesArrays ws arrays result (arrays_of ws bytes)) (there : IsThere told name) where
-  pub given_values : (value : Unit {0}) → result ≡ Ok value → (c : Content) → told ≡ Some c → Given ws (c name) arrays
-  given_values value ok c is =
-      let file = there.there c is in
-      let found = subst (λ (r : Result (Unit {0}) ArraysEnd). GivesArrays ws arrays r (arrays_of ws file.0)) ok (gives file.0 (record { content = c; is = is; there = file.1 })) in
-      record { bytes = file.0; there = file.1; values = found.0; read = found.1; are = found.2 }
-
-  pub unfit : (ended : ArraysEnd) (end : InputEnd) (code : InputCode) (place : Place) (that : Code) (args : List Arg) → result ≡ Err ended → ended.end ≡ end → end ≡ Refused code place
-      → that ≡ code_for code → args ≡ args_for (name_at ws ended.array)
-      → (c : Content) → told ≡ Some c → Unfit ws (c name) (record { phase = Input; code = that; place = Some place; args = args })
-  unfit ended end code place that args ends its_end refused same are c is =
-      let file = there.there c is in
-      let err = subst (λ (r : Result (Unit {0}) ArraysEnd). GivesArrays ws arrays r (arrays_of ws file.0)) ends (gives file.0 (record { content = c; is = is; there = file.1 })) in
-      record {
-        bytes = file.0;
-        there = file.1;
-        found = record { code = code; place = place; name = name_at ws ended.array };
-        read = subst (λ (e : InputEnd). Refuses ws ended.array e (arrays_of ws file.0)) (its_end ∙ refused) err;
-        is = ap (λ (k : Code). record { phase = Input; code = k; place = Some place; args = args }) same ∙ ap (λ (a : List Arg). record { phase = Input; code = code_for code; place = Some place; args = a }) are;
-      }
 
 module _ (params : List Param) (ws : List Wanted) (told : Option Content) (name : List ℕ) (old : Stored) where
   pub filled : (now_params : List Param) (now : Stored) (result : Result (Unit {0}) ArraysEnd) (value : Unit {0}) → result ≡ Ok value → KeepsOthers params now_params old now → IsThere told name
@@ -68,9 +41,30 @@ module _ (params : List Param) (ws : List Wanted) (told : Option Content) (name 
     count = keeps.count;
     others = keeps.others;
     read = λ c is.
-        subst (λ (ps : List Param). Given ws (c name) (picked ps now.bytes)) keeps.params_is
-        (given_values ws told name (picked now_params now.bytes) result gives there value ok c is);
+        let file = there.there c is in
+        let found = subst (λ (r : Result (Unit {0}) ArraysEnd). GivesArrays ws (picked now_params now.bytes) r (arrays_of ws file.0)) ok (gives file.0 (record { content = c; is = is; there = file.1 })) in
+        record {
+          bytes = file.0;
+          there = file.1;
+          values = found.0;
+          read = found.1;
+          are = ap (λ (ps : List Param). picked ps now.bytes) (sym keeps.params_is) ∙ found.2;
+        };
   }
+
+  pub unfit : (arrays : List (List ℕ)) (result : Result (Unit {0}) ArraysEnd) (ended : ArraysEnd) (end : InputEnd) (code : InputCode) (place : Place) (that : Code) (args : List Arg) → result ≡ Err ended → ended.end ≡ end → end ≡ Refused code place → IsThere told name
+      → that ≡ code_for code → args ≡ args_for (name_at ws ended.array) → ((bytes : List ℕ) → IsTold told name bytes → GivesArrays ws arrays result (arrays_of ws bytes))
+      → (c : Content) → told ≡ Some c → Unfit ws (c name) (record { phase = Input; code = that; place = Some place; args = args })
+  unfit arrays result ended end code place that args ends its_end refused there same are gives c is =
+      let file = there.there c is in
+      let err = subst (λ (r : Result (Unit {0}) ArraysEnd). GivesArrays ws arrays r (arrays_of ws file.0)) ends (gives file.0 (record { content = c; is = is; there = file.1 })) in
+      record {
+        bytes = file.0;
+        there = file.1;
+        found = record { code = code; place = place; name = name_at ws ended.array };
+        read = subst (λ (e : InputEnd). Refuses ws ended.array e (arrays_of ws file.0)) (its_end ∙ refused) err;
+        is = ap (λ (k : Code). record { phase = Input; code = k; place = Some place; args = args }) same ∙ ap (λ (a : List Arg). record { phase = Input; code = code_for code; place = Some place; args = a }) are;
+      }
 
 -- ---- room for the data
 
@@ -140,6 +134,7 @@ module _ (r : Resolved) (its : Extents r) (told : Option Content) (name : List �
   reads_given (Err end.Usage) stops = stops
   reads_given (Err (end.Absent at)) stops = stops
   reads_given (Err (end.FileFault at)) stops = stops
+  reads_given (Err (end.NotYet at)) stops = stops
   reads_given (Err (end.Refused f)) stops = λ c is. unfit_given c f (stops c is)
   reads_given (Err (end.Trapped trap)) stops = stops
   reads_given (Err end.NoMemory) stops = stops

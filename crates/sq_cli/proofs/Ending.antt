@@ -2,8 +2,8 @@
 use Rattle.std.proofs.Common.{◌≡◌, ◌≤◌, ℕ, List, [], Result, Ok, Err, refl}
 use Rattle.sq_port.specs.Ports.{Gains, GainsPrefix, Rose}
 use Rattle.sq_cli.specs.declared.end.End.{End}
-use Rattle.sq_cli.specs.declared.end.End.TheVariants.{Usage, Absent, FileFault, Refused, Trapped, NoMemory, SinkFault}
-use Rattle.sq_words.specs.Words.{Command}
+use Rattle.sq_cli.specs.declared.end.End.TheVariants.{Usage, Absent, FileFault, NotYet, Refused, Trapped, NoMemory, SinkFault}
+use Rattle.sq_cli.specs.Words.{Command}
 use Rattle.sq_cli.specs.Meaning.{done, Means}
 use Rattle.sq_cli.specs.Banks.{whole, cut_out, BankAfter}
 use Rattle.sq_cli.specs.Outcome.{Outside, Ended}
@@ -38,6 +38,7 @@ module _ (command : Command) (old now : Outside) (text : List ℕ) (means : Mean
   out_ends (Err Usage) wrote after cut = absurd wrote
   out_ends (Err (Absent name)) wrote after cut = absurd wrote
   out_ends (Err (FileFault name)) wrote after cut = absurd wrote
+  out_ends (Err (NotYet phase)) wrote after cut = absurd wrote
   out_ends (Err (Refused its)) wrote after cut = absurd wrote
   out_ends (Err (Trapped trap)) wrote after cut = absurd wrote
   out_ends (Err NoMemory) wrote after cut = absurd wrote

@@ -139,7 +139,7 @@ small_at [] i small = one_few
 small_at (ds ∷ extents) zero small = small 0 ds (omega arith)
 small_at (ds ∷ extents) (suc i) small = small_at extents i (λ k d below. small (suc k) d (omega (arith, below)))
 
-pub size_small : (e : Elem) (n : ℕ) → n ≤ most_elements → n * width e < 2 ^ 64
+size_small : (e : Elem) (n : ℕ) → n ≤ most_elements → n * width e < 2 ^ 64
 unfolding most_elements
 size_small Byte n few = omega (arith, few)
 size_small Int n few = omega (arith, few)

@@ -25,15 +25,15 @@ use Rattle.sq_flat.specs.Held.{Stored, Holds, AreWhole, entry_shapes, extents_in
 use Rattle.sq_flat.specs.declared.flat.FlatEnd.TheVariants.{Trap as FlatTrap}
 use Rattle.sq_flat.specs.declared.flat.Trapped.{Trapped as FlatTrapped}
 use Rattle.sq_leaf.specs.declared.trap.Trap.{Trap as LeafTrap}
-use Rattle.sq_tree.specs.Bank.{BankSeen}
-use Rattle.sq_words.specs.declared.words.Kind.TheVariants.{Eval}
+use Rattle.sq_small.specs.Bank.{BankSeen}
+use Rattle.sq_cli.specs.declared.words.Kind.TheVariants.{Eval}
 use Rattle.sq_cli.specs.declared.trap.Trap.{Trap}
 use Rattle.sq_cli.specs.declared.end.End.{End}
-use Rattle.sq_cli.specs.declared.end.End.TheVariants.{Usage, Absent, FileFault, Refused, Trapped, NoMemory, SinkFault}
+use Rattle.sq_cli.specs.declared.end.End.TheVariants.{Usage, Absent, FileFault, NotYet, Refused, Trapped, NoMemory, SinkFault}
 use Rattle.sq_cli.specs.declared.status.Status.{Status}
 use Rattle.sq_cli.specs.declared.status.Status.TheVariants.{Done}
 use Rattle.sq_cli.specs.Ends.{FileCauses}
-use Rattle.sq_words.specs.Words.{eval_of}
+use Rattle.sq_cli.specs.Words.{eval_of}
 use Rattle.sq_cli.specs.Programs.{IsFirstTypeFault}
 use Rattle.sq_cli.specs.Races.{IsResolved, IsFirstRaceFault}
 use Rattle.sq_cli.specs.Entry.{params_of, start_of}
@@ -103,7 +103,7 @@ causes_after f g h m n o status first then_ =
 
 module _ (p m k d : List ℕ) (told : Option Content) (out : Option (List ℕ)) (faults : ℕ) where
   pub sources_end : (end : End) → StopsSources told p m k end → Evaluates (eval_of p m k d) told out out faults faults (Err end)
-  sources_end end stopped = stops (eval_of p m k d) told out faults end (λ bank. stopped (eval_of p m k d) reads_eval bank)
+  sources_end end stopped = stops (eval_of p m k d) told out faults end (λ bank. stopped Eval reads_eval (Some d) bank)
 
   module _ (r : Resolved) (are : IsResolved r.typed.now r.machine.now r.mapping.now r) (held : HoldsSources told p m k r.typed.now r.machine.now r.mapping.now) where
     module _ (free : IsFirstRace r None) where
@@ -158,6 +158,7 @@ module _ (p m k d : List ℕ) (told : Option Content) (r : Resolved) (are : IsRe
     written (Err Usage) wrote = absurd wrote
     written (Err (Absent name)) wrote = absurd wrote
     written (Err (FileFault name)) wrote = absurd wrote
+    written (Err (NotYet phase)) wrote = absurd wrote
     written (Err (Refused its)) wrote = absurd wrote
     written (Err (Trapped trap)) wrote = absurd wrote
     written (Err NoMemory) wrote = absurd wrote
@@ -169,7 +170,7 @@ module _ (p m k d : List ℕ) (told : Option Content) (r : Resolved) (are : IsRe
     means = record {
       names = tt;
       cause = λ c is.
-          let at = one (eval_of p m k d) reads_eval p m k told c is in
+          let at = one Eval reads_eval p m k (Some d) told c is in
           let given = reads c at in
           traps p m k d told r are held free c at arrays given trap (flat r.typed.now r.mapping.now (start_of (params_of r.typed.now r.mapping.now) 0 given.its.extents given.values)) refl
           (ends (start_of (params_of r.typed.now r.mapping.now) 0 given.its.extents given.values) given.holds);
@@ -183,6 +184,7 @@ module _ (p m k d : List ℕ) (told : Option Content) (r : Resolved) (are : IsRe
   run_ends out faults Usage ends = absurd (ends (shown arrays.shapes arrays.bytes) (holds_shown arrays.shapes arrays.bytes))
   run_ends out faults (Absent name) ends = absurd (ends (shown arrays.shapes arrays.bytes) (holds_shown arrays.shapes arrays.bytes))
   run_ends out faults (FileFault name) ends = absurd (ends (shown arrays.shapes arrays.bytes) (holds_shown arrays.shapes arrays.bytes))
+  run_ends out faults (NotYet phase) ends = absurd (ends (shown arrays.shapes arrays.bytes) (holds_shown arrays.shapes arrays.bytes))
   run_ends out faults (Refused its) ends = absurd (ends (shown arrays.shapes arrays.bytes) (holds_shown arrays.shapes arrays.bytes))
   run_ends out faults (Trapped trap) ends = stops (eval_of p m k d) told out faults (Trapped trap) (trap_stops trap ends)
   run_ends out faults NoMemory ends = no_memory (eval_of p m k d) told out faults

@@ -1,17 +1,17 @@
 -- The line that names an answer.
-use Rattle.std.proofs.Common.{◌≡◌, ◌≤◌, inr, ℕ, zero, suc, ◌+◌, List, [], ◌∷◌, ◌++◌, length, take, ap, Bool, true, false, Option, Some, None, Result, Ok, Err, refl, sym, ◌∙◌, subst, arith}
+use Rattle.std.proofs.Common.{◌≡◌, ◌≤◌, inl, ℕ, zero, suc, List, [], ◌∷◌, ◌++◌, take, ap, Bool, true, false, Option, Some, None, Result, Ok, Err, refl, sym, ◌∙◌, subst}
 use Rattle.sq_port.specs.Ports.{Content, Gains, GainsPrefix, Rose}
 use Rattle.std.proofs.lemmas.List.{append-nil}
-use Rattle.sq_port.proofs.Gained.{gains_both}
-use Rattle.sq_tree.specs.Bank.{BankSeen}
-use Rattle.sq_cli.specs.declared.trap.Trap.{Trap}
+use Rattle.sq_port.proofs.Gained.{gains_both, prefix_behind}
+use Rattle.sq_small.specs.Bank.{BankSeen}
 use Rattle.sq_cli.specs.declared.status.Status.{Status}
 use Rattle.sq_cli.specs.declared.status.Status.TheVariants.{Done, SinkFault}
 use Rattle.sq_cli.specs.declared.end.End.{End}
-use Rattle.sq_cli.specs.declared.end.End.TheVariants.{Usage as UsageEnd, Absent as AbsentEnd, FileFault as FileFaultEnd, Refused as RefusedEnd, Trapped as TrappedEnd, NoMemory as NoMemoryEnd, SinkFault as SinkFaultEnd}
-use Rattle.sq_words.specs.Words.{Command}
+use Rattle.sq_cli.specs.declared.end.End.TheVariants.{Usage as UsageEnd, Absent as AbsentEnd, FileFault as FileFaultEnd, NotYet as NotYetEnd, Refused as RefusedEnd, Trapped as TrappedEnd, NoMemory as NoMemoryEnd, SinkFault as SinkFaultEnd}
+use Rattle.sq_cli.specs.Words.{Command}
 use Rattle.sq_cli.specs.Phases.{opens}
 use Rattle.sq_cli.specs.Ends.{status_of, end_text}
+use Rattle.sq_cli.specs.Small.{not_yet, fault}
 use Rattle.sq_cli.specs.Meaning.{Answer, done, refused, trapped, usage, file_fault, no_memory, absent}
 use Rattle.sq_cli.specs.Banks.{Writing, whole, cut_out, cut_err, AfterTrap}
 use Rattle.sq_cli.specs.Outcome.{status_for, out_text, trace_for, line_for, err_text, IsDone, IsEndOf, Outside, IsWhole, Puts, ResultFor}
@@ -31,32 +31,27 @@ same_end : (answer : Answer) (end : End) → IsEndOf answer end → SameEnd answ
 same_end answer UsageEnd is = same_at answer usage UsageEnd is (record { status = refl; text = refl; out = refl; not_done = λ no. no })
 same_end answer (AbsentEnd name) is = same_at answer (absent is.0 name.now) (AbsentEnd name) is.1 (record { status = refl; text = refl; out = refl; not_done = λ no. no })
 same_end answer (FileFaultEnd name) is = same_at answer (file_fault is.0 name.now) (FileFaultEnd name) is.1 (record { status = refl; text = refl; out = refl; not_done = λ no. no })
-same_end answer (RefusedEnd its) is = same_at answer (refused is.0 its) (RefusedEnd its) is.1 (record { status = refl; text = refl; out = refl; not_done = λ no. no })
+same_end answer (NotYetEnd phase) is = same_at answer (refused phase not_yet) (NotYetEnd phase) is (record { status = refl; text = refl; out = refl; not_done = λ no. no })
+same_end answer (RefusedEnd its) is = same_at answer (refused is.0 (fault its)) (RefusedEnd its) is.1 (record { status = refl; text = refl; out = refl; not_done = λ no. no })
 same_end answer (TrappedEnd trap) is = same_at answer (trapped trap is.0) (TrappedEnd trap) is.1 (record { status = refl; text = refl; out = refl; not_done = λ no. no })
 same_end answer NoMemoryEnd is = same_at answer no_memory NoMemoryEnd is (record { status = refl; text = refl; out = refl; not_done = λ no. no })
 same_end answer SinkFaultEnd is = absurd is
 
--- the bank where only the line behind the trace is cut
-trap_cut : (is_open : Bool) (command : Command) (told : Option Content) (trap : Trap) (trace more : List ℕ) (bank now_bank : BankSeen) → AfterTrap is_open command told whole trap trace bank now_bank → AfterTrap is_open command told (cut_err (trace ++ more)) trap trace bank now_bank
-trap_cut false command told trap trace more bank now_bank after = after
-trap_cut true command told trap trace more bank now_bank after = inr (record { run = after; more = more; got_is = refl })
+-- a whole run is a beginning of itself
+trap_cut : (is_open : Bool) (command : Command) (told : Option Content) (trace got : List ℕ) (bank now_bank : BankSeen) → AfterTrap is_open command told whole trace bank now_bank → AfterTrap is_open command told (cut_err got) trace bank now_bank
+trap_cut false command told trace got bank now_bank after = after
+trap_cut true command told trace got bank now_bank after = record { rest = []; run = after; lines = λ before last is. (got, refl); no_more = inl refl }
 
-line_cut : (more : List ℕ) (answer : Answer) → (IsDone answer → ⊥) → (command : Option Command) (told : Option Content) (bank now_bank : BankSeen) → BankOf command told answer whole bank now_bank → BankOf command told answer (cut_err (trace_for answer ++ more)) bank now_bank
-line_cut more answer not_done None told bank now_bank after = after
-line_cut more (done out trace) not_done (Some command) told bank now_bank after = absurd (not_done tt)
-line_cut more (refused phase its) not_done (Some command) told bank now_bank after = after
-line_cut more (trapped trap trace) not_done (Some command) told bank now_bank after = trap_cut (opens command.kind) command told trap trace more bank now_bank after
-line_cut more usage not_done (Some command) told bank now_bank after = after
-line_cut more (file_fault phase name) not_done (Some command) told bank now_bank after = after
-line_cut more no_memory not_done (Some command) told bank now_bank after = after
-line_cut more (absent phase name) not_done (Some command) told bank now_bank after = after
-
--- a front that goes beyond the first of two texts
-take_behind : (xs ys : List ℕ) (n : ℕ) → take (length xs + n) (xs ++ ys) ≡ xs ++ take n ys
-take_behind [] ys n = let none : 0 + n ≡ n = omega arith in ap (λ (k : ℕ). take k ys) none
-take_behind (x ∷ xs) ys n =
-    let next : suc (length xs) + n ≡ suc (length xs + n) = omega arith in
-    ap (λ (k : ℕ). take k (x ∷ (xs ++ ys))) next ∙ ap (λ (l : List ℕ). x ∷ l) (take_behind xs ys n)
+-- the bank where the line of an answer is cut
+line_cut : (got : List ℕ) (answer : Answer) → (IsDone answer → ⊥) → (command : Option Command) (told : Option Content) (bank now_bank : BankSeen) → BankOf command told answer whole bank now_bank → BankOf command told answer (cut_err got) bank now_bank
+line_cut got answer not_done None told bank now_bank after = after
+line_cut got (done out trace) not_done (Some command) told bank now_bank after = absurd (not_done tt)
+line_cut got (refused phase refusal) not_done (Some command) told bank now_bank after = after
+line_cut got (trapped trap trace) not_done (Some command) told bank now_bank after = trap_cut (opens command.kind) command told trace got bank now_bank after
+line_cut got usage not_done (Some command) told bank now_bank after = after
+line_cut got (file_fault phase name) not_done (Some command) told bank now_bank after = after
+line_cut got no_memory not_done (Some command) told bank now_bank after = after
+line_cut got (absent phase name) not_done (Some command) told bank now_bank after = after
 
 -- the outside once the line was put
 abbrev with_err : Outside → Option (List ℕ) → ℕ → Outside
@@ -77,17 +72,20 @@ module _ (answer : Answer) (old mid : Outside) (err : Option (List ℕ)) (faults
     };
   }
 
+  prefix : (end : End) → SameEnd answer end → IsWhole answer (trace_for answer) old mid → GainsPrefix mid.err err (end_text end) → GainsPrefix old.err err (err_text answer)
+  prefix end same puts text = prefix_behind puts.err (subst (λ (l : List ℕ). GainsPrefix mid.err err l) same.text text)
+
   -- it was cut
   cut : (end : End) → SameEnd answer end → IsWhole answer (trace_for answer) old mid → GainsPrefix mid.err err (end_text end) → Rose mid.err_faults faults → mid.err_faults ≤ faults → Finished answer whole old (with_err mid err faults) SinkFault
   cut end same puts text rose later = record {
-    last = cut_err (trace_for answer ++ take text.count (line_for answer));
-    later = line_cut (take text.count (line_for answer)) answer same.not_done;
+    last = cut_err (take (prefix end same puts text).count (err_text answer));
+    later = line_cut (take (prefix end same puts text).count (err_text answer)) answer same.not_done;
     status_is = refl;
     puts = record {
       out = subst (λ (l : List ℕ). Gains old.out mid.out l) same.out puts.out;
-      count = length (trace_for answer) + text.count;
-      prefix = sym (take_behind (trace_for answer) (line_for answer) text.count);
-      err = gains_both puts.err (subst (λ (l : List ℕ). Gains mid.err err (take text.count l)) same.text text.gains);
+      count = (prefix end same puts text).count;
+      prefix = refl;
+      err = (prefix end same puts text).gains;
       out_faults = puts.out_faults;
       err_later = subst (λ (n : ℕ). n ≤ faults) puts.err_faults later;
       err_faults = subst (λ (n : ℕ). Rose n faults) puts.err_faults rose;
@@ -103,7 +101,7 @@ longer (suc n) (x ∷ xs) ys = let more = longer n xs ys in (suc more.0, ap (λ 
 -- no line is put behind Done
 no_line : (answer : Answer) → IsDone answer → trace_for answer ≡ err_text answer
 no_line (done out trace) its = sym (append-nil trace)
-no_line (refused phase fault) its = absurd its
+no_line (refused phase refusal) its = absurd its
 no_line (trapped trap trace) its = absurd its
 no_line usage its = absurd its
 no_line (file_fault phase name) its = absurd its
@@ -112,7 +110,7 @@ no_line (absent phase name) its = absurd its
 
 done_status : (answer : Answer) → IsDone answer → Done ≡ status_for answer
 done_status (done out trace) its = refl
-done_status (refused phase fault) its = absurd its
+done_status (refused phase refusal) its = absurd its
 done_status (trapped trap trace) its = absurd its
 done_status usage its = absurd its
 done_status (file_fault phase name) its = absurd its

@@ -3,10 +3,12 @@ use Rattle.std.proofs.Common.{◌≡◌, ◌⊎◌, inl, inr, ⊎_elim, ℕ, Lis
 use Rattle.sq_port.specs.Ports.{Content}
 use Rattle.sq_text.specs.declared.code.Phase.{Phase}
 use Rattle.sq_text.specs.declared.code.Phase.TheVariants.{Program, Types, Machine, Mapping, Resolve, Race, Capacity, Order, Input}
-use Rattle.sq_text.specs.declared.fault.Fault.{Fault}
-use Rattle.sq_words.specs.Words.{Role, program, mapping, machine, input, order, Command}
+use Rattle.sq_cli.specs.declared.words.Kind.{Kind}
+use Rattle.sq_cli.specs.declared.words.Kind.TheVariants.{Check, Fmt, Eval, Run}
+use Rattle.sq_cli.specs.Words.{Role, program, mapping, machine, input, Command}
 use Rattle.sq_cli.specs.Phases.{phases, role_of, file_for, file_of, Inputs, text_of, inputs_of}
-use Rattle.sq_cli.specs.Faults.{IsFirstOf}
+use Rattle.sq_cli.specs.Small.{Refusal, not_yet, fault, IsSmallFault}
+use Rattle.sq_cli.specs.Faults.{IsRefusal, IsFault}
 use Rattle.sq_cli.specs.Meaning.{Passed, AllPassed, Reached, Answer, done, refused, trapped, usage, file_fault, no_memory, absent, IsCause}
 use Rattle.sq_cli.specs.Outcome.{status_for}
 use Rattle.sq_cli.specs.Top.{IsSaid}
@@ -63,28 +65,51 @@ role_absent c command (Some its) name file none = (its, refl, ap (text_of c) fil
 not_there : (inputs : Inputs) (its role : Role) (text : List ℕ) → Some its ≡ Some role → inputs its ≡ Some text → inputs role ≡ None → ⊥
 not_there inputs its role text same there none = no_name text (sym none ∙ (ap inputs (sym (some_same its role same)) ∙ there))
 
--- a phase with a fault has its file
-fault_there : (phase : Phase) (inputs : Inputs) (its : Fault) (role : Role) → IsFirstOf phase inputs its → role_of phase ≡ Some role → inputs role ≡ None → ⊥
-fault_there Program inputs its role is reads none = not_there inputs program role is.0 reads is.1 none
-fault_there Types inputs its role is reads none = no_name role reads
-fault_there Machine inputs its role is reads none = not_there inputs machine role is.0 reads is.1 none
-fault_there Mapping inputs its role is reads none = not_there inputs mapping role is.first.0 reads is.first.1 none
-fault_there Resolve inputs its role is reads none = no_name role reads
-fault_there Race inputs its role is reads none = no_name role reads
-fault_there Capacity inputs its role is reads none = no_name role reads
-fault_there Order inputs its role is reads none = not_there inputs order role is.0 reads is.1 none
-fault_there Input inputs its role is reads none = not_there inputs input role is.bytes reads is.there none
+refusal_there : (phase : Phase) (inputs : Inputs) (refusal : Refusal) (role : Role) → IsRefusal phase inputs refusal → role_of phase ≡ Some role → inputs role ≡ None → ⊥
+refusal_there phase inputs not_yet role is reads none = is
+refusal_there Program inputs (fault its) role is reads none = not_there inputs program role is.0 reads is.1 none
+refusal_there Types inputs (fault its) role is reads none = no_name role reads
+refusal_there Machine inputs (fault its) role is reads none = not_there inputs machine role is.0 reads is.1 none
+refusal_there Mapping inputs (fault its) role is reads none = not_there inputs mapping role is.first.0 reads is.first.1 none
+refusal_there Resolve inputs (fault its) role is reads none = no_name role reads
+refusal_there Race inputs (fault its) role is reads none = no_name role reads
+refusal_there Capacity inputs (fault its) role is reads none = is
+refusal_there Order inputs (fault its) role is reads none = is
+refusal_there Input inputs (fault its) role is reads none = not_there inputs input role is.bytes reads is.there none
 
-refused_or_absent : (command : Command) (c : Content) (p q : Phase) (its : Fault) (name : List ℕ) → Reached command c p → IsFirstOf p (inputs_of c command) its → file_of command q ≡ Some name → Reached command c q → c name ≡ None → ⊥
-refused_or_absent command c p q its name at_p is file at_q none =
-    let same = one_stop command c p q at_p at_q (λ passed. passed.no_fault its is) (λ passed. absent_not_passed command c q name file none passed) in
+small_there : (phase : Phase) (inputs : Inputs) (refusal : Refusal) (role : Role) → IsSmallFault phase inputs refusal → role_of phase ≡ Some role → inputs role ≡ None → ⊥
+small_there Program inputs not_yet role is reads none = not_there inputs program role is.0 reads is.1 none
+small_there Machine inputs not_yet role is reads none = not_there inputs machine role is.0 reads is.1 none
+small_there Mapping inputs not_yet role is reads none = not_there inputs mapping role is.none.0 reads is.none.1 none
+small_there Input inputs (fault its) role is reads none = not_there inputs input role is.bytes reads is.there none
+small_there Capacity inputs (fault its) role is reads none = no_name role reads
+small_there Program inputs (fault its) role is reads none = is
+small_there Machine inputs (fault its) role is reads none = is
+small_there Mapping inputs (fault its) role is reads none = is
+small_there Capacity inputs not_yet role is reads none = is
+small_there Input inputs not_yet role is reads none = is
+small_there Types inputs refusal role is reads none = is
+small_there Resolve inputs refusal role is reads none = is
+small_there Race inputs refusal role is reads none = is
+small_there Order inputs refusal role is reads none = is
+
+-- a phase with a fault has its file
+fault_there : (kind : Kind) (phase : Phase) (inputs : Inputs) (refusal : Refusal) (role : Role) → IsFault kind phase inputs refusal → role_of phase ≡ Some role → inputs role ≡ None → ⊥
+fault_there Check phase inputs refusal role is reads none = refusal_there phase inputs refusal role is reads none
+fault_there Fmt phase inputs refusal role is reads none = refusal_there phase inputs refusal role is reads none
+fault_there Eval phase inputs refusal role is reads none = refusal_there phase inputs refusal role is reads none
+fault_there Run phase inputs refusal role is reads none = small_there phase inputs refusal role is reads none
+
+refused_or_absent : (command : Command) (c : Content) (p q : Phase) (refusal : Refusal) (name : List ℕ) → Reached command c p → IsFault command.kind p (inputs_of c command) refusal → file_of command q ≡ Some name → Reached command c q → c name ≡ None → ⊥
+refused_or_absent command c p q refusal name at_p is file at_q none =
+    let same = one_stop command c p q at_p at_q (λ passed. passed.no_fault refusal is) (λ passed. absent_not_passed command c q name file none passed) in
     let gone = role_absent c command (role_of q) name file none in
-    fault_there q (inputs_of c command) its gone.0 (subst (λ (k : Phase). IsFirstOf k (inputs_of c command) its) same is) gone.1 gone.2
+    fault_there command.kind q (inputs_of c command) refusal gone.0 (subst (λ (k : Phase). IsFault command.kind k (inputs_of c command) refusal) same is) gone.1 gone.2
 
 -- what stops a command is no end of all its phases
 module _ (command : Command) (c : Content) where
-  refused_or_all : (phase : Phase) (its : Fault) → Reached command c phase → IsFirstOf phase (inputs_of c command) its → AllPassed command c (phases command.kind) → ⊥
-  refused_or_all phase its reached is all = (reached_passed command c phase reached all).no_fault its is
+  refused_or_all : (phase : Phase) (refusal : Refusal) → Reached command c phase → IsFault command.kind phase (inputs_of c command) refusal → AllPassed command c (phases command.kind) → ⊥
+  refused_or_all phase refusal reached is all = (reached_passed command c phase reached all).no_fault refusal is
 
   absent_or_all : (phase : Phase) (name : List ℕ) → file_of command phase ≡ Some name → Reached command c phase → c name ≡ None → AllPassed command c (phases command.kind) → ⊥
   absent_or_all phase name file reached none all = absent_not_passed command c phase name file none (reached_passed command c phase reached all)

@@ -3,8 +3,8 @@ use Rattle.std.proofs.Common.{◌≡◌, ◌≤◌, arith, ◌≢◌, ◌⊎◌,
 use Rattle.sq_port.specs.Ports.{Content, Rose}
 use Rattle.sq_cli.specs.declared.status.Status.{Status}
 use Rattle.sq_cli.specs.declared.status.Status.TheVariants.{Done, Refused, Trapped, Usage, FileFault, SinkFault, NoMemory, Absent}
-use Rattle.sq_tree.specs.Bank.{BankSeen}
-use Rattle.sq_words.specs.Words.{Command}
+use Rattle.sq_small.specs.Bank.{BankSeen}
+use Rattle.sq_cli.specs.Words.{Command}
 use Rattle.sq_cli.specs.Meaning.{Answer, done, refused, trapped, usage, file_fault, no_memory, absent, IsCause, Means}
 use Rattle.sq_cli.specs.Banks.{Writing, whole, cut_out, cut_err}
 use Rattle.sq_cli.specs.Outcome.{status_for, err_text, Outside, Puts}
@@ -30,7 +30,7 @@ named answer (cut_err got) status is other = absurd (other is)
 -- no answer has the status SinkFault
 no_sink_status : (answer : Answer) → status_for answer ≡ SinkFault → ⊥
 no_sink_status (done out trace) is = cc
-no_sink_status (refused phase its) is = cc
+no_sink_status (refused phase refusal) is = cc
 no_sink_status (trapped trap trace) is = cc
 no_sink_status usage is = cc
 no_sink_status (file_fault phase name) is = cc
@@ -58,7 +58,7 @@ later_sinks answer (cut_err got) old now puts = (omega (arith, puts.out_faults),
 module _ (f f2 m m2 : ℕ) where
   absent_rose : (answer : Answer) → FilesFor answer f f2 m m2 → status_for answer ≡ Absent → Rose m m2 × (f2 ≡ f)
   absent_rose (done out trace) files is = absurd (let no : Done ≡ Absent = is in cc)
-  absent_rose (refused phase its) files is = absurd (let no : Refused ≡ Absent = is in cc)
+  absent_rose (refused phase refusal) files is = absurd (let no : Refused ≡ Absent = is in cc)
   absent_rose (trapped trap trace) files is = absurd (let no : Trapped ≡ Absent = is in cc)
   absent_rose usage files is = absurd (let no : Usage ≡ Absent = is in cc)
   absent_rose (file_fault phase name) files is = absurd (let no : FileFault ≡ Absent = is in cc)
@@ -67,7 +67,7 @@ module _ (f f2 m m2 : ℕ) where
 
   fault_rose : (answer : Answer) → FilesFor answer f f2 m m2 → status_for answer ≡ FileFault → Rose f f2 × (m2 ≡ m)
   fault_rose (done out trace) files is = absurd (let no : Done ≡ FileFault = is in cc)
-  fault_rose (refused phase its) files is = absurd (let no : Refused ≡ FileFault = is in cc)
+  fault_rose (refused phase refusal) files is = absurd (let no : Refused ≡ FileFault = is in cc)
   fault_rose (trapped trap trace) files is = absurd (let no : Trapped ≡ FileFault = is in cc)
   fault_rose usage files is = absurd (let no : Usage ≡ FileFault = is in cc)
   fault_rose (file_fault phase name) files is = files
@@ -76,7 +76,7 @@ module _ (f f2 m m2 : ℕ) where
 
   kept_files : (answer : Answer) → FilesFor answer f f2 m m2 → IsUndisturbed (status_for answer) → (f2 ≡ f) × (m2 ≡ m)
   kept_files (done out trace) files is = files
-  kept_files (refused phase its) files is = files
+  kept_files (refused phase refusal) files is = files
   kept_files (trapped trap trace) files is = files
   kept_files usage files is = files
   kept_files (file_fault phase name) files is = absurd is
@@ -89,7 +89,7 @@ no_sink status calm is = subst IsUndisturbed is calm
 -- a command never answers usage
 not_usage : (command : Command) (told : Option Content) (answer : Answer) → Means command told answer → status_for answer ≡ Usage → ⊥
 not_usage command told (done out trace) means is = cc
-not_usage command told (refused phase its) means is = cc
+not_usage command told (refused phase refusal) means is = cc
 not_usage command told (trapped trap trace) means is = cc
 not_usage command told usage means is = means.names
 not_usage command told (file_fault phase name) means is = cc
@@ -103,7 +103,7 @@ is_usage (Some command) told answer cause is = absurd (not_usage command told an
 kept_bank : (command : Option Command) (told : Option Content) (answer : Answer) (writing : Writing) (bank now_bank : BankSeen) → BankOf command told answer writing bank now_bank → status_for answer ≡ NoMemory → now_bank ≡ bank
 kept_bank None told answer writing bank now_bank after is = after
 kept_bank (Some command) told (done out trace) writing bank now_bank after is = absurd (let no : Done ≡ NoMemory = is in cc)
-kept_bank (Some command) told (refused phase its) writing bank now_bank after is = absurd (let no : Refused ≡ NoMemory = is in cc)
+kept_bank (Some command) told (refused phase refusal) writing bank now_bank after is = absurd (let no : Refused ≡ NoMemory = is in cc)
 kept_bank (Some command) told (trapped trap trace) writing bank now_bank after is = absurd (let no : Trapped ≡ NoMemory = is in cc)
 kept_bank (Some command) told usage writing bank now_bank after is = after
 kept_bank (Some command) told (file_fault phase name) writing bank now_bank after is = absurd (let no : FileFault ≡ NoMemory = is in cc)
@@ -112,7 +112,7 @@ kept_bank (Some command) told (absent phase name) writing bank now_bank after is
 
 explained_by : (command : Command) (c : Content) (answer : Answer) (status : Status) → IsCause command c answer → status ≡ status_for answer → status ≢ FileFault → (status ≡ NoMemory) ⊎ ((that : Answer) × IsSaid that × IsCause command c that × (status ≡ status_for that))
 explained_by command c (done out trace) status cause is other = inr (done out trace, tt, cause, is)
-explained_by command c (refused phase its) status cause is other = inr (refused phase its, tt, cause, is)
+explained_by command c (refused phase refusal) status cause is other = inr (refused phase refusal, tt, cause, is)
 explained_by command c (trapped trap trace) status cause is other = inr (trapped trap trace, tt, cause, is)
 explained_by command c usage status cause is other = absurd cause
 explained_by command c (file_fault phase name) status cause is other = absurd (other is)
@@ -125,7 +125,7 @@ explained (Some command) told answer status cause is other = λ c at. explained_
 
 only_said : (command : Command) (c : Content) (answer that : Answer) (status : Status) → IsCause command c answer → status ≡ status_for answer → IsSaid that → IsCause command c that → (status ≡ status_for that) ⊎ IsFree status
 only_said command c (done out trace) that status cause is said meant = inl (is ∙ one_status command c (done out trace) that tt said cause meant)
-only_said command c (refused phase its) that status cause is said meant = inl (is ∙ one_status command c (refused phase its) that tt said cause meant)
+only_said command c (refused phase refusal) that status cause is said meant = inl (is ∙ one_status command c (refused phase refusal) that tt said cause meant)
 only_said command c (trapped trap trace) that status cause is said meant = inl (is ∙ one_status command c (trapped trap trace) that tt said cause meant)
 only_said command c usage that status cause is said meant = absurd cause
 only_said command c (file_fault phase name) that status cause is said meant = inr (subst IsFree (sym is) tt)

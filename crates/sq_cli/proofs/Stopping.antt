@@ -3,13 +3,13 @@ use Rattle.std.proofs.Common.{◌≡◌, inl, inr, ℕ, List, [], false, Option,
 use Rattle.sq_port.specs.Ports.{Content, Gains}
 use Rattle.sq_port.proofs.Gained.{gains_nothing}
 use Rattle.sq_text.specs.declared.code.Phase.{Phase}
-use Rattle.sq_text.specs.declared.fault.Fault.{Fault}
-use Rattle.sq_tree.specs.Bank.{BankSeen}
+use Rattle.sq_small.specs.Bank.{BankSeen}
 use Rattle.sq_cli.specs.declared.end.End.{End}
-use Rattle.sq_cli.specs.declared.end.End.TheVariants.{Usage, Absent, FileFault, Refused, Trapped, NoMemory, SinkFault}
-use Rattle.sq_words.specs.Words.{Files, Command}
+use Rattle.sq_cli.specs.declared.end.End.TheVariants.{Usage, Absent, FileFault, NotYet, Refused, Trapped, NoMemory, SinkFault}
+use Rattle.sq_cli.specs.Words.{Files, Command}
 use Rattle.sq_cli.specs.Phases.{file_of, is_open_at, inputs_of, IsTold}
-use Rattle.sq_cli.specs.Faults.{IsFirstOf}
+use Rattle.sq_cli.specs.Small.{Refusal, not_yet, fault}
+use Rattle.sq_cli.specs.Faults.{IsFault}
 use Rattle.sq_cli.specs.Meaning.{Reached, refused, file_fault, no_memory, absent}
 use Rattle.sq_cli.specs.Banks.{whole, AfterStop}
 use Rattle.sq_cli.specs.Outcome.{out_text, trace_for, Outside, Ended}
@@ -32,10 +32,10 @@ told_of command name told c its (inl is) = is
 told_of command name told c its (inr none) = absurd (let no : None ≡ Some name = sym (ap (λ (f : Files). f.program) none) ∙ its in cc)
 
 -- a phase that is reached stops a command with the answer that it has then
-module _ (command : Command) (told : Option Content) (phase : Phase) (Fails : Content → Fault → Type 0) (bank now_bank : BankSeen)
+module _ (command : Command) (told : Option Content) (phase : Phase) (Fails : Content → Refusal → Type 0) (bank now_bank : BankSeen)
     (one : (c : Content) → IsTold command told c → told ≡ Some c)
     (reached : (c : Content) → IsTold command told c → Reached command c phase)
-    (faulty : (c : Content) → told ≡ Some c → (its : Fault) → Fails c its → IsFirstOf phase (inputs_of c command) its)
+    (faulty : (c : Content) → told ≡ Some c → (refusal : Refusal) → Fails c refusal → IsFault command.kind phase (inputs_of c command) refusal)
     (left : AfterStop (is_open_at command.kind phase) command told bank now_bank)
     (kept : is_open_at command.kind phase ≡ false → now_bank ≡ bank) where
   pub phase_stops : (end : End) → Stops (is_open_at command.kind phase) phase told (file_of command phase) Fails end → Stopped command told bank now_bank end
@@ -54,9 +54,16 @@ module _ (command : Command) (told : Option Content) (phase : Phase) (Fails : Co
     silent = (refl, refl);
     bank_after = left;
   }
+  phase_stops (NotYet at) stops = record {
+    answer = refused phase not_yet;
+    means = record { names = tt; cause = λ c is. (reached c is, faulty c (one c is) not_yet (stops.1 c (one c is))) };
+    is = ap (λ (p : Phase). refused p not_yet) (sym stops.0);
+    silent = (refl, refl);
+    bank_after = left;
+  }
   phase_stops (Refused its) stops = record {
-    answer = refused phase its;
-    means = record { names = tt; cause = λ c is. (reached c is, faulty c (one c is) its (stops c (one c is))) };
+    answer = refused phase (fault its);
+    means = record { names = tt; cause = λ c is. (reached c is, faulty c (one c is) (fault its) (stops c (one c is))) };
     is = (phase, refl);
     silent = (refl, refl);
     bank_after = left;

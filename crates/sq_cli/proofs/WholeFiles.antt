@@ -11,7 +11,7 @@ use Rattle.sq_text.specs.First.{InTurn, AtOrBefore}
 use Rattle.sq_text.specs.Faults.{IsFirst, fault_place, fault_number}
 use Rattle.sq_lexer.specs.Faults.{FitsFile, IsTooLong, HasFault, too_long, breaks}
 use Rattle.sq_cli.specs.declared.end.End.{End}
-use Rattle.sq_cli.specs.declared.end.End.TheVariants.{Usage, Absent, FileFault, Refused, Trapped, NoMemory, SinkFault}
+use Rattle.sq_cli.specs.declared.end.End.TheVariants.{Usage, Absent, FileFault, NotYet, Refused, Trapped, NoMemory, SinkFault}
 use Rattle.sq_cli.specs.Holding.{Holds}
 use Rattle.sq_cli.specs.Programs.{too_long_fault}
 use Rattle.sq_cli.specs.Steps.{HoldsRight, ReadsFitting, ReadsRight}
@@ -42,6 +42,7 @@ pub fitting_stops : {A : Type 0} (Is : List ℕ → A → Type 0) (Fails : List 
 fitting_stops Is Fails phase told name long Usage stops = stops
 fitting_stops Is Fails phase told name long (Absent at) stops = stops
 fitting_stops Is Fails phase told name long (FileFault at) stops = stops
+fitting_stops Is Fails phase told name long (NotYet at) stops = stops
 fitting_stops Is Fails phase told name long (Refused its) stops = λ c is.
     let found = stops c is in
     (found.0, found.1, subst (λ (f : Fault). Fails found.0 f) (sym found.3) (long found.0 found.2))

@@ -15,7 +15,7 @@ use Rattle.sq_ast.specs.Modes.{is_read}
 use Rattle.sq_forms.specs.Resolving.{entry_params, entry_extents}
 use Rattle.sq_spec.specs.Works.{extents_at, flat}
 use Rattle.sq_cli.specs.declared.trap.Trap.{Trap}
-use Rattle.sq_words.specs.Words.{input}
+use Rattle.sq_cli.specs.Words.{input}
 use Rattle.sq_cli.specs.Phases.{Inputs}
 use Rattle.sq_cli.specs.Data.{data_fault}
 use Rattle.sq_cli.specs.Sources.{Sources}

@@ -8,14 +8,14 @@ use Rattle.sq_types.specs.Sites.{TypeFault}
 use Rattle.sq_machfile.specs.declared.level.Level.{Level}
 use Rattle.sq_machfile.specs.Machines.{Hierarchy}
 use Rattle.sq_mapfile.specs.declared.mapping.Mapping.{Mapping}
-use Rattle.sq_tree.specs.Bank.{BankSeen}
+use Rattle.sq_small.specs.Bank.{BankSeen}
 use Rattle.sq_leaf.specs.declared.shape.Shape.{Shape}
 use Rattle.sq_work.specs.Meaning.{Outcome}
 use Rattle.sq_flat.specs.Held.{Stored}
 use Rattle.sq_flat.specs.Ends.{HoldsEnd}
 use Rattle.sq_cli.specs.declared.end.End.{End}
 use Rattle.sq_cli.specs.declared.end.End.TheVariants.{Refused, Trapped, NoMemory, SinkFault}
-use Rattle.sq_words.specs.Words.{Command}
+use Rattle.sq_cli.specs.Words.{Command}
 use Rattle.sq_cli.specs.Sources.{IsMachineText, IsFirstMachineFault, IsMappingText, IsFirstMappingFault}
 use Rattle.sq_cli.specs.Meaning.{done, IsCause}
 use Rattle.sq_cli.specs.Steps.{HoldsRight, HoldsTree, ReadsRight, Stopped}

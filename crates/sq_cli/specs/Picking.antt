@@ -14,8 +14,7 @@ use Rattle.sq_flat.specs.Held.{Stored, Holds}
 use Rattle.sq_cli.specs.declared.end.End.{End}
 use Rattle.sq_cli.specs.Data.{data_fault}
 use Rattle.sq_cli.specs.Entry.{params_of, wants_of, start_of}
-use Rattle.sq_cli.specs.Givens.{Extents, read_wants, Given}
-use Rattle.sq_cli.specs.Steps.{Stops}
+use Rattle.sq_cli.specs.Steps.{Stops, IsRefusedWith}
 
 -- the array of a parameter, where it is read
 abbrev pub read_want : Param → List ℕ → List Wanted
@@ -56,6 +55,14 @@ keeps_on params mid_params now_params old mid now first second = record {
   others = subst (λ (ps : List Param). unpicked ps now.bytes ≡ unpicked ps mid.bytes) first.params_is second.others ∙ first.others;
 }
 
+-- the values that a file gives for these arrays
+pub record Given (ws : List Wanted) (given : Option (List ℕ)) (arrays : List (List ℕ)) : Type 0 where
+  pub bytes : List ℕ
+  pub there : given ≡ Some bytes
+  pub values : List (List ℤ)
+  pub read : arrays_of ws bytes ≡ Ok values
+  pub are : arrays ≡ cells_of ws values
+
 -- the file's first fault
 pub record Unfit (ws : List Wanted) (given : Option (List ℕ)) (its : Fault) : Type 0 where
   pub bytes : List ℕ
@@ -73,9 +80,17 @@ pub record IsFilled (params : List Param) (ws : List Wanted) (told : Option Cont
 
 abbrev pub ReadsData : List Param → List Wanted → Option Content → List ℕ → Stored → Result Stored End → Type 0
 ReadsData params ws told name old (Ok now) = IsFilled params ws told name old now
-ReadsData params ws told name old (Err end) = Stops false Input told (Some name) (λ c its. Unfit ws (c name) its) end
+ReadsData params ws told name old (Err end) = Stops false Input told (Some name) (λ c refusal. IsRefusedWith (Unfit ws (c name)) refusal) end
 
 -- ---- of a program's entry
+
+-- the extents of its parameters
+pub record Extents (r : Resolved) : Type 0 where
+  pub extents : List (List ℕ)
+  pub are : entry_extents r.mapping.now.sizes (params_of r.typed.now r.mapping.now) ≡ Ok extents
+
+abbrev pub read_wants : (r : Resolved) → Extents r → List Wanted
+read_wants r its = wants_of is_read (params_of r.typed.now r.mapping.now) 0 its.extents
 
 -- the arrays are those that the data gives
 pub record AreGiven (r : Resolved) (given : Option (List ℕ)) (arrays : Stored) : Type 0 where
@@ -92,4 +107,4 @@ pub record IsUnfit (r : Resolved) (given : Option (List ℕ)) (its : Fault) : Ty
 
 abbrev pub ReadsGiven : Resolved → Option Content → List ℕ → Result Stored End → Type 0
 ReadsGiven r told name (Ok arrays) = (c : Content) → told ≡ Some c → AreGiven r (c name) arrays
-ReadsGiven r told name (Err end) = Stops false Input told (Some name) (λ c its. IsUnfit r (c name) its) end
+ReadsGiven r told name (Err end) = Stops false Input told (Some name) (λ c refusal. IsRefusedWith (IsUnfit r (c name)) refusal) end

@@ -4,8 +4,8 @@ use Rattle.sq_port.specs.Ports.{Content, Rose}
 use Rattle.sq_cli.specs.declared.status.Status.{Status}
 use Rattle.sq_cli.specs.declared.status.Status.TheVariants.{Usage, FileFault, SinkFault, NoMemory, Absent}
 use Rattle.sq_cli.specs.declared.end.End.{End}
-use Rattle.sq_tree.specs.Bank.{BankSeen}
-use Rattle.sq_words.specs.Words.{Command}
+use Rattle.sq_small.specs.Bank.{BankSeen}
+use Rattle.sq_cli.specs.Words.{Command}
 use Rattle.sq_cli.specs.Phases.{IsTold}
 use Rattle.sq_cli.specs.Meaning.{Answer, done, refused, trapped, usage, file_fault, absent, IsCause, Means}
 use Rattle.sq_cli.specs.Banks.{Writing, whole, cut_out, cut_err, BankAfter}
@@ -70,7 +70,7 @@ pub record Finished (answer : Answer) (writing : Writing) (old now : Outside) (s
 -- an answer that tells what the files hold
 abbrev pub IsSaid : Answer → Type 0
 IsSaid (done out trace) = Unit {0}
-IsSaid (refused phase its) = Unit {0}
+IsSaid (refused phase refusal) = Unit {0}
 IsSaid (trapped trap trace) = Unit {0}
 IsSaid (absent phase name) = Unit {0}
 IsSaid answer = ⊥

@@ -4,11 +4,11 @@ ghost use Rattle.sq_port.specs.Ports.{Rose, Gains, GainsPrefix, Wrote};
 ghost use Rattle.sq_cli.specs.Texts.{usage_line};
 ghost use Rattle.sq_cli.specs.Ends.{status_of, end_text};
 
-use crate::lines::{put_fault, put_line, put_trap};
+use crate::lines::{put_fault, put_line, put_not_yet, put_trap};
 use crate::status::Status;
 use crate::trap::Trap;
 use sq_port::{Failed, Sink, put_next};
-use sq_text::Fault;
+use sq_text::{Fault, Phase};
 
 #[derive(Drop)]
 pub enum End<'a> {
@@ -17,6 +17,8 @@ pub enum End<'a> {
     Absent(&'a str),
     /// A read of the file of this name failed.
     FileFault(&'a str),
+    /// The phase's text isn't of the small form.
+    NotYet(Phase),
     Refused(Fault),
     /// The source traps.
     Trapped(Trap),
@@ -32,6 +34,7 @@ impl End<'_> {
             End::Usage => Status::Usage,
             End::Absent(_) => Status::Absent,
             End::FileFault(_) => Status::FileFault,
+            End::NotYet(_) => Status::Refused,
             End::Refused(_) => Status::Refused,
             End::Trapped(_) => Status::Trapped,
             End::NoMemory => Status::NoMemory,
@@ -49,6 +52,7 @@ pub fn put_end<E: Sink>(err: &mut E, end: &End<'_>) -> Result<(), Failed>
         End::Usage => put_usage_line(err),
         End::Absent(name) => put_line(err, b"absent ", name.as_bytes()),
         End::FileFault(name) => put_line(err, b"fault ", name.as_bytes()),
+        End::NotYet(phase) => put_not_yet(err, *phase),
         End::Refused(fault) => put_fault(err, fault),
         End::Trapped(trap) => put_trap(err, trap),
         End::NoMemory => put_next(err, Ok(()), b"no memory\n"),

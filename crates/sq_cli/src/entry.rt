@@ -9,16 +9,17 @@ ghost use Rattle.sq_ast.specs.Modes as modes;
 ghost use Rattle.sq_forms.specs.Resolving.{entry_extents};
 ghost use Rattle.sq_spec.specs.Works.{param_shapes};
 ghost use Rattle.sq_flat.specs.Held.{AreWhole, entry_shapes, extents_in};
-ghost use Rattle.sq_cli.specs.Data.{args_for, code_for};
+ghost use Rattle.sq_cli.specs.Data.{args_for};
 ghost use Rattle.sq_cli.specs.Ends.{ending, FileCauses};
 ghost use Rattle.sq_cli.specs.Entry.{params_of, wants_of};
 ghost use Rattle.sq_cli.specs.Outputs.{stored_output, stored_text, stored_texts};
 ghost use Rattle.sq_cli.specs.Picking.{read_want, picked, number_from, KeepsOthers, keeps_itself, keeps_on, ReadsData, ReadsGiven};
 ghost use Rattle.sq_cli.specs.Steps.{WroteOut};
 
+use crate::data::code_of;
 use crate::end::End;
 use sq_arrays::laws::values_are_those_of_their_array;
-use sq_arrays::{ArrayTarget, ArraysEnd, InputCode, InputEnd, Want, read_arrays, write_array};
+use sq_arrays::{ArrayTarget, ArraysEnd, InputEnd, Want, read_arrays, write_array};
 use sq_ast::{Mode, Param};
 use sq_flat::Arrays;
 use sq_form_laws::laws::forms_are_those_found;
@@ -26,18 +27,17 @@ use sq_port::{Failed, Files, Sink};
 use sq_rect::Dims;
 use sq_spec::Resolved;
 use sq_spec::laws::entry_is_first;
-use sq_text::{Arg, Args, Code, Fault, Phase};
+use sq_text::{Arg, Args, Fault, Phase};
 use std::alloc::{AllocError, Global};
 
-/// Whether an array of this mode is read.
-pub fn is_read(mode: Mode) -> bool
+fn is_read(mode: Mode) -> bool
     ensures { result ≡ modes.is_read mode }
 {
     mode.is_read()
 }
 
-/// The extents of the entry's parameters.
-pub fn entry_dims<'r>(resolved: &'r Resolved<'_>) -> &'r [Dims]
+// The extents of the entry's parameters.
+fn entry_dims<'r>(resolved: &'r Resolved<'_>) -> &'r [Dims]
     ensures fit { entry_extents resolved.now.mapping.now.sizes (params_of resolved.now.typed.now resolved.now.mapping.now) ≡ Ok result.now }
     ensures found { extents_in (slice_get resolved.now.found.entries 0) ≡ result.now }
 {
@@ -70,8 +70,8 @@ fn push_want<'p>(wants: &mut Vec<Want<'p>>, param: &'p Param, dims: &Dims) -> Re
     }
 }
 
-/// The arrays that are read.
-pub fn wants_in<'p>(
+// The arrays that are read.
+fn wants_in<'p>(
     alloc: Global,
     params: &'p [Param],
     extents: &[Dims],
@@ -122,21 +122,6 @@ impl ArrayTarget for Given<'_> {
     ghost keeps_itself = { λ g. keeps_itself g.params.now g.arrays };
 
     ghost keeps_on = { λ g h i first second. keeps_on g.params.now h.params.now i.params.now g.arrays h.arrays i.arrays first second };
-}
-
-/// The code of a fault of the data.
-pub fn code_of(code: InputCode) -> Code
-    ensures { result ≡ code_for code }
-{
-    match code {
-        InputCode::LimitFile => Code::LimitFile,
-        InputCode::Syntax => Code::Syntax,
-        InputCode::Name => Code::Name,
-        InputCode::Shape => Code::Shape,
-        InputCode::Range => Code::Range,
-        InputCode::Short => Code::Short,
-        InputCode::Extra => Code::Extra,
-    }
 }
 
 // The arguments of a fault of the data: the name of the array that is wanted at its place.
@@ -241,8 +226,8 @@ fn put_written<S: Sink>(out: &mut S, param: &Param, dims: &Dims, bytes: &[u8]) -
     }
 }
 
-/// Goes on with the text of the outputs: with the array of a parameter.
-pub fn put_output<S: Sink>(
+// Goes on with the text of the outputs: with the array of a parameter.
+fn put_output<S: Sink>(
     out: &mut S,
     so_far: Result<(), Failed>,
     param: &Param,

@@ -4,7 +4,7 @@ ghost use Rattle.sq_leaf.specs.Source.{Arrays as SpecArrays};
 ghost use Rattle.sq_spec.specs.Works.{flat};
 ghost use Rattle.sq_flat.specs.Held.{AreWhole, Holds, entry_shapes};
 ghost use Rattle.sq_race.specs.Race.{IsFirstRace};
-ghost use Rattle.sq_words.specs.Words.{eval_of};
+ghost use Rattle.sq_cli.specs.Words.{eval_of};
 ghost use Rattle.sq_cli.specs.Races.{IsResolved};
 ghost use Rattle.sq_cli.specs.Ends.{ending, FileCauses};
 ghost use Rattle.sq_cli.specs.Evaluating.{HoldsSources, Evaluates, EndsFlat};
@@ -13,14 +13,14 @@ use crate::end::End;
 use crate::entry::{read_given, write_outputs};
 use crate::sources::read_sources;
 use crate::trap::Trap;
+use crate::words::Eval;
 use crate::world::{Perform, World};
 use sq_flat::{Arrays, FlatEnd, Trapped, eval_flat};
 use sq_port::{Files, Sink};
 use sq_race::laws::without_a_race;
+use sq_small::Bank;
 use sq_spec::Resolved;
 use sq_spec::laws::entry_is_first;
-use sq_tree::Bank;
-use sq_words::Eval;
 use std::alloc::Global;
 
 impl<'a> Perform<'a> for Eval<'a> {

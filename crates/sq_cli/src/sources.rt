@@ -19,8 +19,9 @@ ghost use Rattle.sq_cli.specs.Steps.{ReadsFitting};
 ghost use Rattle.sq_cli.specs.Evaluating.{EndsWith, HoldsSources, ReadsMachine, ReadsMapping};
 
 use crate::end::End;
+use crate::phases::MOST_BYTES;
 use crate::race::race_fault;
-use crate::tree::{MOST_BYTES, read_tree, too_long};
+use crate::tree::{read_tree, too_long};
 use sq_ast::Program;
 use sq_machfile::{Machine, read_machine};
 use sq_mapfile::{Mapping, read_mapping};

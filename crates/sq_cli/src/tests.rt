@@ -2,7 +2,7 @@
 use crate::status::Status;
 use crate::top::sq_top;
 use sq_port::{MemFiles, MemSink};
-use sq_tree::RawBank;
+use sq_small::RawBank;
 use std::test::Fail;
 
 const PROGRAM: &[u8] =
@@ -82,11 +82,6 @@ const FILES: &[(&str, &[u8])] = &[
         "two.mach",
         b"machine 1; level host { capacity 64; } children 2; level core { capacity 32; }",
     ),
-    (
-        "less.mach",
-        b"machine 1; level host { capacity 64; } children 2; level core { capacity 31; }",
-    ),
-    ("picks.txt", b"3 1\n4 1 5\n"),
     (
         "fan.mach",
         b"machine 1; level host { capacity 64; } children 0; level core { capacity 32; }",
@@ -249,121 +244,22 @@ const CASES: &[Case<'static>] = &[
         err: b"refused data Extra 2:7 A\n",
     },
     Case {
-        words: &["run", "two.sq", "8.map", "two.mach", "8.txt"],
-        status: Status::Done,
-        out: b"array B int [8]\n2 4 6 8 10 12 14 16\n",
-        err: b"",
-    },
-    Case {
-        words: &["run", "two.sq", "8.map", "two.mach", "8.txt", "trace=yes"],
-        status: Status::Done,
-        out: b"array B int [8]\n2 4 6 8 10 12 14 16\n",
-        err: b"fill 0.0:32 32\ncopy 0.0:0 1.0:0 16\nfill 1.0:16 16\nleaf 1.0 low\ncopy 1.0:16 0.0:32 16\ncopy 0.0:16 1.1:0 16\nfill 1.1:16 16\nleaf 1.1 low\ncopy 1.1:16 0.0:48 16\n",
-    },
-    // Of two children the second one first.
-    Case {
-        words: &[
-            "run",
-            "two.sq",
-            "8.map",
-            "two.mach",
-            "8.txt",
-            "trace=yes",
-            "order=last",
-        ],
-        status: Status::Done,
-        out: b"array B int [8]\n2 4 6 8 10 12 14 16\n",
-        err: b"fill 0.0:32 32\nfill 1.1:16 16\ncopy 0.0:16 1.1:0 16\nleaf 1.1 low\ncopy 1.1:16 0.0:48 16\nfill 1.0:16 16\ncopy 0.0:0 1.0:0 16\nleaf 1.0 low\ncopy 1.0:16 0.0:32 16\n",
-    },
-    Case {
-        words: &[
-            "run",
-            "two.sq",
-            "8.map",
-            "two.mach",
-            "8.txt",
-            "order=seed:7",
-        ],
-        status: Status::Done,
-        out: b"array B int [8]\n2 4 6 8 10 12 14 16\n",
-        err: b"",
-    },
-    Case {
-        words: &[
-            "run",
-            "two.sq",
-            "8.map",
-            "two.mach",
-            "8.txt",
-            "order=list:picks.txt",
-        ],
-        status: Status::Done,
-        out: b"array B int [8]\n2 4 6 8 10 12 14 16\n",
-        err: b"",
-    },
-    Case {
-        words: &[
-            "run",
-            "two.sq",
-            "8.map",
-            "two.mach",
-            "8.txt",
-            "order=list:8.txt",
-        ],
+        words: &["run", "3.map", "3.map", "32.mach", "3.txt"],
         status: Status::Refused,
         out: b"",
-        err: b"refused order Syntax 1:1\n",
+        err: b"refused program NotYet\n",
     },
     Case {
-        words: &[
-            "run",
-            "two.sq",
-            "8.map",
-            "two.mach",
-            "8.txt",
-            "order=list:none.txt",
-        ],
-        status: Status::Absent,
-        out: b"",
-        err: b"absent none.txt\n",
-    },
-    Case {
-        words: &[
-            "run",
-            "two.sq",
-            "8.map",
-            "less.mach",
-            "none.txt",
-            "order=list:none.txt",
-        ],
+        words: &["run", "P1.sq", "P1.sq", "32.mach", "3.txt"],
         status: Status::Refused,
         out: b"",
-        err: b"refused capacity Capacity core 32 31\n",
+        err: b"refused mapping NotYet\n",
     },
     Case {
-        words: &[
-            "run",
-            "tens.sq",
-            "tens.map",
-            "two.mach",
-            "tens.txt",
-            "order=last",
-        ],
-        status: Status::Trapped,
-        out: b"",
-        err: b"trapped DivZero 9:41 path 1\n",
-    },
-    Case {
-        words: &["run", "total.sq", "total.map", "two.mach", "sum.txt"],
-        status: Status::Done,
-        out: b"array S int [1]\n41\n",
-        err: b"",
-    },
-    Case {
-        words: &["run", "race.sq", "8.map", "two.mach", "8.txt"],
+        words: &["run", "P1.sq", "P1.sq", "P1.sq", "3.txt"],
         status: Status::Refused,
         out: b"",
-        err: b"refused race Race 5:3 B 0 [0..4] 1 [0..4]\n",
+        err: b"refused machine NotYet\n",
     },
     Case {
         words: &["run", "P1.sq", "3.map", "32.mach", "none.txt"],
@@ -562,7 +458,7 @@ fn cases(rt: HostRuntime) -> Result<(), Fail> {
         let words = words_of(&rt, case.words)?;
         let mut files = files(&rt)?;
         let mut out = MemSink::new(rt.alloc(), 200)?;
-        let mut err = MemSink::new(rt.alloc(), 400)?;
+        let mut err = MemSink::new(rt.alloc(), 200)?;
         let mut bank = RawBank::new();
         let status = sq_top(
             rt.alloc(),

@@ -1,7 +1,7 @@
 //! The top call.
 ghost use Rattle.std.specs.Prelude.{◌≡◌, ◌≢◌, ◌⊎◌, ◌≤◌, Some, None};
 ghost use Rattle.sq_port.specs.Ports.{Rose};
-ghost use Rattle.sq_words.specs.Words.{command_of, texts};
+ghost use Rattle.sq_cli.specs.Words.{command_of, texts};
 ghost use Rattle.sq_cli.specs.Ends.{ending, FileCauses};
 ghost use Rattle.sq_cli.specs.Meaning.{Answer};
 ghost use Rattle.sq_cli.specs.Banks.{Writing};
@@ -10,10 +10,10 @@ ghost use Rattle.sq_cli.specs.Top.{Answered, Executed, Finished, IsExplained, Is
 
 use crate::end::{End, put_end};
 use crate::status::Status;
+use crate::words::{Command, parse};
 use crate::world::{Perform, World};
 use sq_port::{Failed, Files, Sink};
-use sq_tree::Bank;
-use sq_words::{Command, parse};
+use sq_small::Bank;
 use std::alloc::Global;
 
 /// Does what the words say.

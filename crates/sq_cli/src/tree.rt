@@ -9,16 +9,13 @@ ghost use Rattle.sq_cli.specs.Ends.{ending, FileCauses};
 ghost use Rattle.sq_cli.specs.Steps.{ReadsTree};
 
 use crate::end::End;
+use crate::phases::MOST_BYTES;
 use sq_ast::Program;
 use sq_lexer::tokens;
 use sq_parser::parse_program;
 use sq_port::{Files, ReadEnd, read_whole};
-use sq_text::limits::TEXT_BYTES;
 use sq_text::{Args, Code, Fault, Phase, Stop};
 use std::alloc::Global;
-
-/// The most bytes of a program, machine or mapping file.
-pub const MOST_BYTES: u64 = TEXT_BYTES as u64;
 
 pub fn read_tree<'a, F: Files>(
     alloc: Global,

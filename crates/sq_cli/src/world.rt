@@ -1,12 +1,12 @@
 //! What a call is handed, and what a command does with it.
 ghost use Rattle.std.specs.Prelude.{◌≡◌};
-ghost use Rattle.sq_words.specs.Words.{Command};
+ghost use Rattle.sq_cli.specs.Words.{Command};
 ghost use Rattle.sq_cli.specs.Ends.{ending, FileCauses};
 ghost use Rattle.sq_cli.specs.Outcome.{Ended};
 
 use crate::end::End;
 use sq_port::{Files, Sink};
-use sq_tree::Bank;
+use sq_small::Bank;
 use std::alloc::Global;
 
 /// The files, standard output, standard error and the bank.

@@ -1,1 +1,5 @@
 pub mod Programs
+pub mod Form
+pub mod Names
+pub mod Small
+pub mod Texts

@@ -1,4 +1,4 @@
-use Rattle.sq_words.specs.Words.{eval_of}
+use Rattle.sq_cli.specs.Words.{eval_of}
 use Rattle.sq_cli.proofs.Evaluations.{evaluates_same}
 use Rattle.sq_cli.proofs.Finals.{causes_after, sources_end, sources_at, sources_told, resolved_at}
 use Rattle.sq_cli.proofs.eval.eval_program.Goals as goal

@@ -1,5 +1,5 @@
 use Rattle.std.proofs.Common.{codes, refl}
-use Rattle.sq_words.specs.Words.{check_of}
+use Rattle.sq_cli.specs.Words.{check_of}
 use Rattle.sq_cli.proofs.Stopping.{stop_ends, memory_stops}
 use Rattle.sq_cli.proofs.ProgramPhases.{program_stops}
 use Rattle.sq_cli.proofs.CheckEnds.{begins_check, types_stop, check_means}

@@ -1,5 +1,5 @@
 use Rattle.std.proofs.Common.{refl, ◌∙◌}
-use Rattle.sq_words.specs.Words.{fmt_of}
+use Rattle.sq_cli.specs.Words.{fmt_of}
 use Rattle.sq_cli.proofs.Stopping.{stop_ends, memory_stops}
 use Rattle.sq_cli.proofs.ProgramPhases.{program_stops}
 use Rattle.sq_cli.proofs.FmtEnds.{begins_fmt, fmt_means}

@@ -1,0 +1,5 @@
+pub mod Bank
+pub mod Bytes
+pub mod Raw
+pub mod Run
+pub mod Source
