@@ -19,24 +19,28 @@ pub enum Chosen {
 }
 
 impl Chosen {
+    /// Always the first of those that are ready.
     pub fn first() -> Chosen
         ensures { chosen_held result ≡ 0 ∷ [] }
     {
         Chosen::First
     }
 
+    /// Always the last of them.
     pub fn last() -> Chosen
         ensures { chosen_held result ≡ 1 ∷ [] }
     {
         Chosen::Last
     }
 
+    /// Those that the generator of this seed draws.
     pub fn seeded(seed: u64) -> Chosen
         ensures { chosen_held result ≡ 2 ∷ seed_start seed }
     {
         Chosen::Seed(SeedOrder::new(seed))
     }
 
+    /// Those that these numbers say, one after another, and then the first.
     pub fn listed(picks: Picks) -> Chosen
         ensures { chosen_held result ≡ 3 ∷ picks }
     {
