@@ -11,6 +11,10 @@ import sys
 HERE = pathlib.Path(__file__).resolve().parent
 
 
+def double(A):
+    return {"B": ("int", [2 * a for a in A])}
+
+
 def blocks(A):
     return {"B": ("int", [2 * a for a in A])}
 
@@ -98,7 +102,9 @@ def text(arrays):
 
 def main():
     differ = 0
-    examples = (blocks, saxpy, matmul, convolution, stencil, prefix, histogram, dot, transpose, pairs, sort, rotate)
+    examples = (
+        double, blocks, saxpy, matmul, convolution, stencil, prefix, histogram, dot, transpose, pairs, sort, rotate,
+    )
     for example in examples:
         folder = HERE / example.__name__
         wanted, output = text(example(**read(folder / "data.txt"))), folder / "output.txt"

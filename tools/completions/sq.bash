@@ -1,4 +1,19 @@
-# Completions of sq for bash: commands, then files by their endings. Source this file.
+# Completions of sq for bash: commands, then files by their endings, then the options of a run. Source this file.
+
+# The options of a run. Readline cuts words at `=` and `:`, so what stands before the last of these is left out.
+_sq_options() {
+  local line=${COMP_LINE:0:COMP_POINT} whole cut
+  whole=${line##* }
+  cut=${whole%"${whole##*[=:]}"}
+  case $whole in
+    order=list:*) mapfile -t COMPREPLY < <(compgen -f -- "${whole#order=list:}") && return ;;
+  esac
+  compopt -o nospace 2>/dev/null
+  mapfile -t COMPREPLY < <(
+    compgen -W "order=first order=last order=seed: order=list: trace=yes trace=no" -- "$whole" | sed "s|^$cut||"
+  )
+}
+
 _sq() {
   local word=${COMP_WORDS[COMP_CWORD]} command=${COMP_WORDS[1]} ending
   COMPREPLY=()
@@ -12,6 +27,10 @@ _sq() {
     eval:3 | run:3) ending=map ;;
     eval:4 | run:4) ending=mach ;;
     eval:5 | run:5) ending=txt ;;
+    run:*)
+      _sq_options
+      return
+      ;;
     *) return ;;
   esac
   compopt -o filenames 2>/dev/null

@@ -4,14 +4,13 @@ use Rattle.sq_port.specs.Ports.{Rose}
 use Rattle.sq_cli.specs.declared.status.Status.{Status}
 use Rattle.sq_cli.specs.declared.status.Status.TheVariants.{Done as DoneStatus, Refused as RefusedStatus, Trapped as TrappedStatus, Usage as UsageStatus, FileFault as FileFaultStatus, SinkFault as SinkFaultStatus, NoMemory as NoMemoryStatus, Absent as AbsentStatus}
 use Rattle.sq_cli.specs.declared.end.End.{End}
-use Rattle.sq_cli.specs.declared.end.End.TheVariants.{Usage, Absent, FileFault, NotYet, Refused, Trapped, NoMemory, SinkFault}
-use Rattle.sq_cli.specs.Texts.{line, usage_line, fault_line, not_yet_line, trap_line}
+use Rattle.sq_cli.specs.declared.end.End.TheVariants.{Usage, Absent, FileFault, Refused, Trapped, NoMemory, SinkFault}
+use Rattle.sq_cli.specs.Texts.{line, usage_line, fault_line, trap_line}
 
 abbrev pub status_of : End → Status
 status_of Usage = UsageStatus
 status_of (Absent name) = AbsentStatus
 status_of (FileFault name) = FileFaultStatus
-status_of (NotYet phase) = RefusedStatus
 status_of (Refused fault) = RefusedStatus
 status_of (Trapped trap) = TrappedStatus
 status_of NoMemory = NoMemoryStatus
@@ -27,7 +26,6 @@ abbrev pub end_text : End → List ℕ
 end_text Usage = usage_line
 end_text (Absent name) = line (codes "absent ") name.now
 end_text (FileFault name) = line (codes "fault ") name.now
-end_text (NotYet phase) = not_yet_line phase
 end_text (Refused fault) = fault_line fault
 end_text (Trapped trap) = trap_line trap
 end_text NoMemory = codes "no memory\n"

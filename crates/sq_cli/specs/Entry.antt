@@ -15,7 +15,7 @@ use Rattle.sq_ast.specs.Modes.{is_read}
 use Rattle.sq_forms.specs.Resolving.{entry_params, entry_extents}
 use Rattle.sq_spec.specs.Works.{extents_at, flat}
 use Rattle.sq_cli.specs.declared.trap.Trap.{Trap}
-use Rattle.sq_cli.specs.Words.{input}
+use Rattle.sq_words.specs.Words.{input}
 use Rattle.sq_cli.specs.Phases.{Inputs}
 use Rattle.sq_cli.specs.Data.{data_fault}
 use Rattle.sq_cli.specs.Sources.{Sources}
@@ -31,7 +31,8 @@ want_of p i extents = record { name = p.name; elem = p.elem; extents = extents_a
 -- the arrays of the parameters whose mode is such, in order, of the parameters from the i-th on
 abbrev pub wants_of : (Mode → Bool) → List Param → ℕ → List (List ℕ) → List Wanted
 wants_of which [] i extents = []
-wants_of which (p ∷ ps) i extents = if which p.mode then want_of p i extents ∷ wants_of which ps (i + 1) extents else wants_of which ps (i + 1) extents
+wants_of which (p ∷ ps) i extents = if which p.mode then want_of p i extents
+    ∷ wants_of which ps (i + 1) extents else wants_of which ps (i + 1) extents
 
 -- ---- numbers in order of coordinates, the last dimension fastest
 
@@ -75,7 +76,8 @@ other_values (vs ∷ rest) = rest
 abbrev pub start_of : List Param → ℕ → List (List ℕ) → List (List ℤ) → Arrays
 start_of [] i extents values = λ k. zeros
 start_of (p ∷ ps) i extents values = if is_read p.mode
-    then with_first (number_at (extents_at (slice_get extents i)) (first_values values)) (start_of ps (i + 1) extents (other_values values))
+    then with_first (number_at (extents_at (slice_get extents i)) (first_values values))
+    (start_of ps (i + 1) extents (other_values values))
     else with_first zeros (start_of ps (i + 1) extents values)
 
 -- the text of an array after the run, where it is an `out` or `inout` one
@@ -86,7 +88,8 @@ output_text true want array = array_text want (in_order want.extents array)
 -- the texts of the `out` and `inout` arrays, in order, of the parameters from the i-th on
 abbrev pub outputs_from : List Param → ℕ → List (List ℕ) → Arrays → List ℕ
 outputs_from [] i extents after = []
-outputs_from (p ∷ ps) i extents after = output_text (is_written p.mode) (want_of p i extents) (after i) ++ outputs_from ps (i + 1) extents after
+outputs_from (p ∷ ps) i extents after = output_text (is_written p.mode) (want_of p i extents)
+    (after i) ++ outputs_from ps (i + 1) extents after
 
 -- ---- the data
 
@@ -102,7 +105,8 @@ pub record IsFirstOfInput (inputs : Inputs) (its : Fault) : Type 0 where
   pub bytes : List ℕ
   pub there : inputs input ≡ Some bytes
   pub found : DataFault
-  pub read : arrays_of (wants_of is_read (params_of entry.sources.tree entry.sources.mapped) 0 entry.extents) bytes ≡ Err found
+  pub read : arrays_of (wants_of is_read (params_of entry.sources.tree entry.sources.mapped) 0 entry.extents) bytes
+      ≡ Err found
   pub is : its ≡ data_fault found
 
 -- the values that the data file gives for the `in` and `inout` arrays
@@ -111,11 +115,13 @@ pub record Data (inputs : Inputs) : Type 0 where
   pub bytes : List ℕ
   pub there : inputs input ≡ Some bytes
   pub values : List (List ℤ)
-  pub read : arrays_of (wants_of is_read (params_of entry.sources.tree entry.sources.mapped) 0 entry.extents) bytes ≡ Ok values
+  pub read : arrays_of (wants_of is_read (params_of entry.sources.tree entry.sources.mapped) 0 entry.extents) bytes
+      ≡ Ok values
 
 -- the arrays that they are
 abbrev pub data_arrays : (inputs : Inputs) → Data inputs → Arrays
-data_arrays inputs given = start_of (params_of given.entry.sources.tree given.entry.sources.mapped) 0 given.entry.extents given.values
+data_arrays inputs given = start_of (params_of given.entry.sources.tree given.entry.sources.mapped) 0
+    given.entry.extents given.values
 
 -- ---- what the source means
 
@@ -124,7 +130,8 @@ pub record GivesFlat (inputs : Inputs) (out : List ℕ) : Type 0 where
   pub given : Data inputs
   pub after : Arrays
   pub run : flat given.entry.sources.tree given.entry.sources.mapped (data_arrays inputs given) ≡ Ok after
-  pub text : out ≡ outputs_from (params_of given.entry.sources.tree given.entry.sources.mapped) 0 given.entry.extents after
+  pub text : out ≡ outputs_from (params_of given.entry.sources.tree given.entry.sources.mapped) 0 given.entry.extents
+      after
 
 -- the trap with its path that the source ends with
 pub record TrapsFlat (inputs : Inputs) (its : Trap) : Type 0 where

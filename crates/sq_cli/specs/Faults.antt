@@ -3,15 +3,14 @@ use Rattle.sq_text.specs.declared.code.Phase.{Phase}
 use Rattle.sq_text.specs.declared.code.Phase.TheVariants.{Program, Types, Machine, Mapping, Resolve, Race, Capacity, Order, Input}
 use Rattle.sq_text.specs.declared.fault.Fault.{Fault}
 use Rattle.sq_ast.specs.declared.program.Program.{Program as Tree}
-use Rattle.sq_cli.specs.declared.words.Kind.{Kind}
-use Rattle.sq_cli.specs.declared.words.Kind.TheVariants.{Check, Fmt, Eval, Run}
-use Rattle.sq_cli.specs.Words.{program}
+use Rattle.sq_words.specs.Words.{program}
 use Rattle.sq_cli.specs.Phases.{Inputs}
 use Rattle.sq_cli.specs.Holding.{Holds}
 use Rattle.sq_cli.specs.Programs.{IsProgramText, ProgramFault, IsFirstTypeFault}
-use Rattle.sq_cli.specs.Small.{Refusal, not_yet, fault, IsSmallFault}
 use Rattle.sq_cli.specs.Sources.{IsFirstOfMachine, IsFirstOfMapping}
 use Rattle.sq_cli.specs.Races.{IsFirstOfResolve, IsFirstOfRace}
+use Rattle.sq_cli.specs.Capacity.{IsFirstOfCapacity}
+use Rattle.sq_cli.specs.Orders.{IsFirstOfOrder}
 use Rattle.sq_cli.specs.Entry.{IsFirstOfInput}
 
 -- the program's text has this fault before all others
@@ -24,7 +23,7 @@ pub record IsFirstOfTypes (inputs : Inputs) (its : Fault) : Type 0 where
   pub program_is : Holds IsProgramText (inputs program) tree
   pub first : IsFirstTypeFault tree its
 
--- the phase has this fault before all others; of the two phases to come there is none
+-- the phase has this fault before all others
 abbrev pub IsFirstOf : Phase → Inputs → Fault → Type 0
 IsFirstOf Program inputs its = IsFirstOfProgram inputs its
 IsFirstOf Types inputs its = IsFirstOfTypes inputs its
@@ -32,17 +31,6 @@ IsFirstOf Machine inputs its = IsFirstOfMachine inputs its
 IsFirstOf Mapping inputs its = IsFirstOfMapping inputs its
 IsFirstOf Resolve inputs its = IsFirstOfResolve inputs its
 IsFirstOf Race inputs its = IsFirstOfRace inputs its
-IsFirstOf Capacity inputs its = ⊥
-IsFirstOf Order inputs its = ⊥
+IsFirstOf Capacity inputs its = IsFirstOfCapacity inputs its
+IsFirstOf Order inputs its = IsFirstOfOrder inputs its
 IsFirstOf Input inputs its = IsFirstOfInput inputs its
-
-abbrev pub IsRefusal : Phase → Inputs → Refusal → Type 0
-IsRefusal phase inputs not_yet = ⊥
-IsRefusal phase inputs (fault its) = IsFirstOf phase inputs its
-
--- why a phase of a command refuses; `run` takes the small forms alone
-abbrev pub IsFault : Kind → Phase → Inputs → Refusal → Type 0
-IsFault Check phase inputs refusal = IsRefusal phase inputs refusal
-IsFault Fmt phase inputs refusal = IsRefusal phase inputs refusal
-IsFault Eval phase inputs refusal = IsRefusal phase inputs refusal
-IsFault Run phase inputs refusal = IsSmallFault phase inputs refusal

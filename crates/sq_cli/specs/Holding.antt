@@ -9,7 +9,3 @@ Holds Is given value = (text : List ℕ) × (given ≡ Some text) × Is text val
 pub record HoldsOnly {A : Type 0} (Is : List ℕ → A → Type 0) (given : Option (List ℕ)) (value : A) : Type 0 where
   pub holds : Holds Is given value
   pub only : (that : A) → Holds Is given that → that ≡ value
-
--- the text is there, and is no value's
-abbrev pub HoldsNone : {A : Type 0} → (List ℕ → A → Type 0) → Option (List ℕ) → Type 0
-HoldsNone {A} Is given = (text : List ℕ) × (given ≡ Some text) × ((value : A) → Is text value → ⊥)

@@ -2,20 +2,19 @@
 use Rattle.std.specs.Prelude.{◌≡◌, ◌≤◌, ℕ, List, [], ◌++◌, take, Option, Result, Ok, Err, codes}
 use Rattle.sq_port.specs.Ports.{Content, Rose, Gains, GainsPrefix}
 use Rattle.sq_text.specs.declared.code.Phase.{Phase}
-use Rattle.sq_small.specs.Bank.{BankSeen}
+use Rattle.sq_tree.specs.Bank.{BankSeen}
 use Rattle.sq_cli.specs.declared.status.Status.{Status}
 use Rattle.sq_cli.specs.declared.status.Status.TheVariants.{Done as DoneStatus, Refused as RefusedStatus, Trapped as TrappedStatus, Usage as UsageStatus, FileFault as FileFaultStatus, NoMemory as NoMemoryStatus, Absent as AbsentStatus}
 use Rattle.sq_cli.specs.declared.end.End.{End}
-use Rattle.sq_cli.specs.declared.end.End.TheVariants.{Usage, Absent, FileFault, NotYet, Refused, Trapped, NoMemory, SinkFault}
-use Rattle.sq_cli.specs.Texts.{line, usage_line, fault_line, not_yet_line, trap_line}
-use Rattle.sq_cli.specs.Words.{Command}
-use Rattle.sq_cli.specs.Small.{Refusal, not_yet, fault}
+use Rattle.sq_cli.specs.declared.end.End.TheVariants.{Usage, Absent, FileFault, Refused, Trapped, NoMemory, SinkFault}
+use Rattle.sq_cli.specs.Texts.{line, usage_line, fault_line, trap_line}
+use Rattle.sq_words.specs.Words.{Command}
 use Rattle.sq_cli.specs.Meaning.{Answer, done, refused, trapped, usage, file_fault, no_memory, absent, Means}
 use Rattle.sq_cli.specs.Banks.{Writing, whole, cut_out, cut_err, BankAfter}
 
 abbrev pub status_for : Answer → Status
 status_for (done out trace) = DoneStatus
-status_for (refused phase refusal) = RefusedStatus
+status_for (refused phase its) = RefusedStatus
 status_for (trapped trap trace) = TrappedStatus
 status_for usage = UsageStatus
 status_for (file_fault phase name) = FileFaultStatus
@@ -33,14 +32,10 @@ trace_for (done out trace) = trace
 trace_for (trapped trap trace) = trace
 trace_for answer = []
 
-abbrev pub refusal_line : Phase → Refusal → List ℕ
-refusal_line phase not_yet = not_yet_line phase
-refusal_line phase (fault its) = fault_line its
-
 -- the line that names an answer
 abbrev pub line_for : Answer → List ℕ
 line_for (done out trace) = []
-line_for (refused phase refusal) = refusal_line phase refusal
+line_for (refused phase its) = fault_line its
 line_for (trapped trap trace) = trap_line trap
 line_for usage = usage_line
 line_for (file_fault phase name) = line (codes "fault ") name
@@ -101,8 +96,7 @@ abbrev pub IsEndOf : Answer → End → Type 0
 IsEndOf answer Usage = answer ≡ usage
 IsEndOf answer (Absent name) = (phase : Phase) × (answer ≡ absent phase name.now)
 IsEndOf answer (FileFault name) = (phase : Phase) × (answer ≡ file_fault phase name.now)
-IsEndOf answer (NotYet phase) = answer ≡ refused phase not_yet
-IsEndOf answer (Refused its) = (phase : Phase) × (answer ≡ refused phase (fault its))
+IsEndOf answer (Refused its) = (phase : Phase) × (answer ≡ refused phase its)
 IsEndOf answer (Trapped trap) = (trace : List ℕ) × (answer ≡ trapped trap trace)
 IsEndOf answer NoMemory = answer ≡ no_memory
 IsEndOf answer SinkFault = ⊥

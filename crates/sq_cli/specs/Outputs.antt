@@ -14,9 +14,11 @@ stored_output true want bytes = array_text want (values_in want.elem (product wa
 
 -- the text of a parameter's array, where it is written
 abbrev pub stored_text : Param → List ℕ → List ℕ → List ℕ
-stored_text p dims bytes = stored_output (is_written p.mode) (record { name = p.name; elem = p.elem; extents = dims }) bytes
+stored_text p dims bytes = stored_output (is_written p.mode) (record { name = p.name; elem = p.elem; extents = dims })
+    bytes
 
 -- the texts of the parameters from the i-th on
 abbrev pub stored_texts : List Param → ℕ → List (List ℕ) → List (List ℕ) → List ℕ
 stored_texts [] i extents list = []
-stored_texts (p ∷ ps) i extents list = stored_text p (extents_at (slice_get extents i)) (get_or list i []) ++ stored_texts ps (i + 1) extents list
+stored_texts (p ∷ ps) i extents list = stored_text p (extents_at (slice_get extents i)) (get_or list i [])
+    ++ stored_texts ps (i + 1) extents list

@@ -3,28 +3,28 @@ use Rattle.std.specs.Prelude.{◌≡◌, ◌⊎◌, ℕ, List, [], ◌∷◌, Bo
 use Rattle.sq_port.specs.Ports.{Content}
 use Rattle.sq_text.specs.declared.code.Phase.{Phase}
 use Rattle.sq_text.specs.declared.code.Phase.TheVariants.{Program, Types, Machine, Mapping, Resolve, Race, Capacity, Order, Input}
-use Rattle.sq_cli.specs.declared.words.Kind.{Kind}
-use Rattle.sq_cli.specs.declared.words.Kind.TheVariants.{Check, Fmt, Eval, Run}
-use Rattle.sq_cli.specs.Words.{Role, program, mapping, machine, input, Files, no_files, named, Command}
+use Rattle.sq_words.specs.declared.words.Kind.{Kind}
+use Rattle.sq_words.specs.declared.words.Kind.TheVariants.{Check, Fmt, Eval, Run}
+use Rattle.sq_words.specs.Words.{Role, program, mapping, machine, input, order, Files, no_files, named, Command}
 
 -- the phases of a command, in order
 abbrev pub phases : Kind → List Phase
 phases Check = Program ∷ Types ∷ []
 phases Fmt = Program ∷ []
 phases Eval = Program ∷ Types ∷ Machine ∷ Mapping ∷ Resolve ∷ Race ∷ Input ∷ []
-phases Run = Program ∷ Machine ∷ Mapping ∷ Capacity ∷ Input ∷ []
+phases Run = Program ∷ Types ∷ Machine ∷ Mapping ∷ Resolve ∷ Race ∷ Capacity ∷ Order ∷ Input ∷ []
 
--- what the file is for that is read when a phase begins
+-- what the file is for that is read when a phase begins, where the words name one
 abbrev pub role_of : Phase → Option Role
 role_of Program = Some program
 role_of Machine = Some machine
 role_of Mapping = Some mapping
 role_of Input = Some input
+role_of Order = Some order
 role_of Types = None
 role_of Resolve = None
 role_of Race = None
 role_of Capacity = None
-role_of Order = None
 
 -- whether a command opens the bank
 abbrev pub opens : Kind → Bool

@@ -14,7 +14,8 @@ use Rattle.sq_flat.specs.Held.{Stored, Holds}
 use Rattle.sq_cli.specs.declared.end.End.{End}
 use Rattle.sq_cli.specs.Data.{data_fault}
 use Rattle.sq_cli.specs.Entry.{params_of, wants_of, start_of}
-use Rattle.sq_cli.specs.Steps.{Stops, IsRefusedWith}
+use Rattle.sq_cli.specs.Givens.{Extents, read_wants, Given}
+use Rattle.sq_cli.specs.Steps.{Stops}
 
 -- the array of a parameter, where it is read
 abbrev pub read_want : Param → List ℕ → List Wanted
@@ -35,7 +36,8 @@ unpicked (p ∷ ps) (bytes ∷ rest) = if is_read p.mode then unpicked ps rest e
 -- the number of the parameter, from the i-th on, that is the one of this number among those that are read
 abbrev pub number_from : ℕ → List Param → ℕ → ℕ
 number_from i [] left = i
-number_from i (p ∷ ps) left = if is_read p.mode then (if left == 0 then i else number_from (i + 1) ps (left - 1)) else number_from (i + 1) ps left
+number_from i (p ∷ ps) left = if is_read p.mode then (if left == 0 then i else number_from (i + 1) ps (left - 1))
+    else number_from (i + 1) ps left
 
 -- nothing has changed but the arrays that are read
 pub record KeepsOthers (params now_params : List Param) (old now : Stored) : Type 0 where
@@ -47,21 +49,16 @@ pub record KeepsOthers (params now_params : List Param) (old now : Stored) : Typ
 pub keeps_itself : (params : List Param) (its : Stored) → KeepsOthers params params its its
 keeps_itself params its = record { params_is = refl; shapes = refl; count = refl; others = refl }
 
-pub keeps_on : (params mid_params now_params : List Param) (old mid now : Stored) → KeepsOthers params mid_params old mid → KeepsOthers mid_params now_params mid now → KeepsOthers params now_params old now
+pub keeps_on : (params mid_params now_params : List Param) (old mid now : Stored)
+    → KeepsOthers params mid_params old mid → KeepsOthers mid_params now_params mid now
+    → KeepsOthers params now_params old now
 keeps_on params mid_params now_params old mid now first second = record {
   params_is = second.params_is ∙ first.params_is;
   shapes = second.shapes ∙ first.shapes;
   count = second.count ∙ first.count;
-  others = subst (λ (ps : List Param). unpicked ps now.bytes ≡ unpicked ps mid.bytes) first.params_is second.others ∙ first.others;
+  others = subst (λ (ps : List Param). unpicked ps now.bytes ≡ unpicked ps mid.bytes) first.params_is second.others
+      ∙ first.others;
 }
-
--- the values that a file gives for these arrays
-pub record Given (ws : List Wanted) (given : Option (List ℕ)) (arrays : List (List ℕ)) : Type 0 where
-  pub bytes : List ℕ
-  pub there : given ≡ Some bytes
-  pub values : List (List ℤ)
-  pub read : arrays_of ws bytes ≡ Ok values
-  pub are : arrays ≡ cells_of ws values
 
 -- the file's first fault
 pub record Unfit (ws : List Wanted) (given : Option (List ℕ)) (its : Fault) : Type 0 where
@@ -72,7 +69,8 @@ pub record Unfit (ws : List Wanted) (given : Option (List ℕ)) (its : Fault) : 
   pub is : its ≡ data_fault found
 
 -- the arrays that are read have the values of the data, and the others are as they were
-pub record IsFilled (params : List Param) (ws : List Wanted) (told : Option Content) (name : List ℕ) (old now : Stored) : Type 0 where
+pub record IsFilled (params : List Param) (ws : List Wanted) (told : Option Content) (name : List ℕ)
+    (old now : Stored) : Type 0 where
   pub shapes : now.shapes ≡ old.shapes
   pub count : length now.bytes ≡ length old.bytes
   pub others : unpicked params now.bytes ≡ unpicked params old.bytes
@@ -80,17 +78,9 @@ pub record IsFilled (params : List Param) (ws : List Wanted) (told : Option Cont
 
 abbrev pub ReadsData : List Param → List Wanted → Option Content → List ℕ → Stored → Result Stored End → Type 0
 ReadsData params ws told name old (Ok now) = IsFilled params ws told name old now
-ReadsData params ws told name old (Err end) = Stops false Input told (Some name) (λ c refusal. IsRefusedWith (Unfit ws (c name)) refusal) end
+ReadsData params ws told name old (Err end) = Stops false Input told (Some name) (λ c its. Unfit ws (c name) its) end
 
 -- ---- of a program's entry
-
--- the extents of its parameters
-pub record Extents (r : Resolved) : Type 0 where
-  pub extents : List (List ℕ)
-  pub are : entry_extents r.mapping.now.sizes (params_of r.typed.now r.mapping.now) ≡ Ok extents
-
-abbrev pub read_wants : (r : Resolved) → Extents r → List Wanted
-read_wants r its = wants_of is_read (params_of r.typed.now r.mapping.now) 0 its.extents
 
 -- the arrays are those that the data gives
 pub record AreGiven (r : Resolved) (given : Option (List ℕ)) (arrays : Stored) : Type 0 where
@@ -107,4 +97,4 @@ pub record IsUnfit (r : Resolved) (given : Option (List ℕ)) (its : Fault) : Ty
 
 abbrev pub ReadsGiven : Resolved → Option Content → List ℕ → Result Stored End → Type 0
 ReadsGiven r told name (Ok arrays) = (c : Content) → told ≡ Some c → AreGiven r (c name) arrays
-ReadsGiven r told name (Err end) = Stops false Input told (Some name) (λ c refusal. IsRefusedWith (IsUnfit r (c name)) refusal) end
+ReadsGiven r told name (Err end) = Stops false Input told (Some name) (λ c its. IsUnfit r (c name) its) end

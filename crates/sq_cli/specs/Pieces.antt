@@ -8,4 +8,5 @@ held_from p at = if nat_lt at p.start then [] else take (p.len - (at - p.start))
 
 -- as many of them as there is room for stand in front, and what stood behind is as it was
 abbrev pub IsCopied : Piece → ℕ → ℕ → List ℕ → List ℕ → Type 0
-IsCopied p at n old new = (n ≡ min (length (held_from p at)) (length old)) × (new ≡ take n (held_from p at) ++ drop n old)
+IsCopied p at n old new = (n ≡ min (length (held_from p at)) (length old))
+    × (new ≡ take n (held_from p at) ++ drop n old)

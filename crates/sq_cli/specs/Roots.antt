@@ -1,62 +1,50 @@
--- The part of the root that the data is read into.
-use Rattle.std.specs.Prelude.{◌≡◌, ℕ, ◌+◌, ◌*◌, nat_le, cond, List, [], ◌∷◌, length, take, drop, Option, Result}
-use Rattle.std.proofs.Common.{refl, ◌∙◌, subst}
-use Rattle.sq_port.specs.Ports.{Content}
-use Rattle.sq_arrays.specs.declared.refusal.ArraysEnd.{ArraysEnd}
-use Rattle.sq_arrays.specs.Arrays.{arrays_of}
-use Rattle.sq_arrays.specs.Targets.{GivesArrays}
-use Rattle.sq_arrays.specs.Window.{IsTold}
-use Rattle.sq_small.specs.declared.plan.Plan.{Plan}
-use Rattle.sq_small.specs.Bank.{BankSeen, put_node}
-use Rattle.sq_cli.specs.Data.{int_array}
-use Rattle.sq_cli.specs.Steps.{IsUnperformed}
+-- The arrays of the entry in the root's memory.
+use Rattle.std.specs.Prelude.{◌≡◌, ◌≢◌, ℕ, Bool, List, map, length, get_or}
+use Rattle.std.specs.List.{All}
+use Rattle.sq_ast.specs.declared.program.Param.{Param}
+use Rattle.sq_ast.specs.Modes.{is_read}
+use Rattle.sq_ir.specs.declared.plan.Plan.{Plan}
+use Rattle.sq_leaf.specs.declared.shape.Shape.{Shape}
+use Rattle.sq_spec.specs.Works.{param_shapes}
+use Rattle.sq_spec.specs.declared.resolved.Resolved.{Resolved}
+use Rattle.sq_flat.specs.Held.{Stored}
+use Rattle.sq_tree.specs.Bank.{BankSeen, bytes_at, capacities, zeros}
+use Rattle.sq_root.specs.declared.place.Place.{Place}
+use Rattle.sq_root.specs.Flagged.{flagged}
+use Rattle.sq_root.specs.Places.{parts, IsOutside}
+use Rattle.sq_meant.specs.Places.{places_of}
+use Rattle.sq_cli.specs.Entry.{params_of}
+use Rattle.sq_cli.specs.Givens.{Extents}
+use Rattle.sq_cli.specs.Outputs.{stored_texts}
 
--- so many bytes of a root from a place on, where it has them
-abbrev pub part_of : ℕ → ℕ → List ℕ → List (List ℕ)
-part_of at size root = cond (nat_le (at + size) (length root)) (take size (drop at root) ∷ []) []
+-- where the arrays of these parameters stand in the root's memory
+abbrev pub places_for : Plan → List Param → List (List ℕ) → List Place
+places_for plan ps extents = places_of plan (param_shapes ps 0 extents)
 
-abbrev pub parts_of : ℕ → ℕ → List (List ℕ) → List (List ℕ)
-parts_of at size [] = []
-parts_of at size (root ∷ rest) = part_of at size root
+abbrev pub read_flags : List Param → List Bool
+read_flags ps = map (λ p. is_read p.mode) ps
 
--- all other bytes of the nodes
-pub record Around : Type 0 where
-  pub front : List ℕ
-  pub behind : List ℕ
-  pub others : List (List ℕ)
+-- and those of the arrays that are read
+abbrev pub read_places : Plan → List Param → List (List ℕ) → List Place
+read_places plan ps extents = flagged (read_flags ps) (places_for plan ps extents)
 
-abbrev pub around : ℕ → ℕ → List (List ℕ) → Around
-around at size [] = record { front = []; behind = []; others = [] }
-around at size (root ∷ rest) = record { front = take at root; behind = drop (at + size) root; others = rest }
+-- the arrays in these places, as they are stored
+abbrev pub stored_root : List Shape → List Place → BankSeen → Stored
+stored_root shapes places seen = record { shapes = shapes; bytes = parts places (bytes_at seen.nodes 0) }
 
--- nothing has changed but bytes of that part
-pub record KeepsAround (at now_at size now_size : ℕ) (old now : BankSeen) : Type 0 where
-  pub at_is : now_at ≡ at
-  pub size_is : now_size ≡ size
-  pub unperformed : IsUnperformed old now
-  pub around_is : around at size now.nodes ≡ around at size old.nodes
+-- the memories from which a run starts, but for the arrays that are read: zeros in all other bytes
+pub record IsStart (r : Resolved) (its : Extents r) (plan : Plan) (nodes : List (List ℕ)) : Type 0 where
+  pub sizes : map length nodes ≡ capacities plan
+  pub outside : (i : ℕ) → All (IsOutside i) (read_places plan (params_of r.typed.now r.mapping.now) its.extents)
+      → get_or (bytes_at nodes 0) i 0 ≡ 0
+  pub others : (node : ℕ) → node ≢ 0 → bytes_at nodes node ≡ bytes_at (zeros plan.nodes) node
 
-pub keeps_itself : (at size : ℕ) (seen : BankSeen) → KeepsAround at at size size seen seen
-keeps_itself at size seen = record { at_is = refl; size_is = refl; unperformed = record { openings = refl; plan = refl; events = refl; counts = refl; edges = refl }; around_is = refl }
+-- the arrays that are read, as they stand there
+abbrev pub read_parts : (r : Resolved) → Extents r → Plan → List (List ℕ) → List (List ℕ)
+read_parts r its plan nodes =
+    parts (read_places plan (params_of r.typed.now r.mapping.now) its.extents) (bytes_at nodes 0)
 
-pub keeps_on : (at mid_at now_at size mid_size now_size : ℕ) (old mid now : BankSeen) → KeepsAround at mid_at size mid_size old mid → KeepsAround mid_at now_at mid_size now_size mid now → KeepsAround at now_at size now_size old now
-keeps_on at mid_at now_at size mid_size now_size old mid now first second = record {
-  at_is = second.at_is ∙ first.at_is;
-  size_is = second.size_is ∙ first.size_is;
-  unperformed = record {
-    openings = second.unperformed.openings ∙ first.unperformed.openings;
-    plan = second.unperformed.plan ∙ first.unperformed.plan;
-    events = second.unperformed.events ∙ first.unperformed.events;
-    counts = second.unperformed.counts ∙ first.unperformed.counts;
-    edges = second.unperformed.edges ∙ first.unperformed.edges;
-  };
-  around_is = subst (λ (n : ℕ). around n size now.nodes ≡ around n size mid.nodes) first.at_is (subst (λ (m : ℕ). around mid_at m now.nodes ≡ around mid_at m mid.nodes) first.size_is second.around_is) ∙ first.around_is;
-}
-
--- in the place of the `in` array stands what the file gives for it, and all else is as it was
-pub record ReadsRoot (told : Option Content) (name : List ℕ) (plan : Plan) (old now : BankSeen) (result : Result (Unit {0}) ArraysEnd) : Type 0 where
-  pub part : List ℕ
-  pub size : length part ≡ 4 * plan.n
-  pub nodes : now.nodes ≡ put_node 0 plan.input_at part old.nodes
-  pub unperformed : IsUnperformed old now
-  pub gives : (bytes : List ℕ) → IsTold told name bytes → GivesArrays (int_array plan.task.input plan.n ∷ []) (part ∷ []) result (arrays_of (int_array plan.task.input plan.n ∷ []) bytes)
+-- the texts of the `out` and `inout` arrays as they stand there
+abbrev pub root_text : (r : Resolved) → Extents r → Plan → List (List ℕ) → List ℕ
+root_text r its plan nodes = stored_texts (params_of r.typed.now r.mapping.now) 0 its.extents
+    (parts (places_for plan (params_of r.typed.now r.mapping.now) its.extents) (bytes_at nodes 0))

@@ -7,7 +7,7 @@ use Rattle.sq_machfile.specs.declared.level.Level.{Level}
 use Rattle.sq_machfile.specs.Machines.{Hierarchy, WithinLimits, StandsFor as IsHierarchyOf, MachineFault}
 use Rattle.sq_mapfile.specs.declared.mapping.Mapping.{Mapping}
 use Rattle.sq_mapfile.specs.Mappings.{StandsFor as IsMappingOf, MappingFault}
-use Rattle.sq_cli.specs.Words.{program, mapping, machine}
+use Rattle.sq_words.specs.Words.{program, mapping, machine}
 use Rattle.sq_cli.specs.Phases.{Inputs}
 use Rattle.sq_cli.specs.Holding.{Holds}
 use Rattle.sq_cli.specs.Programs.{IsProgramText}

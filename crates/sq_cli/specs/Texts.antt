@@ -3,7 +3,6 @@ use Rattle.std.specs.Prelude.{ℕ, List, [], ◌∷◌, ◌++◌, Option, Some, 
 use Rattle.std.specs.List.{flat_map}
 use Rattle.sq_text.specs.declared.place.Place.{Place}
 use Rattle.sq_text.specs.declared.place.Span.{Span}
-use Rattle.sq_text.specs.declared.code.Phase.{Phase}
 use Rattle.sq_text.specs.Codes.{phase_name, code_name}
 use Rattle.sq_text.specs.declared.fault.Arg.{Arg}
 use Rattle.sq_text.specs.declared.fault.Arg.TheVariants.{Word, Number, Block}
@@ -40,11 +39,8 @@ args_text args = flat_map (λ arg. codes " " ++ arg_text arg) args
 
 -- the line of a fault
 abbrev pub fault_line : Fault → List ℕ
-fault_line fault = codes "refused " ++ phase_name fault.phase ++ codes " " ++ code_name fault.code ++ place_text fault.place ++ args_text fault.args ++ codes "\n"
-
--- the line of a text that isn't of the small form
-abbrev pub not_yet_line : Phase → List ℕ
-not_yet_line phase = codes "refused " ++ phase_name phase ++ codes " NotYet\n"
+fault_line fault = codes "refused " ++ phase_name fault.phase ++ codes " " ++ code_name fault.code ++ place_text
+    fault.place ++ args_text fault.args ++ codes "\n"
 
 abbrev pub kind_name : TrapKind → List ℕ
 kind_name DivZero = codes "DivZero"
@@ -63,4 +59,5 @@ path_text (first ∷ rest) = decimal first ++ numbers_text rest
 
 -- the line of a trap
 abbrev pub trap_line : Trap → List ℕ
-trap_line trap = codes "trapped " ++ kind_name trap.kind ++ place_text (Some trap.place) ++ codes " path " ++ path_text trap.path ++ codes "\n"
+trap_line trap = codes "trapped " ++ kind_name trap.kind ++ place_text (Some trap.place) ++ codes " path "
+    ++ path_text trap.path ++ codes "\n"

@@ -4,8 +4,8 @@ use Rattle.sq_port.specs.Ports.{Content, Rose}
 use Rattle.sq_cli.specs.declared.status.Status.{Status}
 use Rattle.sq_cli.specs.declared.status.Status.TheVariants.{Usage, FileFault, SinkFault, NoMemory, Absent}
 use Rattle.sq_cli.specs.declared.end.End.{End}
-use Rattle.sq_small.specs.Bank.{BankSeen}
-use Rattle.sq_cli.specs.Words.{Command}
+use Rattle.sq_tree.specs.Bank.{BankSeen}
+use Rattle.sq_words.specs.Words.{Command}
 use Rattle.sq_cli.specs.Phases.{IsTold}
 use Rattle.sq_cli.specs.Meaning.{Answer, done, refused, trapped, usage, file_fault, absent, IsCause, Means}
 use Rattle.sq_cli.specs.Banks.{Writing, whole, cut_out, cut_err, BankAfter}
@@ -42,7 +42,8 @@ FilesFor (file_fault phase name) faults now_faults misses now_misses = Rose faul
 FilesFor answer faults now_faults misses now_misses = (now_faults ≡ faults) × (now_misses ≡ misses)
 
 -- an answer that has its cause is written, the counts of the files are such, and the bank is as it says
-pub record Answered (command : Option Command) (old now : Outside) (faults now_faults misses now_misses : ℕ) (status : Status) : Type 0 where
+pub record Answered (command : Option Command) (old now : Outside) (faults now_faults misses now_misses : ℕ)
+    (status : Status) : Type 0 where
   pub answer : Answer
   pub writing : Writing
   pub cause : IsAnswer command old.told answer
@@ -63,14 +64,15 @@ pub record Executed (command : Option Command) (old now : Outside) (result : Res
 -- what a line that was put, or cut, makes of that
 pub record Finished (answer : Answer) (writing : Writing) (old now : Outside) (status : Status) : Type 0 where
   pub last : Writing
-  pub later : (command : Option Command) (told : Option Content) (bank now_bank : BankSeen) → BankOf command told answer writing bank now_bank → BankOf command told answer last bank now_bank
+  pub later : (command : Option Command) (told : Option Content) (bank now_bank : BankSeen)
+      → BankOf command told answer writing bank now_bank → BankOf command told answer last bank now_bank
   pub status_is : StatusFor answer last status
   pub puts : Puts last answer (err_text answer) old now
 
 -- an answer that tells what the files hold
 abbrev pub IsSaid : Answer → Type 0
 IsSaid (done out trace) = Unit {0}
-IsSaid (refused phase refusal) = Unit {0}
+IsSaid (refused phase its) = Unit {0}
 IsSaid (trapped trap trace) = Unit {0}
 IsSaid (absent phase name) = Unit {0}
 IsSaid answer = ⊥
@@ -78,7 +80,8 @@ IsSaid answer = ⊥
 -- the status is that of what the files say, or want of memory
 abbrev pub IsExplained : Option Command → Option Content → Status → Type 0
 IsExplained None told status = status ≡ Usage
-IsExplained (Some command) told status = (c : Content) → IsTold command told c → (status ≡ NoMemory) ⊎ ((answer : Answer) × IsSaid answer × IsCause command c answer × (status ≡ status_for answer))
+IsExplained (Some command) told status = (c : Content) → IsTold command told c → (status ≡ NoMemory)
+    ⊎ ((answer : Answer) × IsSaid answer × IsCause command c answer × (status ≡ status_for answer))
 
 -- the statuses that may stand in place of what the files say
 abbrev pub IsFree : Status → Type 0
@@ -90,4 +93,5 @@ IsFree status = ⊥
 -- what the files say is answered, or a failure in its place
 abbrev pub IsOnly : Option Command → Option Content → Status → Type 0
 IsOnly None told status = Unit {0}
-IsOnly (Some command) told status = (c : Content) → IsTold command told c → (answer : Answer) → IsSaid answer → IsCause command c answer → (status ≡ status_for answer) ⊎ IsFree status
+IsOnly (Some command) told status = (c : Content) → IsTold command told c → (answer : Answer) → IsSaid answer
+    → IsCause command c answer → (status ≡ status_for answer) ⊎ IsFree status

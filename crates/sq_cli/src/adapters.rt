@@ -95,7 +95,8 @@ impl<'a, R: rt::Files> DiskReader<'a, R> {
     // Opens the file of that name, where it isn't the one that is open.
     fn open(&mut self, name: &str) -> Result<(), FileEnd>
         ensures named { OnOk result (string_bytes self.new.name ≡ name.now) }
-        ensures fresh { OnOk result ((string_bytes self.old.name ≡ name.now → ⊥) → (at : ℕ) → held_from self.new.piece at ≡ []) }
+        ensures fresh { OnOk result ((string_bytes self.old.name ≡ name.now → ⊥) → (at : ℕ)
+            → held_from self.new.piece at ≡ []) }
     {
         if self.opened.is_some() && self.name.as_str() == name {
             return Ok(());

@@ -1,13 +1,13 @@
 //! The command `check`: whether a program keeps the rules of names, kinds and parameters.
-ghost use Rattle.sq_cli.specs.Words.{check_of};
+ghost use Rattle.sq_words.specs.Words.{check_of};
 
 use crate::end::End;
 use crate::tree::read_tree;
-use crate::words::Check;
 use crate::world::{Perform, World};
 use sq_port::{Failed, Files, Sink, put_all};
-use sq_small::Bank;
 use sq_text::Stop;
+use sq_tree::Bank;
+use sq_words::Check;
 use std::alloc::Global;
 
 impl<'a> Perform<'a> for Check<'a> {

@@ -4,11 +4,11 @@ ghost use Rattle.sq_port.specs.Ports.{Rose, Gains, GainsPrefix, Wrote};
 ghost use Rattle.sq_cli.specs.Texts.{usage_line};
 ghost use Rattle.sq_cli.specs.Ends.{status_of, end_text};
 
-use crate::lines::{put_fault, put_line, put_not_yet, put_trap};
+use crate::lines::{put_fault, put_line, put_trap};
 use crate::status::Status;
 use crate::trap::Trap;
 use sq_port::{Failed, Sink, put_next};
-use sq_text::{Fault, Phase};
+use sq_text::Fault;
 
 #[derive(Drop)]
 pub enum End<'a> {
@@ -17,8 +17,6 @@ pub enum End<'a> {
     Absent(&'a str),
     /// A read of the file of this name failed.
     FileFault(&'a str),
-    /// The phase's text isn't of the small form.
-    NotYet(Phase),
     Refused(Fault),
     /// The source traps.
     Trapped(Trap),
@@ -34,7 +32,6 @@ impl End<'_> {
             End::Usage => Status::Usage,
             End::Absent(_) => Status::Absent,
             End::FileFault(_) => Status::FileFault,
-            End::NotYet(_) => Status::Refused,
             End::Refused(_) => Status::Refused,
             End::Trapped(_) => Status::Trapped,
             End::NoMemory => Status::NoMemory,
@@ -46,13 +43,13 @@ impl End<'_> {
 /// Puts the line of an end; after SinkFault none.
 pub fn put_end<E: Sink>(err: &mut E, end: &End<'_>) -> Result<(), Failed>
     ensures later { E.faults err.old ≤ E.faults err.new }
-    ensures wrote { Wrote (E.written err.old) (E.written err.new) (E.faults err.old) (E.faults err.new) (end_text end.now) result }
+    ensures wrote { Wrote (E.written err.old) (E.written err.new) (E.faults err.old) (E.faults err.new)
+        (end_text end.now) result }
 {
     match end {
         End::Usage => put_usage_line(err),
         End::Absent(name) => put_line(err, b"absent ", name.as_bytes()),
         End::FileFault(name) => put_line(err, b"fault ", name.as_bytes()),
-        End::NotYet(phase) => put_not_yet(err, *phase),
         End::Refused(fault) => put_fault(err, fault),
         End::Trapped(trap) => put_trap(err, trap),
         End::NoMemory => put_next(err, Ok(()), b"no memory\n"),
@@ -63,7 +60,8 @@ pub fn put_end<E: Sink>(err: &mut E, end: &End<'_>) -> Result<(), Failed>
 #[tactic(auto, unfolding(crate::specs::Texts::usage_line))]
 fn put_usage_line<E: Sink>(err: &mut E) -> Result<(), Failed>
     ensures later { E.faults err.old ≤ E.faults err.new }
-    ensures wrote { Wrote (E.written err.old) (E.written err.new) (E.faults err.old) (E.faults err.new) usage_line result }
+    ensures wrote { Wrote (E.written err.old) (E.written err.new) (E.faults err.old) (E.faults err.new) usage_line
+        result }
 {
     put_next(
         err,
@@ -74,8 +72,10 @@ fn put_usage_line<E: Sink>(err: &mut E) -> Result<(), Failed>
 
 /// What the tool answers where a word is no text: the usage line.
 pub fn put_usage<E: Sink>(err: &mut E) -> Status
-    ensures usage { result ≢ Status.SinkFault → (result ≡ Status.Usage) × Gains (E.written err.old) (E.written err.new) usage_line }
-    ensures sink_fault { result ≡ Status.SinkFault → GainsPrefix (E.written err.old) (E.written err.new) usage_line × Rose (E.faults err.old) (E.faults err.new) }
+    ensures usage { result ≢ Status.SinkFault → (result ≡ Status.Usage) × Gains (E.written err.old)
+        (E.written err.new) usage_line }
+    ensures sink_fault { result ≡ Status.SinkFault → GainsPrefix (E.written err.old) (E.written err.new) usage_line
+        × Rose (E.faults err.old) (E.faults err.new) }
 {
     match put_end(err, &End::Usage) {
         Ok(()) => Status::Usage,

@@ -9,17 +9,16 @@ ghost use Rattle.sq_ast.specs.Modes as modes;
 ghost use Rattle.sq_forms.specs.Resolving.{entry_extents};
 ghost use Rattle.sq_spec.specs.Works.{param_shapes};
 ghost use Rattle.sq_flat.specs.Held.{AreWhole, entry_shapes, extents_in};
-ghost use Rattle.sq_cli.specs.Data.{args_for};
+ghost use Rattle.sq_cli.specs.Data.{args_for, code_for};
 ghost use Rattle.sq_cli.specs.Ends.{ending, FileCauses};
 ghost use Rattle.sq_cli.specs.Entry.{params_of, wants_of};
 ghost use Rattle.sq_cli.specs.Outputs.{stored_output, stored_text, stored_texts};
 ghost use Rattle.sq_cli.specs.Picking.{read_want, picked, number_from, KeepsOthers, keeps_itself, keeps_on, ReadsData, ReadsGiven};
 ghost use Rattle.sq_cli.specs.Steps.{WroteOut};
 
-use crate::data::code_of;
 use crate::end::End;
 use sq_arrays::laws::values_are_those_of_their_array;
-use sq_arrays::{ArrayTarget, ArraysEnd, InputEnd, Want, read_arrays, write_array};
+use sq_arrays::{ArrayTarget, ArraysEnd, InputCode, InputEnd, Want, read_arrays, write_array};
 use sq_ast::{Mode, Param};
 use sq_flat::Arrays;
 use sq_form_laws::laws::forms_are_those_found;
@@ -27,18 +26,20 @@ use sq_port::{Failed, Files, Sink};
 use sq_rect::Dims;
 use sq_spec::Resolved;
 use sq_spec::laws::entry_is_first;
-use sq_text::{Arg, Args, Fault, Phase};
+use sq_text::{Arg, Args, Code, Fault, Phase};
 use std::alloc::{AllocError, Global};
 
-fn is_read(mode: Mode) -> bool
+/// Whether an array of this mode is read.
+pub fn is_read(mode: Mode) -> bool
     ensures { result ≡ modes.is_read mode }
 {
     mode.is_read()
 }
 
-// The extents of the entry's parameters.
-fn entry_dims<'r>(resolved: &'r Resolved<'_>) -> &'r [Dims]
-    ensures fit { entry_extents resolved.now.mapping.now.sizes (params_of resolved.now.typed.now resolved.now.mapping.now) ≡ Ok result.now }
+/// The extents of the entry's parameters.
+pub fn entry_dims<'r>(resolved: &'r Resolved<'_>) -> &'r [Dims]
+    ensures fit { entry_extents resolved.now.mapping.now.sizes
+        (params_of resolved.now.typed.now resolved.now.mapping.now) ≡ Ok result.now }
     ensures found { extents_in (slice_get resolved.now.found.entries 0) ≡ result.now }
 {
     entry_is_first();
@@ -49,7 +50,9 @@ fn entry_dims<'r>(resolved: &'r Resolved<'_>) -> &'r [Dims]
 // ---- what the data gives
 
 fn add_want<'p>(wants: &mut Vec<Want<'p>>, param: &'p Param, dims: &Dims) -> Result<(), AllocError>
-    ensures { OnOk result (map wanted wants.new.items ≡ map wanted wants.old.items ++ record { name = param.now.name; elem = param.now.elem; extents = dims.now } ∷ []) }
+    ensures { OnOk result
+        (map wanted wants.new.items ≡ map wanted wants.old.items
+        ++ record { name = param.now.name; elem = param.now.elem; extents = dims.now } ∷ []) }
 {
     wants.push(Want {
         name: &param.name,
@@ -70,8 +73,8 @@ fn push_want<'p>(wants: &mut Vec<Want<'p>>, param: &'p Param, dims: &Dims) -> Re
     }
 }
 
-// The arrays that are read.
-fn wants_in<'p>(
+/// The arrays that are read.
+pub fn wants_in<'p>(
     alloc: Global,
     params: &'p [Param],
     extents: &[Dims],
@@ -124,6 +127,21 @@ impl ArrayTarget for Given<'_> {
     ghost keeps_on = { λ g h i first second. keeps_on g.params.now h.params.now i.params.now g.arrays h.arrays i.arrays first second };
 }
 
+/// The code of a fault of the data.
+pub fn code_of(code: InputCode) -> Code
+    ensures { result ≡ code_for code }
+{
+    match code {
+        InputCode::LimitFile => Code::LimitFile,
+        InputCode::Syntax => Code::Syntax,
+        InputCode::Name => Code::Name,
+        InputCode::Shape => Code::Shape,
+        InputCode::Range => Code::Range,
+        InputCode::Short => Code::Short,
+        InputCode::Extra => Code::Extra,
+    }
+}
+
 // The arguments of a fault of the data: the name of the array that is wanted at its place.
 fn args_of(alloc: Global, wants: &[Want], array: Option<usize>) -> Result<Args, AllocError>
     ensures { IfOk result (λ args. args ≡ args_for (name_at (map wanted wants.now) array)) }
@@ -150,7 +168,8 @@ fn give_data<'a, F: Files>(
     requires { HasRoom (map wanted wants.now) (picked params.now arrays.bytes) }
     ensures content { F.content files.new ≡ F.content files.old }
     ensures read { ReadsData params.now (map wanted wants.now) (F.content files.old) name.now arrays result }
-    ensures cause { FileCauses (F.faults files.old) (F.faults files.new) (F.misses files.old) (F.misses files.new) (ending result) }
+    ensures cause { FileCauses (F.faults files.old) (F.faults files.new) (F.misses files.old) (F.misses files.new)
+        (ending result) }
 {
     let mut given = Given { params, arrays };
     match read_arrays(files, name, wants, &mut given) {
@@ -179,9 +198,11 @@ pub fn read_given<'a, F: Files>(
     resolved: &Resolved<'_>,
 ) -> Result<Arrays, End<'a>>
     ensures content { F.content files.new ≡ F.content files.old }
-    ensures shapes { IfOk result (λ a. a.shapes ≡ entry_shapes resolved.now.typed.now.tasks resolved.now.mapping.now resolved.now.found.entries) }
+    ensures shapes { IfOk result (λ a. a.shapes ≡ entry_shapes resolved.now.typed.now.tasks resolved.now.mapping.now
+        resolved.now.found.entries) }
     ensures given { ReadsGiven resolved.now (F.content files.old) name.now result }
-    ensures cause { FileCauses (F.faults files.old) (F.faults files.new) (F.misses files.old) (F.misses files.new) (ending result) }
+    ensures cause { FileCauses (F.faults files.old) (F.faults files.new) (F.misses files.old) (F.misses files.new)
+        (ending result) }
 {
     // What is read are values of their types.
     values_are_those_of_their_array();
@@ -203,7 +224,9 @@ pub fn read_given<'a, F: Files>(
 fn put_array<S: Sink>(out: &mut S, param: &Param, dims: &Dims, bytes: &[u8]) -> Result<(), Failed>
     requires { length bytes.now ≡ product dims.now * width param.now.elem }
     ensures later { S.faults out.old ≤ S.faults out.new }
-    ensures wrote { Wrote (S.written out.old) (S.written out.new) (S.faults out.old) (S.faults out.new) (stored_output true (record { name = param.now.name; elem = param.now.elem; extents = dims.now }) bytes.now) result }
+    ensures wrote { Wrote (S.written out.old) (S.written out.new) (S.faults out.old) (S.faults out.new)
+        (stored_output true (record { name = param.now.name; elem = param.now.elem; extents = dims.now }) bytes.now)
+        result }
 {
     let want = Want {
         name: &param.name,
@@ -217,7 +240,8 @@ fn put_array<S: Sink>(out: &mut S, param: &Param, dims: &Dims, bytes: &[u8]) -> 
 fn put_written<S: Sink>(out: &mut S, param: &Param, dims: &Dims, bytes: &[u8]) -> Result<(), Failed>
     requires { length bytes.now ≡ product dims.now * width param.now.elem }
     ensures later { S.faults out.old ≤ S.faults out.new }
-    ensures wrote { Wrote (S.written out.old) (S.written out.new) (S.faults out.old) (S.faults out.new) (stored_text param.now dims.now bytes.now) result }
+    ensures wrote { Wrote (S.written out.old) (S.written out.new) (S.faults out.old) (S.faults out.new)
+        (stored_text param.now dims.now bytes.now) result }
 {
     match param.mode {
         Mode::Input => Ok(()),
@@ -226,8 +250,8 @@ fn put_written<S: Sink>(out: &mut S, param: &Param, dims: &Dims, bytes: &[u8]) -
     }
 }
 
-// Goes on with the text of the outputs: with the array of a parameter.
-fn put_output<S: Sink>(
+/// Goes on with the text of the outputs: with the array of a parameter.
+pub fn put_output<S: Sink>(
     out: &mut S,
     so_far: Result<(), Failed>,
     param: &Param,
@@ -236,8 +260,10 @@ fn put_output<S: Sink>(
 ) -> Result<(), Failed>
     requires { length bytes.now ≡ product dims.now * width param.now.elem }
     ensures later { S.faults out.old ≤ S.faults out.new }
-    ensures wrote { (start : _) (faults : ℕ) (text : List ℕ) → Wrote start (S.written out.old) faults (S.faults out.old) text so_far
-        → Wrote start (S.written out.new) faults (S.faults out.new) (text ++ stored_text param.now dims.now bytes.now) result }
+    ensures wrote { (start : _) (faults : ℕ) (text : List ℕ) → Wrote start (S.written out.old) faults
+        (S.faults out.old) text so_far
+        → Wrote start (S.written out.new) faults (S.faults out.new) (text ++ stored_text param.now dims.now bytes.now)
+        result }
 {
     match so_far {
         Ok(()) => put_written(out, param, dims, bytes),
@@ -256,7 +282,8 @@ fn put_outputs<S: Sink>(
     requires shapes { arrays.now.shapes ≡ param_shapes params.now 0 extents.now }
     requires whole { AreWhole arrays.now }
     ensures later { S.faults out.old ≤ S.faults out.new }
-    ensures wrote { Wrote (S.written out.old) (S.written out.new) (S.faults out.old) (S.faults out.new) (stored_texts params.now 0 extents.now arrays.now.bytes) result }
+    ensures wrote { Wrote (S.written out.old) (S.written out.new) (S.faults out.old) (S.faults out.new)
+        (stored_texts params.now 0 extents.now arrays.now.bytes) result }
 {
     let mut so_far = Ok(());
     for (i, param) in params.iter().enumerate() {
@@ -271,10 +298,14 @@ pub fn write_outputs<'a, S: Sink>(
     resolved: &Resolved<'_>,
     arrays: &Arrays,
 ) -> Result<(), End<'a>>
-    requires shapes { arrays.now.shapes ≡ entry_shapes resolved.now.typed.now.tasks resolved.now.mapping.now resolved.now.found.entries }
+    requires shapes { arrays.now.shapes ≡ entry_shapes resolved.now.typed.now.tasks resolved.now.mapping.now
+        resolved.now.found.entries }
     requires whole { AreWhole arrays.now }
-    ensures wrote { (extents : List (List ℕ)) → entry_extents resolved.now.mapping.now.sizes (params_of resolved.now.typed.now resolved.now.mapping.now) ≡ Ok extents
-        → WroteOut (S.written out.old) (S.written out.new) (S.faults out.old) (S.faults out.new) (stored_texts (params_of resolved.now.typed.now resolved.now.mapping.now) 0 extents arrays.now.bytes) result }
+    ensures wrote { (extents : List (List ℕ)) → entry_extents resolved.now.mapping.now.sizes
+        (params_of resolved.now.typed.now resolved.now.mapping.now) ≡ Ok extents
+        → WroteOut (S.written out.old) (S.written out.new) (S.faults out.old) (S.faults out.new)
+        (stored_texts (params_of resolved.now.typed.now resolved.now.mapping.now) 0 extents arrays.now.bytes)
+        result }
     ensures cause { (f : ℕ) (m : ℕ) → FileCauses f f m m (ending result) }
 {
     match put_outputs(out, resolved.entry_params(), entry_dims(resolved), arrays) {

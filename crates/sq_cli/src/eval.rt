@@ -4,7 +4,7 @@ ghost use Rattle.sq_leaf.specs.Source.{Arrays as SpecArrays};
 ghost use Rattle.sq_spec.specs.Works.{flat};
 ghost use Rattle.sq_flat.specs.Held.{AreWhole, Holds, entry_shapes};
 ghost use Rattle.sq_race.specs.Race.{IsFirstRace};
-ghost use Rattle.sq_cli.specs.Words.{eval_of};
+ghost use Rattle.sq_words.specs.Words.{eval_of};
 ghost use Rattle.sq_cli.specs.Races.{IsResolved};
 ghost use Rattle.sq_cli.specs.Ends.{ending, FileCauses};
 ghost use Rattle.sq_cli.specs.Evaluating.{HoldsSources, Evaluates, EndsFlat};
@@ -12,15 +12,15 @@ ghost use Rattle.sq_cli.specs.Evaluating.{HoldsSources, Evaluates, EndsFlat};
 use crate::end::End;
 use crate::entry::{read_given, write_outputs};
 use crate::sources::read_sources;
-use crate::trap::Trap;
-use crate::words::Eval;
+use crate::trap::trap_at;
 use crate::world::{Perform, World};
-use sq_flat::{Arrays, FlatEnd, Trapped, eval_flat};
+use sq_flat::{Arrays, FlatEnd, eval_flat};
 use sq_port::{Files, Sink};
 use sq_race::laws::without_a_race;
-use sq_small::Bank;
 use sq_spec::Resolved;
 use sq_spec::laws::entry_is_first;
+use sq_tree::Bank;
+use sq_words::Eval;
 use std::alloc::Global;
 
 impl<'a> Perform<'a> for Eval<'a> {
@@ -45,8 +45,11 @@ fn eval_program<'a, F: Files, S: Sink>(
     out: &mut S,
 ) -> Result<(), End<'a>>
     ensures content { F.content files.new ≡ F.content files.old }
-    ensures evaluated { Evaluates (eval_of words.now.program.now words.now.mapping.now words.now.machine.now words.now.input.now) (F.content files.old) (S.written out.old) (S.written out.new) (S.faults out.old) (S.faults out.new) result }
-    ensures cause { FileCauses (F.faults files.old) (F.faults files.new) (F.misses files.old) (F.misses files.new) (ending result) }
+    ensures evaluated { Evaluates
+        (eval_of words.now.program.now words.now.mapping.now words.now.machine.now words.now.input.now)
+        (F.content files.old) (S.written out.old) (S.written out.new) (S.faults out.old) (S.faults out.new) result }
+    ensures cause { FileCauses (F.faults files.old) (F.faults files.new) (F.misses files.old) (F.misses files.new)
+        (ending result) }
 {
     let sources = match read_sources(alloc, files, words.program, words.mapping, words.machine) {
         Ok(sources) => sources,
@@ -68,11 +71,15 @@ fn eval_free<'a, F: Files, S: Sink>(
     resolved: &Resolved<'_>,
 ) -> Result<(), End<'a>>
     requires forms { IsResolved resolved.now.typed.now resolved.now.machine.now resolved.now.mapping.now resolved.now }
-    requires holds { HoldsSources (F.content files.old) words.now.program.now words.now.mapping.now words.now.machine.now resolved.now.typed.now resolved.now.machine.now resolved.now.mapping.now }
+    requires holds { HoldsSources (F.content files.old) words.now.program.now words.now.mapping.now
+        words.now.machine.now resolved.now.typed.now resolved.now.machine.now resolved.now.mapping.now }
     requires free { IsFirstRace resolved.now None }
     ensures content { F.content files.new ≡ F.content files.old }
-    ensures evaluated { Evaluates (eval_of words.now.program.now words.now.mapping.now words.now.machine.now words.now.input.now) (F.content files.old) (S.written out.old) (S.written out.new) (S.faults out.old) (S.faults out.new) result }
-    ensures cause { FileCauses (F.faults files.old) (F.faults files.new) (F.misses files.old) (F.misses files.new) (ending result) }
+    ensures evaluated { Evaluates
+        (eval_of words.now.program.now words.now.mapping.now words.now.machine.now words.now.input.now)
+        (F.content files.old) (S.written out.old) (S.written out.new) (S.faults out.old) (S.faults out.new) result }
+    ensures cause { FileCauses (F.faults files.old) (F.faults files.new) (F.misses files.old) (F.misses files.new)
+        (ending result) }
 {
     entry_is_first();
     let given = match read_given(alloc, files, words.input, resolved) {
@@ -88,27 +95,19 @@ fn eval_free<'a, F: Files, S: Sink>(
 
 // Evaluates the forms on the arrays that the data gives.
 fn eval_given<'a>(alloc: Global, resolved: &Resolved<'_>, given: Arrays) -> Result<Arrays, End<'a>>
-    requires shapes { given.shapes ≡ entry_shapes resolved.now.typed.now.tasks resolved.now.mapping.now resolved.now.found.entries }
+    requires shapes { given.shapes ≡ entry_shapes resolved.now.typed.now.tasks resolved.now.mapping.now
+        resolved.now.found.entries }
     requires free { IsFirstRace resolved.now None }
     ensures shapes { IfOk result (λ a. a.shapes ≡ given.shapes) }
     ensures whole { IfOk result (λ a. AreWhole a) }
     ensures cause { (f : ℕ) (m : ℕ) → FileCauses f f m m (ending result) }
-    ensures ends { (s : SpecArrays) → Holds given.shapes given.bytes s → EndsFlat given.shapes result (flat resolved.now.typed.now resolved.now.mapping.now s) }
+    ensures ends { (s : SpecArrays) → Holds given.shapes given.bytes s → EndsFlat given.shapes result
+        (flat resolved.now.typed.now resolved.now.mapping.now s) }
 {
     without_a_race();
     match eval_flat(alloc, resolved, given) {
         Ok(arrays) => Ok(arrays),
-        Err(FlatEnd::Trap(trapped)) => Err(End::Trapped(trap_of(trapped))),
+        Err(FlatEnd::Trap(trapped)) => Err(End::Trapped(trap_at(trapped.trap, trapped.path))),
         Err(FlatEnd::NoMemory) => Err(End::NoMemory),
-    }
-}
-
-fn trap_of(trapped: Trapped) -> Trap
-    ensures { result ≡ record { kind = trapped.trap.kind; place = trapped.trap.place; path = trapped.path } }
-{
-    Trap {
-        kind: trapped.trap.kind,
-        place: trapped.trap.place,
-        path: trapped.path,
     }
 }

@@ -1,13 +1,13 @@
 //! The command `fmt`: the canonical text of a program.
-ghost use Rattle.sq_cli.specs.Words.{fmt_of};
+ghost use Rattle.sq_words.specs.Words.{fmt_of};
 
 use crate::end::End;
 use crate::tree::read_tree;
-use crate::words::Fmt;
 use crate::world::{Perform, World};
 use sq_ast::print_program;
 use sq_port::{Failed, Files, Sink, put_all};
-use sq_small::Bank;
+use sq_tree::Bank;
+use sq_words::Fmt;
 use std::alloc::Global;
 
 impl<'a> Perform<'a> for Fmt<'a> {

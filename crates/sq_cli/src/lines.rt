@@ -3,16 +3,17 @@ ghost use Rattle.std.specs.Prelude.{◌≡◌, ◌++◌, ◌≤◌, ℕ, List, c
 ghost use Rattle.std.specs.List.{flat_map};
 ghost use Rattle.sq_port.specs.Ports.{Wrote};
 ghost use Rattle.sq_port.specs.Lines.{Gathers};
-ghost use Rattle.sq_cli.specs.Texts.{place_text, span_text, arg_text, args_text, path_text, numbers_text, next_text, fault_line, not_yet_line, trap_line, line};
+ghost use Rattle.sq_cli.specs.Texts.{place_text, span_text, arg_text, args_text, path_text, numbers_text, next_text, fault_line, trap_line, line};
 
 use crate::trap::{Trap, kind_word};
 use sq_port::{Failed, Line, Sink};
-use sq_text::{Arg, Fault, Phase, Place, Span};
+use sq_text::{Arg, Fault, Place, Span};
 
 /// Puts the line of a fault.
 pub fn put_fault<S: Sink>(sink: &mut S, fault: &Fault) -> Result<(), Failed>
     ensures later { S.faults sink.old ≤ S.faults sink.new }
-    ensures wrote { Wrote (S.written sink.old) (S.written sink.new) (S.faults sink.old) (S.faults sink.new) (fault_line fault.now) result }
+    ensures wrote { Wrote (S.written sink.old) (S.written sink.new) (S.faults sink.old) (S.faults sink.new)
+        (fault_line fault.now) result }
 {
     let mut line = Line::new();
     line.add(sink, b"refused ");
@@ -25,22 +26,11 @@ pub fn put_fault<S: Sink>(sink: &mut S, fault: &Fault) -> Result<(), Failed>
     line.put(sink)
 }
 
-/// Puts the line of a text that isn't of the small form.
-pub fn put_not_yet<S: Sink>(sink: &mut S, phase: Phase) -> Result<(), Failed>
-    ensures later { S.faults sink.old ≤ S.faults sink.new }
-    ensures wrote { Wrote (S.written sink.old) (S.written sink.new) (S.faults sink.old) (S.faults sink.new) (not_yet_line phase) result }
-{
-    let mut line = Line::new();
-    line.add(sink, b"refused ");
-    line.add(sink, phase.name());
-    line.add(sink, b" NotYet\n");
-    line.put(sink)
-}
-
 /// Puts the line of a trap.
 pub fn put_trap<S: Sink>(sink: &mut S, trap: &Trap) -> Result<(), Failed>
     ensures later { S.faults sink.old ≤ S.faults sink.new }
-    ensures wrote { Wrote (S.written sink.old) (S.written sink.new) (S.faults sink.old) (S.faults sink.new) (trap_line trap.now) result }
+    ensures wrote { Wrote (S.written sink.old) (S.written sink.new) (S.faults sink.old) (S.faults sink.new)
+        (trap_line trap.now) result }
 {
     let mut line = Line::new();
     line.add(sink, b"trapped ");
@@ -55,7 +45,8 @@ pub fn put_trap<S: Sink>(sink: &mut S, trap: &Trap) -> Result<(), Failed>
 /// Puts a word, what it is about, and the end of the line.
 pub fn put_line<S: Sink>(sink: &mut S, word: &[u8], about: &[u8]) -> Result<(), Failed>
     ensures later { S.faults sink.old ≤ S.faults sink.new }
-    ensures wrote { Wrote (S.written sink.old) (S.written sink.new) (S.faults sink.old) (S.faults sink.new) (line word.now about.now) result }
+    ensures wrote { Wrote (S.written sink.old) (S.written sink.new) (S.faults sink.old) (S.faults sink.new)
+        (line word.now about.now) result }
 {
     let mut line = Line::new();
     line.add(sink, word);

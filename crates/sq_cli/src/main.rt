@@ -1,17 +1,18 @@
-//! `sq`: checks and formats programs, and runs a leaf task on the memory of a machine.
+//! `sq`: checks, formats and evaluates programs, and runs them on the memories of machines.
 #![tactic(auto)]
 
 mod adapters;
+mod capacity;
 mod check;
-mod data;
 mod end;
 mod entry;
 mod eval;
 mod fmt;
+mod launch;
 mod lines;
-mod phases;
-mod plan;
+mod order;
 mod race;
+mod root;
 mod run;
 mod sources;
 mod status;
@@ -20,12 +21,11 @@ mod tests;
 mod top;
 mod trap;
 mod tree;
-mod words;
 mod world;
 
 use adapters::{DiskFiles, StreamSink};
 use end::put_usage;
-use sq_small::RawBank;
+use sq_tree::RawBank;
 use status::Status;
 use std::process::ExitCode;
 use std::{env, io};

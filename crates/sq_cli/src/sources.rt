@@ -19,9 +19,8 @@ ghost use Rattle.sq_cli.specs.Steps.{ReadsFitting};
 ghost use Rattle.sq_cli.specs.Evaluating.{EndsWith, HoldsSources, ReadsMachine, ReadsMapping};
 
 use crate::end::End;
-use crate::phases::MOST_BYTES;
 use crate::race::race_fault;
-use crate::tree::{read_tree, too_long};
+use crate::tree::{MOST_BYTES, read_tree, too_long};
 use sq_ast::Program;
 use sq_machfile::{Machine, read_machine};
 use sq_mapfile::{Mapping, read_mapping};
@@ -50,10 +49,12 @@ pub fn read_sources<'a, F: Files>(
     machine: &'a str,
 ) -> Result<Sources, End<'a>>
     ensures content { F.content files.new ≡ F.content files.old }
-    ensures held { IfOk result (λ s. HoldsSources (F.content files.old) program.now mapping.now machine.now s.typed s.machine s.mapping) }
+    ensures held { IfOk result (λ s. HoldsSources (F.content files.old) program.now mapping.now machine.now s.typed
+        s.machine s.mapping) }
     ensures sound { IfOk result (λ s. Sound s.typed s.machine.levels s.mapping) }
     ensures stopped { IfErr result (λ end. StopsSources (F.content files.old) program.now mapping.now machine.now end) }
-    ensures cause { FileCauses (F.faults files.old) (F.faults files.new) (F.misses files.old) (F.misses files.new) (ending result) }
+    ensures cause { FileCauses (F.faults files.old) (F.faults files.new) (F.misses files.old) (F.misses files.new)
+        (ending result) }
 {
     let tree = match read_tree(alloc, files, program) {
         Ok(tree) => tree,
@@ -85,7 +86,8 @@ impl Sources {
         ensures resolved { IfOk result (λ r. IsResolved self.now.typed self.now.machine self.now.mapping r) }
         ensures free { IfOk result (λ r. IsFirstRace r None) }
         ensures cause { (f : ℕ) (m : ℕ) → FileCauses f f m m (ending result) }
-        ensures stopped { IfErr result (λ end. (told : Option Content) (p m k : List ℕ) → HoldsSources told p m k self.now.typed self.now.machine self.now.mapping → StopsSources told p m k end) }
+        ensures stopped { IfErr result (λ end. (told : Option Content) (p m k : List ℕ)
+            → HoldsSources told p m k self.now.typed self.now.machine self.now.mapping → StopsSources told p m k end) }
     {
         let resolved = match forms_of(alloc, &self.typed, &self.mapping, &self.machine) {
             Ok(resolved) => resolved,
@@ -160,7 +162,8 @@ fn read_fitting<'a, F: Files>(
     requires { ReadsTokens phase }
     ensures content { F.content files.new ≡ F.content files.old }
     ensures told { ReadsFitting phase (F.content files.old) name.now result }
-    ensures cause { FileCauses (F.faults files.old) (F.faults files.new) (F.misses files.old) (F.misses files.new) (ending result) }
+    ensures cause { FileCauses (F.faults files.old) (F.faults files.new) (F.misses files.old) (F.misses files.new)
+        (ending result) }
 {
     match read_whole(alloc, files, name, MOST_BYTES) {
         Ok(text) => Ok(text),
@@ -186,7 +189,8 @@ fn read_hierarchy<'a, F: Files>(
 ) -> Result<Machine, End<'a>>
     ensures content { F.content files.new ≡ F.content files.old }
     ensures told { ReadsMachine (F.content files.old) name.now result }
-    ensures cause { FileCauses (F.faults files.old) (F.faults files.new) (F.misses files.old) (F.misses files.new) (ending result) }
+    ensures cause { FileCauses (F.faults files.old) (F.faults files.new) (F.misses files.old) (F.misses files.new)
+        (ending result) }
 {
     let text = match read_fitting(alloc, files, name, Phase::Machine) {
         Ok(text) => text,
@@ -213,7 +217,8 @@ fn read_mapped<'a, F: Files>(
     ensures content { F.content files.new ≡ F.content files.old }
     ensures told { ReadsMapping typed.now machine.now.levels (F.content files.old) name.now result }
     ensures sound { IfOk result (λ mapping. Sound typed.now machine.now.levels mapping) }
-    ensures cause { FileCauses (F.faults files.old) (F.faults files.new) (F.misses files.old) (F.misses files.new) (ending result) }
+    ensures cause { FileCauses (F.faults files.old) (F.faults files.new) (F.misses files.old) (F.misses files.new)
+        (ending result) }
 {
     let text = match read_fitting(alloc, files, name, Phase::Mapping) {
         Ok(text) => text,

@@ -2,7 +2,7 @@
 use crate::status::Status;
 use crate::top::sq_top;
 use sq_port::{MemFiles, MemSink};
-use sq_small::RawBank;
+use sq_tree::{LogBank, RawBank};
 use std::test::Fail;
 
 const PROGRAM: &[u8] =
@@ -24,7 +24,7 @@ struct Case<'a> {
 
 // Every file that a case names, with what it holds.
 const FILES: &[(&str, &[u8])] = &[
-    ("P1.sq", PROGRAM),
+    ("double.sq", PROGRAM),
     ("canonical.sq", CANONICAL),
     (
         "ends.sq",
@@ -81,6 +81,33 @@ const FILES: &[(&str, &[u8])] = &[
     (
         "two.mach",
         b"machine 1; level host { capacity 64; } children 2; level core { capacity 32; }",
+    ),
+    (
+        "less.mach",
+        b"machine 1; level host { capacity 64; } children 2; level core { capacity 31; }",
+    ),
+    ("picks.txt", b"3 1\n4 1 5\n"),
+    ("027.txt", b"0 2 7\n"),
+    ("7x.txt", b"7 x\n"),
+    (
+        "16.map",
+        b"mapping 1; entry top(N = 16); instance top = twice::inner @ host { tunable U = 4; call twice -> low; } instance low = twice::leaf @ core { }",
+    ),
+    (
+        "63.mach",
+        b"machine 1; level host { capacity 128; } children 2; level core { capacity 63; }",
+    ),
+    (
+        "16.txt",
+        b"array A int [16]\n1 2 3 4 5 6 7 8 9 10 11 12 13 14 15 16\n",
+    ),
+    (
+        "dup.sq",
+        b"void task dup::inner(in int A[N], out int B[N]) {\n  twice(A, B);\n}\nvoid task twice::leaf(in int A[N], out int B[N]) {\n  for (int i = 0; i < N; i++) B[i] = A[i] + A[i];\n}\n",
+    ),
+    (
+        "dup.map",
+        b"mapping 1; entry top(N = 3); instance top = dup::inner @ host { call twice -> low; } instance low = twice::leaf @ host { }",
     ),
     (
         "fan.mach",
@@ -193,16 +220,34 @@ fn words_of(rt: &HostRuntime, words: &[&str]) -> Result<Vec<String>, Fail> {
     Ok(made)
 }
 
-const CASES: &[Case<'static>] = &[
+// Whether the status is that of the case, and what the sinks get.
+fn answers(rt: &HostRuntime, case: &Case<'static>) -> Result<bool, Fail> {
+    let words = words_of(rt, case.words)?;
+    let mut files = files(rt)?;
+    let mut out = MemSink::new(rt.alloc(), 200)?;
+    let mut err = MemSink::new(rt.alloc(), 500)?;
+    let mut bank = RawBank::new();
+    let status = sq_top(
+        rt.alloc(),
+        &words,
+        &mut files,
+        &mut out,
+        &mut err,
+        &mut bank,
+    );
+    Ok(status == case.status && out.written() == case.out && err.written() == case.err)
+}
+
+const RUNS: &[Case<'static>] = &[
     // With ample memory it is done.
     Case {
-        words: &["run", "P1.sq", "3.map", "32.mach", "3.txt"],
+        words: &["run", "double.sq", "3.map", "32.mach", "3.txt"],
         status: Status::Done,
         out: b"array B int [3]\n2 4 6\n",
         err: b"",
     },
     Case {
-        words: &["run", "P1.sq", "1.map", "16.mach", "1.txt"],
+        words: &["run", "double.sq", "1.map", "16.mach", "1.txt"],
         status: Status::Done,
         out: b"array B int [1]\n-2\n",
         err: b"",
@@ -214,59 +259,275 @@ const CASES: &[Case<'static>] = &[
         err: b"",
     },
     Case {
-        words: &["run", "P1.sq", "3.map", "31.mach", "3.txt"],
+        words: &["run", "double.sq", "3.map", "31.mach", "3.txt"],
         status: Status::Refused,
         out: b"",
         err: b"refused capacity Capacity host 32 31\n",
     },
     Case {
-        words: &["run", "P1.sq", "3.map", "32.mach", "short.txt"],
+        words: &["run", "double.sq", "3.map", "32.mach", "short.txt"],
         status: Status::Refused,
         out: b"",
         err: b"refused data Short 3:1 A\n",
     },
     Case {
-        words: &["run", "P1.sq", "3.map", "32.mach", "range.txt"],
+        words: &["run", "double.sq", "3.map", "32.mach", "range.txt"],
         status: Status::Refused,
         out: b"",
         err: b"refused data Range 2:3 A\n",
     },
     Case {
-        words: &["run", "P1.sq", "3.map", "32.mach", "name.txt"],
+        words: &["run", "double.sq", "3.map", "32.mach", "name.txt"],
         status: Status::Refused,
         out: b"",
         err: b"refused data Name 1:7 A\n",
     },
     Case {
-        words: &["run", "P1.sq", "3.map", "32.mach", "extra.txt"],
+        words: &["run", "double.sq", "3.map", "32.mach", "extra.txt"],
         status: Status::Refused,
         out: b"",
         err: b"refused data Extra 2:7 A\n",
     },
     Case {
-        words: &["run", "3.map", "3.map", "32.mach", "3.txt"],
-        status: Status::Refused,
-        out: b"",
-        err: b"refused program NotYet\n",
+        words: &["run", "two.sq", "8.map", "two.mach", "8.txt"],
+        status: Status::Done,
+        out: b"array B int [8]\n2 4 6 8 10 12 14 16\n",
+        err: b"",
     },
     Case {
-        words: &["run", "P1.sq", "P1.sq", "32.mach", "3.txt"],
-        status: Status::Refused,
-        out: b"",
-        err: b"refused mapping NotYet\n",
+        words: &["run", "total.sq", "total.map", "two.mach", "sum.txt"],
+        status: Status::Done,
+        out: b"array S int [1]\n41\n",
+        err: b"",
     },
     Case {
-        words: &["run", "P1.sq", "P1.sq", "P1.sq", "3.txt"],
+        words: &["run", "dup.sq", "dup.map", "31.mach", "3.txt"],
         status: Status::Refused,
         out: b"",
-        err: b"refused machine NotYet\n",
+        err: b"refused capacity Capacity host 32 31\n",
     },
     Case {
-        words: &["run", "P1.sq", "3.map", "32.mach", "none.txt"],
+        words: &["run", "race.sq", "8.map", "two.mach", "8.txt"],
+        status: Status::Refused,
+        out: b"",
+        err: b"refused race Race 5:3 B 0 [0..4] 1 [0..4]\n",
+    },
+    Case {
+        words: &["run", "double.sq", "3.map", "32.mach", "none.txt"],
         status: Status::Absent,
         out: b"",
         err: b"absent none.txt\n",
     },
+];
+
+#[test]
+fn runs(rt: HostRuntime) -> Result<(), Fail> {
+    for case in RUNS {
+        assert!(rt; answers(&rt, case)?);
+    }
+    Ok(())
+}
+
+const ORDERED: &[Case<'static>] = &[
+    Case {
+        words: &["run", "two.sq", "8.map", "two.mach", "8.txt", "trace=yes"],
+        status: Status::Done,
+        out: b"array B int [8]\n2 4 6 8 10 12 14 16\n",
+        err: b"fill 0.0:32 32\ncopy 0.0:0 1.0:0 16\nfill 1.0:16 16\nleaf 1.0 low\ncopy 1.0:16 0.0:32 16\ncopy 0.0:16 1.1:0 16\nfill 1.1:16 16\nleaf 1.1 low\ncopy 1.1:16 0.0:48 16\n",
+    },
+    // Of two children the second one first.
+    Case {
+        words: &[
+            "run",
+            "two.sq",
+            "8.map",
+            "two.mach",
+            "8.txt",
+            "trace=yes",
+            "order=last",
+        ],
+        status: Status::Done,
+        out: b"array B int [8]\n2 4 6 8 10 12 14 16\n",
+        err: b"fill 0.0:32 32\nfill 1.1:16 16\ncopy 0.0:16 1.1:0 16\nleaf 1.1 low\ncopy 1.1:16 0.0:48 16\nfill 1.0:16 16\ncopy 0.0:0 1.0:0 16\nleaf 1.0 low\ncopy 1.0:16 0.0:32 16\n",
+    },
+    Case {
+        words: &[
+            "run",
+            "two.sq",
+            "8.map",
+            "two.mach",
+            "8.txt",
+            "order=seed:7",
+        ],
+        status: Status::Done,
+        out: b"array B int [8]\n2 4 6 8 10 12 14 16\n",
+        err: b"",
+    },
+    Case {
+        words: &[
+            "run",
+            "two.sq",
+            "8.map",
+            "two.mach",
+            "8.txt",
+            "order=list:picks.txt",
+        ],
+        status: Status::Done,
+        out: b"array B int [8]\n2 4 6 8 10 12 14 16\n",
+        err: b"",
+    },
+    Case {
+        words: &[
+            "run",
+            "two.sq",
+            "8.map",
+            "two.mach",
+            "8.txt",
+            "order=list:8.txt",
+        ],
+        status: Status::Refused,
+        out: b"",
+        err: b"refused order Syntax 1:1\n",
+    },
+    Case {
+        words: &[
+            "run",
+            "two.sq",
+            "8.map",
+            "two.mach",
+            "8.txt",
+            "order=list:none.txt",
+        ],
+        status: Status::Absent,
+        out: b"",
+        err: b"absent none.txt\n",
+    },
+    Case {
+        words: &[
+            "run",
+            "two.sq",
+            "8.map",
+            "less.mach",
+            "none.txt",
+            "order=list:none.txt",
+        ],
+        status: Status::Refused,
+        out: b"",
+        err: b"refused capacity Capacity core 32 31\n",
+    },
+    Case {
+        words: &[
+            "run",
+            "tens.sq",
+            "tens.map",
+            "two.mach",
+            "tens.txt",
+            "order=last",
+        ],
+        status: Status::Trapped,
+        out: b"",
+        err: b"trapped DivZero 9:41 path 1\n",
+    },
+    Case {
+        words: &[
+            "run",
+            "two.sq",
+            "8.map",
+            "two.mach",
+            "8.txt",
+            "order=list:027.txt",
+            "trace=yes",
+        ],
+        status: Status::Done,
+        out: b"array B int [8]\n2 4 6 8 10 12 14 16\n",
+        err: b"fill 0.0:32 32\ncopy 0.0:16 1.1:0 16\nfill 1.0:16 16\ncopy 0.0:0 1.0:0 16\nleaf 1.0 low\ncopy 1.0:16 0.0:32 16\nfill 1.1:16 16\nleaf 1.1 low\ncopy 1.1:16 0.0:48 16\n",
+    },
+    // A memory below has no room for a second block.
+    Case {
+        words: &[
+            "run",
+            "two.sq",
+            "16.map",
+            "63.mach",
+            "16.txt",
+            "trace=yes",
+            "order=last",
+        ],
+        status: Status::Done,
+        out: b"array B int [16]\n2 4 6 8 10 12 14 16 18 20 22 24 26 28 30 32\n",
+        err: b"fill 0.0:64 64\nfill 1.1:16 16\ncopy 0.0:16 1.1:0 16\nleaf 1.1 low\ncopy 1.1:16 0.0:80 16\nfill 1.1:16 16\ncopy 0.0:48 1.1:0 16\nleaf 1.1 low\ncopy 1.1:16 0.0:112 16\nfill 1.0:16 16\ncopy 0.0:0 1.0:0 16\nleaf 1.0 low\ncopy 1.0:16 0.0:64 16\nfill 1.0:16 16\ncopy 0.0:32 1.0:0 16\nleaf 1.0 low\ncopy 1.0:16 0.0:96 16\n",
+    },
+    // Both arguments stand in place.
+    Case {
+        words: &["run", "dup.sq", "dup.map", "32.mach", "3.txt", "trace=yes"],
+        status: Status::Done,
+        out: b"array B int [3]\n2 4 6\n",
+        err: b"fill 0.0:16 12\nfill 0.0:16 12\nleaf 0.0 low\n",
+    },
+    Case {
+        words: &[
+            "run",
+            "two.sq",
+            "8.map",
+            "two.mach",
+            "8.txt",
+            "order=list:7x.txt",
+        ],
+        status: Status::Refused,
+        out: b"",
+        err: b"refused order Syntax 1:3\n",
+    },
+    Case {
+        words: &[
+            "run",
+            "total.sq",
+            "total.map",
+            "two.mach",
+            "sum.txt",
+            "order=last",
+        ],
+        status: Status::Done,
+        out: b"array S int [1]\n41\n",
+        err: b"",
+    },
+    Case {
+        words: &[
+            "run",
+            "least.sq",
+            "least.map",
+            "two.mach",
+            "least.txt",
+            "order=seed:7",
+        ],
+        status: Status::Done,
+        out: b"array S int [1]\n6\n",
+        err: b"",
+    },
+    Case {
+        words: &[
+            "run",
+            "double.sq",
+            "3.map",
+            "32.mach",
+            "3.txt",
+            "order=first",
+            "order=last",
+        ],
+        status: Status::Usage,
+        out: b"",
+        err: USAGE,
+    },
+];
+
+#[test]
+fn runs_in_orders_and_with_traces(rt: HostRuntime) -> Result<(), Fail> {
+    for case in ORDERED {
+        assert!(rt; answers(&rt, case)?);
+    }
+    Ok(())
+}
+
+const EVALUATED: &[Case<'static>] = &[
     Case {
         words: &["eval", "two.sq", "8.map", "two.mach", "8.txt"],
         status: Status::Done,
@@ -317,7 +578,7 @@ const CASES: &[Case<'static>] = &[
         err: b"refused race Race 5:3 B 0 [0..4] 1 [0..4]\n",
     },
     Case {
-        words: &["eval", "P1.sq", "3.map", "32.mach", "short.txt"],
+        words: &["eval", "double.sq", "3.map", "32.mach", "short.txt"],
         status: Status::Refused,
         out: b"",
         err: b"refused data Short 3:1 A\n",
@@ -394,8 +655,19 @@ const CASES: &[Case<'static>] = &[
         out: b"",
         err: USAGE,
     },
+];
+
+#[test]
+fn evaluations(rt: HostRuntime) -> Result<(), Fail> {
+    for case in EVALUATED {
+        assert!(rt; answers(&rt, case)?);
+    }
+    Ok(())
+}
+
+const READ: &[Case<'static>] = &[
     Case {
-        words: &["fmt", "P1.sq"],
+        words: &["fmt", "double.sq"],
         status: Status::Done,
         out: CANONICAL,
         err: b"",
@@ -436,60 +708,31 @@ const CASES: &[Case<'static>] = &[
         out: b"",
         err: b"absent none.sq\n",
     },
-    Case {
-        words: &[
-            "run",
-            "P1.sq",
-            "3.map",
-            "32.mach",
-            "3.txt",
-            "order=first",
-            "order=last",
-        ],
-        status: Status::Usage,
-        out: b"",
-        err: USAGE,
-    },
 ];
 
 #[test]
-fn cases(rt: HostRuntime) -> Result<(), Fail> {
-    for case in CASES {
-        let words = words_of(&rt, case.words)?;
-        let mut files = files(&rt)?;
-        let mut out = MemSink::new(rt.alloc(), 200)?;
-        let mut err = MemSink::new(rt.alloc(), 200)?;
-        let mut bank = RawBank::new();
-        let status = sq_top(
-            rt.alloc(),
-            &words,
-            &mut files,
-            &mut out,
-            &mut err,
-            &mut bank,
-        );
-        assert_eq!(rt; status, case.status);
-        assert_eq!(rt; out.written(), case.out);
-        assert_eq!(rt; err.written(), case.err);
+fn programs_that_are_read(rt: HostRuntime) -> Result<(), Fail> {
+    for case in READ {
+        assert!(rt; answers(&rt, case)?);
     }
     Ok(())
 }
 
 const FAILING: &[Case<'static>] = &[
     Case {
-        words: &["run", "P1.sq", "3.map", "32.mach", "3.txt"],
+        words: &["run", "double.sq", "3.map", "32.mach", "3.txt"],
         status: Status::SinkFault,
         out: b"array",
         err: b"",
     },
     Case {
-        words: &["eval", "P1.sq", "3.map", "32.mach", "3.txt"],
+        words: &["eval", "double.sq", "3.map", "32.mach", "3.txt"],
         status: Status::SinkFault,
         out: b"array",
         err: b"",
     },
     Case {
-        words: &["fmt", "P1.sq"],
+        words: &["fmt", "double.sq"],
         status: Status::SinkFault,
         out: b"void ",
         err: b"",
@@ -517,7 +760,7 @@ fn failing_devices(rt: HostRuntime) -> Result<(), Fail> {
                 &mut bank,
             );
             let wanted: (Status, &[u8], &[u8]) = if read == 1 {
-                (Status::FileFault, b"", b"fault P1.sq\n")
+                (Status::FileFault, b"", b"fault double.sq\n")
             } else {
                 (case.status, case.out, case.err)
             };
@@ -537,20 +780,33 @@ const READS: &[&[u8]] = &[
     b"fault two.mach\n",
     b"fault 8.map\n",
     b"fault 8.map\n",
+    b"fault picks.txt\n",
+    b"fault picks.txt\n",
     b"fault 8.txt\n",
     b"fault 8.txt\n",
 ];
 
 #[test]
 fn a_failing_read_names_its_file(rt: HostRuntime) -> Result<(), Fail> {
-    let words = words_of(&rt, &["eval", "two.sq", "8.map", "two.mach", "8.txt"])?;
+    let words = words_of(
+        &rt,
+        &[
+            "run",
+            "two.sq",
+            "8.map",
+            "two.mach",
+            "8.txt",
+            "order=list:picks.txt",
+            "trace=yes",
+        ],
+    )?;
     let mut read = 0u64;
     for line in READS {
         read = read.saturating_add(1);
         let mut files = files(&rt)?;
         files.fail_at(read);
         let mut out = MemSink::new(rt.alloc(), 200)?;
-        let mut err = MemSink::new(rt.alloc(), 200)?;
+        let mut err = MemSink::new(rt.alloc(), 400)?;
         let mut bank = RawBank::new();
         let status = sq_top(
             rt.alloc(),
@@ -564,5 +820,59 @@ fn a_failing_read_names_its_file(rt: HostRuntime) -> Result<(), Fail> {
         assert!(rt; out.written().is_empty());
         assert_eq!(rt; err.written(), *line);
     }
+    Ok(())
+}
+
+const TRACE: &[u8] =
+    b"fill 0.0:32 32\ncopy 0.0:0 1.0:0 16\nfill 1.0:16 16\nleaf 1.0 low\ncopy 1.0:16 0.0:32 16\ncopy 0.0:16 1.1:0 16\nfill 1.1:16 16\nleaf 1.1 low\ncopy 1.1:16 0.0:48 16\n";
+
+// The sink of a trace has room for each front of it: `out` gets nothing before all of it is put.
+#[test]
+fn a_trace_that_fails_is_cut_there(rt: HostRuntime) -> Result<(), Fail> {
+    let words = words_of(
+        &rt,
+        &["run", "two.sq", "8.map", "two.mach", "8.txt", "trace=yes"],
+    )?;
+    for room in 0..TRACE.len() {
+        let mut files = files(&rt)?;
+        let mut out = MemSink::new(rt.alloc(), 200)?;
+        let mut err = MemSink::new(rt.alloc(), room)?;
+        let mut bank = LogBank::new(rt.alloc(), 9)?;
+        let status = sq_top(
+            rt.alloc(),
+            &words,
+            &mut files,
+            &mut out,
+            &mut err,
+            &mut bank,
+        );
+        assert_eq!(rt; status, Status::SinkFault);
+        assert!(rt; out.written().is_empty());
+        assert_eq!(rt; Some(err.written()), TRACE.get(0..room));
+    }
+    Ok(())
+}
+
+#[test]
+fn a_bank_keeps_its_events(rt: HostRuntime) -> Result<(), Fail> {
+    let words = words_of(
+        &rt,
+        &["run", "two.sq", "8.map", "two.mach", "8.txt", "trace=yes"],
+    )?;
+    let mut files = files(&rt)?;
+    let mut out = MemSink::new(rt.alloc(), 200)?;
+    let mut err = MemSink::new(rt.alloc(), 400)?;
+    let mut bank = LogBank::new(rt.alloc(), 9)?;
+    let status = sq_top(
+        rt.alloc(),
+        &words,
+        &mut files,
+        &mut out,
+        &mut err,
+        &mut bank,
+    );
+    assert_eq!(rt; status, Status::Done);
+    assert_eq!(rt; err.written(), TRACE);
+    assert!(rt; matches!(bank.events(), Some(events) if events.len() == 9));
     Ok(())
 }

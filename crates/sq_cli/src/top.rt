@@ -1,7 +1,7 @@
 //! The top call.
 ghost use Rattle.std.specs.Prelude.{◌≡◌, ◌≢◌, ◌⊎◌, ◌≤◌, Some, None};
 ghost use Rattle.sq_port.specs.Ports.{Rose};
-ghost use Rattle.sq_cli.specs.Words.{command_of, texts};
+ghost use Rattle.sq_words.specs.Words.{command_of, texts};
 ghost use Rattle.sq_cli.specs.Ends.{ending, FileCauses};
 ghost use Rattle.sq_cli.specs.Meaning.{Answer};
 ghost use Rattle.sq_cli.specs.Banks.{Writing};
@@ -10,10 +10,10 @@ ghost use Rattle.sq_cli.specs.Top.{Answered, Executed, Finished, IsExplained, Is
 
 use crate::end::{End, put_end};
 use crate::status::Status;
-use crate::words::{Command, parse};
 use crate::world::{Perform, World};
 use sq_port::{Failed, Files, Sink};
-use sq_small::Bank;
+use sq_tree::Bank;
+use sq_words::{Command, parse};
 use std::alloc::Global;
 
 /// Does what the words say.
@@ -31,13 +31,19 @@ pub fn sq_top<F: Files, S: Sink, E: Sink, B: Bank>(
 
     // Absent, FileFault and SinkFault come only where one count rose in this call and no other, and a sink's count
     // rises at SinkFault alone.
-    ensures absent { result ≡ Status.Absent → Rose (F.misses files.old) (F.misses files.new) × (F.faults files.new ≡ F.faults files.old) }
-    ensures file_fault { result ≡ Status.FileFault → Rose (F.faults files.old) (F.faults files.new) × (F.misses files.new ≡ F.misses files.old) }
-    ensures sink_fault { result ≡ Status.SinkFault → (Rose (S.faults out.old) (S.faults out.new) × (E.faults err.new ≡ E.faults err.old)) ⊎ (Rose (E.faults err.old) (E.faults err.new) × (S.faults out.new ≡ S.faults out.old)) }
-    ensures no_sink_fault { result ≢ Status.SinkFault → (S.faults out.new ≡ S.faults out.old) × (E.faults err.new ≡ E.faults err.old) }
+    ensures absent { result ≡ Status.Absent → Rose (F.misses files.old) (F.misses files.new)
+        × (F.faults files.new ≡ F.faults files.old) }
+    ensures file_fault { result ≡ Status.FileFault → Rose (F.faults files.old) (F.faults files.new)
+        × (F.misses files.new ≡ F.misses files.old) }
+    ensures sink_fault { result ≡ Status.SinkFault
+        → (Rose (S.faults out.old) (S.faults out.new) × (E.faults err.new ≡ E.faults err.old))
+        ⊎ (Rose (E.faults err.old) (E.faults err.new) × (S.faults out.new ≡ S.faults out.old)) }
+    ensures no_sink_fault { result ≢ Status.SinkFault → (S.faults out.new ≡ S.faults out.old)
+        × (E.faults err.new ≡ E.faults err.old) }
 
     // With every other answer no read failed and no file was missed.
-    ensures undisturbed { IsUndisturbed result → (F.faults files.new ≡ F.faults files.old) × (F.misses files.new ≡ F.misses files.old) }
+    ensures undisturbed { IsUndisturbed result → (F.faults files.new ≡ F.faults files.old)
+        × (F.misses files.new ≡ F.misses files.old) }
 
     // What the files hold stays, and no count falls.
     ensures content { F.content files.new ≡ F.content files.old }
@@ -48,8 +54,22 @@ pub fn sq_top<F: Files, S: Sink, E: Sink, B: Bank>(
 
     // The answer has its cause in what the words and the files say, its text on each sink, its counts, and its bank.
     ensures answered { Answered (command_of (texts words.now))
-        (record { told = F.content files.old; out = S.written out.old; out_faults = S.faults out.old; err = E.written err.old; err_faults = E.faults err.old; bank = B.seen bank.old })
-        (record { told = F.content files.new; out = S.written out.new; out_faults = S.faults out.new; err = E.written err.new; err_faults = E.faults err.new; bank = B.seen bank.new })
+        (record {
+          told = F.content files.old;
+          out = S.written out.old;
+          out_faults = S.faults out.old;
+          err = E.written err.old;
+          err_faults = E.faults err.old;
+          bank = B.seen bank.old;
+        })
+        (record {
+          told = F.content files.new;
+          out = S.written out.new;
+          out_faults = S.faults out.new;
+          err = E.written err.new;
+          err_faults = E.faults err.new;
+          bank = B.seen bank.new;
+        })
         (F.faults files.old) (F.faults files.new) (F.misses files.old) (F.misses files.new) result }
 
     // For want of memory nothing was opened, and `out` got nothing.
@@ -62,7 +82,9 @@ pub fn sq_top<F: Files, S: Sink, E: Sink, B: Bank>(
 
     // Where the files tell their content or the command has none, and no read and no put failed, the answer is the one
     // that they say, or want of memory.
-    ensures complete { ¬ Rose (F.faults files.old) (F.faults files.new) → ¬ Rose (S.faults out.old) (S.faults out.new) → ¬ Rose (E.faults err.old) (E.faults err.new) → IsExplained (command_of (texts words.now)) (F.content files.old) result }
+    ensures complete { ¬ Rose (F.faults files.old) (F.faults files.new) → ¬ Rose (S.faults out.old) (S.faults out.new)
+        → ¬ Rose (E.faults err.old) (E.faults err.new) → IsExplained (command_of (texts words.now))
+        (F.content files.old) result }
 {
     let ended = execute(alloc, words, files, out, err, bank);
     finish(ended, err)
@@ -79,10 +101,25 @@ fn execute<'a, F: Files, S: Sink, E: Sink, B: Bank>(
 ) -> Result<(), End<'a>>
     ensures content { F.content files.new ≡ F.content files.old }
     ensures executed { Executed (command_of (texts words.now))
-        (record { told = F.content files.old; out = S.written out.old; out_faults = S.faults out.old; err = E.written err.old; err_faults = E.faults err.old; bank = B.seen bank.old })
-        (record { told = F.content files.new; out = S.written out.new; out_faults = S.faults out.new; err = E.written err.new; err_faults = E.faults err.new; bank = B.seen bank.new })
+        (record {
+          told = F.content files.old;
+          out = S.written out.old;
+          out_faults = S.faults out.old;
+          err = E.written err.old;
+          err_faults = E.faults err.old;
+          bank = B.seen bank.old;
+        })
+        (record {
+          told = F.content files.new;
+          out = S.written out.new;
+          out_faults = S.faults out.new;
+          err = E.written err.new;
+          err_faults = E.faults err.new;
+          bank = B.seen bank.new;
+        })
         result }
-    ensures cause { FileCauses (F.faults files.old) (F.faults files.new) (F.misses files.old) (F.misses files.new) (ending result) }
+    ensures cause { FileCauses (F.faults files.old) (F.faults files.new) (F.misses files.old) (F.misses files.new)
+        (ending result) }
 {
     let mut world = World {
         files,
@@ -99,13 +136,31 @@ fn dispatch<'a, F: Files, S: Sink, E: Sink, B: Bank>(
     words: &'a [String],
     world: &mut World<'_, '_, '_, '_, F, S, E, B>,
 ) -> Result<(), End<'a>>
-    ensures lent { (world.new.files.ghost_name ≡ world.old.files.ghost_name) × (world.new.out.ghost_name ≡ world.old.out.ghost_name) × (world.new.err.ghost_name ≡ world.old.err.ghost_name) × (world.new.bank.ghost_name ≡ world.old.bank.ghost_name) }
+    ensures lent { (world.new.files.ghost_name ≡ world.old.files.ghost_name)
+        × (world.new.out.ghost_name ≡ world.old.out.ghost_name)
+        × (world.new.err.ghost_name ≡ world.old.err.ghost_name)
+        × (world.new.bank.ghost_name ≡ world.old.bank.ghost_name) }
     ensures content { F.content world.new.files.now ≡ F.content world.old.files.now }
     ensures executed { Executed (command_of (texts words.now))
-        (record { told = F.content world.old.files.now; out = S.written world.old.out.now; out_faults = S.faults world.old.out.now; err = E.written world.old.err.now; err_faults = E.faults world.old.err.now; bank = B.seen world.old.bank.now })
-        (record { told = F.content world.new.files.now; out = S.written world.new.out.now; out_faults = S.faults world.new.out.now; err = E.written world.new.err.now; err_faults = E.faults world.new.err.now; bank = B.seen world.new.bank.now })
+        (record {
+          told = F.content world.old.files.now;
+          out = S.written world.old.out.now;
+          out_faults = S.faults world.old.out.now;
+          err = E.written world.old.err.now;
+          err_faults = E.faults world.old.err.now;
+          bank = B.seen world.old.bank.now;
+        })
+        (record {
+          told = F.content world.new.files.now;
+          out = S.written world.new.out.now;
+          out_faults = S.faults world.new.out.now;
+          err = E.written world.new.err.now;
+          err_faults = E.faults world.new.err.now;
+          bank = B.seen world.new.bank.now;
+        })
         result }
-    ensures cause { FileCauses (F.faults world.old.files.now) (F.faults world.new.files.now) (F.misses world.old.files.now) (F.misses world.new.files.now) (ending result) }
+    ensures cause { FileCauses (F.faults world.old.files.now) (F.faults world.new.files.now)
+        (F.misses world.old.files.now) (F.misses world.new.files.now) (ending result) }
 {
     match parse(words) {
         Some(Command::Check(check)) => check.perform(alloc, world),
@@ -118,7 +173,8 @@ fn dispatch<'a, F: Files, S: Sink, E: Sink, B: Bank>(
 
 // Puts the line that names the answer, and gives its status.
 fn finish<E: Sink>(ended: Result<(), End<'_>>, err: &mut E) -> Status
-    ensures { (answer : Answer) (writing : Writing) (old mid : Outside) → mid.err ≡ E.written err.old → mid.err_faults ≡ E.faults err.old
+    ensures { (answer : Answer) (writing : Writing) (old mid : Outside) → mid.err ≡ E.written err.old
+        → mid.err_faults ≡ E.faults err.old
         → ResultFor answer writing ended.entry → Puts writing answer (trace_for answer) old mid
         → Finished answer writing old (record mid { err = E.written err.new; err_faults = E.faults err.new }) result }
 {
@@ -130,7 +186,8 @@ fn finish<E: Sink>(ended: Result<(), End<'_>>, err: &mut E) -> Status
 
 // Puts the line of an end, but where a sink has failed.
 fn finish_end<E: Sink>(end: End<'_>, err: &mut E) -> Status
-    ensures { (answer : Answer) (writing : Writing) (old mid : Outside) → mid.err ≡ E.written err.old → mid.err_faults ≡ E.faults err.old
+    ensures { (answer : Answer) (writing : Writing) (old mid : Outside) → mid.err ≡ E.written err.old
+        → mid.err_faults ≡ E.faults err.old
         → ResultFor answer writing (Err end.entry) → Puts writing answer (trace_for answer) old mid
         → Finished answer writing old (record mid { err = E.written err.new; err_faults = E.faults err.new }) result }
 {

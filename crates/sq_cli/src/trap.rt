@@ -15,6 +15,17 @@ pub struct Trap {
     pub path: Path,
 }
 
+/// The trap of a leaf at the end of this path.
+pub fn trap_at(trap: sq_leaf::Trap, path: Path) -> Trap
+    ensures { result ≡ record { kind = trap.kind; place = trap.place; path = path } }
+{
+    Trap {
+        kind: trap.kind,
+        place: trap.place,
+        path,
+    }
+}
+
 /// The word of the kind in the line of a trap.
 pub fn kind_word(kind: TrapKind) -> &'static [u8]
     ensures { result.now ≡ kind_name kind }

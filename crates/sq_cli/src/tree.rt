@@ -9,13 +9,16 @@ ghost use Rattle.sq_cli.specs.Ends.{ending, FileCauses};
 ghost use Rattle.sq_cli.specs.Steps.{ReadsTree};
 
 use crate::end::End;
-use crate::phases::MOST_BYTES;
 use sq_ast::Program;
 use sq_lexer::tokens;
 use sq_parser::parse_program;
 use sq_port::{Files, ReadEnd, read_whole};
+use sq_text::limits::TEXT_BYTES;
 use sq_text::{Args, Code, Fault, Phase, Stop};
 use std::alloc::Global;
+
+/// The most bytes of a program, machine or mapping file.
+pub const MOST_BYTES: u64 = TEXT_BYTES as u64;
 
 pub fn read_tree<'a, F: Files>(
     alloc: Global,
@@ -25,7 +28,8 @@ pub fn read_tree<'a, F: Files>(
     ensures content { F.content files.new ≡ F.content files.old }
     ensures told { ReadsTree (F.content files.old) name.now result }
     ensures given { IfOk result (λ p. IsGiven p) }
-    ensures cause { FileCauses (F.faults files.old) (F.faults files.new) (F.misses files.old) (F.misses files.new) (ending result) }
+    ensures cause { FileCauses (F.faults files.old) (F.faults files.new) (F.misses files.old) (F.misses files.new)
+        (ending result) }
 {
     let text = match read_whole(alloc, files, name, MOST_BYTES) {
         Ok(text) => text,

@@ -14,23 +14,18 @@ use Rattle.sq_homes.specs.Drafts.{IsDraftOf}
 use Rattle.sq_homes_laws.specs.Simple.{AreMemories, Walked}
 use Rattle.sq_elim.specs.Choices.{all_in_place}
 use Rattle.sq_needs.specs.Needed.{NeedsAreSums, SumsAreNeeds, NeedsAreSmall}
-use Rattle.sq_plan_good.specs.Good.{HasNoRace, IsGoodFor, DraftsCanBePlaced, PlacedAreGood}
+use Rattle.sq_plan_good.specs.Good.{HasNoRace, DraftsCanBePlaced, PlacedAreGood}
+use Rattle.sq_plan_good.specs.Good.{IsGoodFor}
+use Rattle.sq_plan_good.specs.Planned.{memories_of, IsPlacedFor}
+use Rattle.sq_plan_good.proofs.Simple.{in_place_is_simple}
 use Rattle.sq_compile.specs.Capacity.{NoneLacks}
-use Rattle.sq_compile.specs.Compiled.{memories_of, IsPlacedFor, IsRefusedFor}
+use Rattle.sq_compile.specs.Compiled.{IsPlanOf, IsRefusedFor}
 use Rattle.sq_compile.proofs.Lacking.{none_lacks, first_lack}
-use Rattle.sq_compile.proofs.Simple.{in_place_is_simple}
 
 module _ (can : DraftsCanBePlaced) (r : Resolved) (d : Draft) (its : IsDraftOf r (all_in_place r) d)
     (nodes : List PlanNode) (are : nodes ≡ memories_of r) (memories : AreMemories r.machine.now.levels nodes) where
   placeable : IsPlaceable d nodes
   placeable = can r (all_in_place r) (in_place_is_simple r) d its nodes memories
-
-  pub good : PlacedAreGood → (result : Result Plan StoreFault)
-      → IfOk result (λ plan. IsPlaceable d nodes → IsPlaced d nodes plan)
-      → IfOk result (λ p. HasNoRace r → IsGoodFor r (all_in_place r) (memories_of r) p)
-  good law (Ok p) h = λ race_free. subst (λ (ns : List PlanNode). IsGoodFor r (all_in_place r) ns p) are
-      (law r race_free (all_in_place r) (in_place_is_simple r) d its nodes memories p (h placeable))
-  good law (Err fault) h = tt
 
   -- a placed plan, by its own draft
   of_plan : d.notes ≡ [] → (p : Plan) → IsPlaced d nodes p → IsPlacedFor r p
@@ -42,6 +37,16 @@ module _ (can : DraftsCanBePlaced) (r : Resolved) (d : Draft) (its : IsDraftOf r
         placed = subst (λ (x : Draft). IsPlaced x (memories_of r) p) (sym own)
             (subst (λ (ns : List PlanNode). IsPlaced d ns p) are h);
       }
+
+  pub good : PlacedAreGood → d.notes ≡ [] → (result : Result Plan StoreFault)
+      → IfOk result (λ plan. IsPlaceable d nodes → IsPlaced d nodes plan)
+      → IfOk result (λ p. HasNoRace r → IsPlanOf r p)
+  good law none (Ok p) h = λ race_free. record {
+    placed = of_plan none p (h placeable);
+    good = subst (λ (ns : List PlanNode). IsGoodFor r (all_in_place r) ns p) are
+        (law r race_free (all_in_place r) (in_place_is_simple r) d its nodes memories p (h placeable));
+  }
+  good law none (Err fault) h = tt
 
   pub placed : d.notes ≡ [] → (result : Result Plan StoreFault)
       → IfOk result (λ plan. IsPlaceable d nodes → IsPlaced d nodes plan) → IfOk result (λ p. IsPlacedFor r p)

@@ -16,9 +16,9 @@ use Rattle.sq_homes.specs.Drafts.{IsDraftOf}
 use Rattle.sq_homes_laws.specs.Simple.{Walked}
 use Rattle.sq_elim.specs.Choices.{all_in_place}
 use Rattle.sq_draft_laws.specs.Memories.{plan_node}
+use Rattle.sq_plan_good.specs.Planned.{memories_of}
 use Rattle.sq_needs.specs.Needed.{NeedsAreSums, SumsAreNeeds, NeedsAreSmall}
 use Rattle.sq_compile.specs.Capacity.{NodeNeeds, Lacks, NoneLacks, IsFirstLack}
-use Rattle.sq_compile.specs.Compiled.{memories_of}
 
 -- ---- lists
 

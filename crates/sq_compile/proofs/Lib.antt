@@ -1,4 +1,3 @@
-pub mod Simple
 pub mod Lacking
 pub mod Told
 pub mod Compiles

@@ -5,9 +5,10 @@ ghost use Rattle.sq_machfile.specs.Machines.{WithinLimits};
 ghost use Rattle.sq_elim.specs.Choices.{all_in_place};
 ghost use Rattle.sq_homes.specs.Drafts.{IsDraftOf};
 ghost use Rattle.sq_homes_laws.specs.Simple.{AreMemories};
-ghost use Rattle.sq_plan_good.specs.Good.{HasNoRace, IsGoodFor};
+ghost use Rattle.sq_plan_good.specs.Good.{HasNoRace};
+ghost use Rattle.sq_plan_good.specs.Planned.{memories_of, IsPlacedFor};
 ghost use Rattle.sq_compile.specs.Capacity.{NoneLacks};
-ghost use Rattle.sq_compile.specs.Compiled.{memories_of, IsPlacedFor, IsRefusedFor};
+ghost use Rattle.sq_compile.specs.Compiled.{IsPlanOf, IsRefusedFor};
 
 use crate::memories::plan_nodes;
 use sq_draft_laws::laws::resolved_programs_were_walked;
@@ -51,8 +52,7 @@ fn placed(
     requires nodes { nodes ≡ memories_of r.now }
     requires memories { AreMemories r.now.machine.now.levels nodes }
     requires limits { WithinLimits r.now.machine.now }
-    ensures good { IfOk result (λ p. HasNoRace r.now
-        → IsGoodFor r.now (all_in_place r.now) (memories_of r.now) p) }
+    ensures good { IfOk result (λ p. HasNoRace r.now → IsPlanOf r.now p) }
     ensures placed { IfOk result (λ p. IsPlacedFor r.now p) }
     ensures fits { IfOk result (λ p. NoneLacks r.now) }
     ensures over { IfErr result (λ fault. IsRefusedFor r.now fault) }
@@ -72,8 +72,7 @@ fn placed(
 /// means, and one leaf call for each of the program's. Refused exactly where the forms that run at a node need more bytes
 /// there than it has.
 pub fn compile(alloc: Global, r: &Resolved<'_>) -> Result<Plan, StoreFault>
-    ensures good { IfOk result (λ p. HasNoRace r.now
-        → IsGoodFor r.now (all_in_place r.now) (memories_of r.now) p) }
+    ensures good { IfOk result (λ p. HasNoRace r.now → IsPlanOf r.now p) }
     ensures placed { IfOk result (λ p. IsPlacedFor r.now p) }
     ensures fits { IfOk result (λ p. NoneLacks r.now) }
     ensures over { IfErr result (λ fault. IsRefusedFor r.now fault) }

@@ -27,19 +27,19 @@ use Rattle.sq_elim.specs.Choices.{all_in_place}
 use Rattle.sq_homes_fit.specs.Homes.{EntriesAreWhole}
 use Rattle.sq_homes_rooms.specs.Owned.{DraftsOwn}
 use Rattle.sq_draft_laws.specs.Opened.{WalkedIsThere}
-use Rattle.sq_plan_good.specs.Good.{shapes_in, IsInput, IsGoodFor}
-use Rattle.sq_compile.specs.Compiled.{memories_of}
-use Rattle.sq_compile.proofs.Simple.{in_place_is_simple}
+use Rattle.sq_plan_good.specs.Good.{shapes_in, IsInput}
+use Rattle.sq_plan_good.specs.Planned.{IsGoodPlan}
+use Rattle.sq_plan_good.proofs.Simple.{in_place_is_simple}
 use Rattle.sq_meant.specs.Places.{shapes_of, places_of}
 use Rattle.sq_meant.specs.Ends.{stored_in, EndsOnBank}
-use Rattle.sq_meant.specs.Laws.{ShapesAgree, HasPlaces, PlacesFit, BanksHavePlaces, RootsAreSmall, InputsAreHeld}
-use Rattle.sq_meant.specs.Laws.{RunsEndAsMeant}
+use Rattle.sq_meant.specs.Laws.{HasPlaces, PlacesFit, BanksHavePlaces, InputsAreHeld, RunsEndAsMeant}
 use Rattle.sq_meant.proofs.Fitting.{some_bytes, many_placed, AreHoused, housed_fit}
 use Rattle.sq_meant.proofs.Holding.{from_parts}
 use Rattle.sq_meant.proofs.Ends.{ends_on_bank}
 use Rattle.sq_meant.proofs.Shapes.{shapes_agree}
 
-pub agree : WalkedIsThere → ShapesAgree
+-- the shapes that plans speak of are those that arrays are stored in
+agree : WalkedIsThere → (r : Resolved) → shapes_in r ≡ shapes_of r
 agree walked r = shapes_agree r (walked r)
 
 -- ---- places
@@ -113,15 +113,6 @@ banks_have_places walked whole own r p seen its prepared =
     subst (Fits (places_of p (shapes_of r))) (sym (first_capacity seen.nodes p.nodes prepared.sizes))
     (places_fit walked whole own r p its).fit
 
--- a first node of at most 2^30 bytes, or none
-small_first : (ns : List PlanNode) → ((i : ℕ) (n : PlanNode) → slice_get ns i ≡ Some n → n.capacity ≤ 2 ^ 30)
-    → (node_at ns 0).capacity ≤ 2 ^ 30
-small_first [] h = omega arith
-small_first (n ∷ ns) h = h 0 n refl
-
-pub roots_are_small : RootsAreSmall
-roots_are_small r p good = small_first p.nodes (λ i n e. (good.good.well_formed.nodes.each i n e).capacity)
-
 -- ---- inputs
 
 pub inputs_are_held : WalkedIsThere → InputsAreHeld
@@ -141,7 +132,7 @@ first_size (x ∷ xs) [] e = absurd (cc e)
 first_size (x ∷ xs) (y ∷ ys) e = cc e
 
 module _ (walked : WalkedIsThere) (whole : EntriesAreWhole) (own : DraftsOwn) (have : HaveRuns Trap)
-    (by_form : EndByForm Trap) (r : Resolved) (p : Plan) (good : IsGoodFor r (all_in_place r) (memories_of r) p)
+    (by_form : EndByForm Trap) (r : Resolved) (p : Plan) (good : IsGoodPlan r p)
     (a : Arrays) (old now : BankSeen) where
   abbrev m : Bytes
   m = bytes_in old.nodes

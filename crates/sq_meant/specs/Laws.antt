@@ -1,5 +1,5 @@
 -- What a program's plan does on a bank.
-use Rattle.std.specs.Prelude.{◌≡◌, ◌≤◌, ◌^◌, ℕ, List, Result, length, map}
+use Rattle.std.specs.Prelude.{◌≡◌, ℕ, List, Result, length, map}
 use Rattle.sq_leaf.specs.Source.{Arrays}
 use Rattle.sq_spec.specs.declared.resolved.Resolved.{Resolved}
 use Rattle.sq_spec.specs.Works.{flat}
@@ -10,15 +10,10 @@ use Rattle.sq_tree.specs.declared.runs.RunEnd.{RunEnd}
 use Rattle.sq_tree.specs.Bank.{BankSeen, bytes_at, bytes_in, size_in, IsPrepared}
 use Rattle.sq_tree.specs.Runs.{TellsFirst}
 use Rattle.sq_root.specs.Places.{parts, Fits}
-use Rattle.sq_elim.specs.Choices.{all_in_place}
-use Rattle.sq_plan_good.specs.Good.{shapes_in, IsInput, IsGoodFor}
-use Rattle.sq_compile.specs.Compiled.{memories_of, IsPlacedFor}
+use Rattle.sq_plan_good.specs.Good.{IsInput}
+use Rattle.sq_plan_good.specs.Planned.{IsPlacedFor, IsGoodPlan}
 use Rattle.sq_meant.specs.Places.{shapes_of, places_of}
 use Rattle.sq_meant.specs.Ends.{stored_in, EndsOnBank}
-
--- The shapes that plans speak of are those that arrays are stored in.
-abbrev pub ShapesAgree : Type 0
-ShapesAgree = (r : Resolved) → shapes_in r ≡ shapes_of r
 
 -- ---- places
 
@@ -38,12 +33,6 @@ BanksHavePlaces =
     (r : Resolved) (p : Plan) (seen : BankSeen) → IsPlacedFor r p → IsPrepared p seen
     → Fits (places_of p (shapes_of r)) (size_in seen.nodes 0)
 
--- They lie below 2 ^ 30.
-abbrev pub RootsAreSmall : Type 0
-RootsAreSmall =
-    (r : Resolved) (p : Plan) → IsGoodFor r (all_in_place r) (memories_of r) p
-    → (node_at p.nodes 0).capacity ≤ 2 ^ 30
-
 -- ---- runs
 
 -- Arrays that the root holds at these places are what a run begins with.
@@ -57,7 +46,7 @@ InputsAreHeld =
 -- A run of a good plan ends as the program means on the arrays that it began with.
 abbrev pub RunsEndAsMeant : Type 0
 RunsEndAsMeant =
-    (r : Resolved) (p : Plan) → IsGoodFor r (all_in_place r) (memories_of r) p
+    (r : Resolved) (p : Plan) → IsGoodPlan r p
     → (a : Arrays) (old now : BankSeen) → IsPrepared p old → map length now.nodes ≡ map length old.nodes
     → IsInput r p a (bytes_in old.nodes)
     → (result : Result (Unit {0}) RunEnd) → TellsFirst p (bytes_in old.nodes) (bytes_in now.nodes) result

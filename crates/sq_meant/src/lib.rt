@@ -1,21 +1,13 @@
 //! What the plan of a program does on a bank is what the program means on arrays.
 #![tactic(auto)]
 
-ghost use Rattle.sq_meant.specs.Laws.{ShapesAgree, PlacesFit, BanksHavePlaces, RootsAreSmall};
-ghost use Rattle.sq_meant.specs.Laws.{InputsAreHeld, RunsEndAsMeant};
+ghost use Rattle.sq_meant.specs.Laws.{PlacesFit, BanksHavePlaces, InputsAreHeld, RunsEndAsMeant};
 
 use sq_draft_laws::laws::resolved_programs_were_walked;
 use sq_homes_fit::entries_are_whole;
 use sq_homes_rooms::drafts_own_their_buffers;
 use sq_ir::laws::good_plans_have_one_result;
 use sq_leaf::Trap;
-
-/// The shapes of the entry's parameters are those that its plan speaks of.
-pub fn shapes_agree()
-    ensures { ShapesAgree }
-{
-    resolved_programs_were_walked();
-}
 
 /// The plan of a program has a place in the root for each of the entry's arrays, and no two share a byte.
 pub fn places_fit()
@@ -26,11 +18,6 @@ pub fn places_fit()
     entries_are_whole();
     drafts_own_their_buffers();
 }
-
-/// The root of a good plan has at most 2^30 bytes.
-pub fn roots_are_small()
-    ensures { RootsAreSmall }
-{}
 
 /// Arrays that the root holds at their places are what a run begins with.
 pub fn inputs_are_held()

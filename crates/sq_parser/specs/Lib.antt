@@ -1,5 +1,1 @@
 pub mod Programs
-pub mod Form
-pub mod Names
-pub mod Small
-pub mod Texts

@@ -2,41 +2,41 @@
 use Rattle.std.proofs.Common.{◌≡◌, Bool, true, false, not, List, [], ◌∷◌, map, All, refl, ap}
 use Rattle.std.proofs.lemmas.List.Elements.{All-nil, All-cons, All-head, All-tail}
 use Rattle.sq_root.specs.declared.place.Place.{Place}
-use Rattle.sq_root.specs.Chosen.{chosen}
+use Rattle.sq_root.specs.Flagged.{flagged}
 use Rattle.sq_root.specs.Places.{part, IsWithin, IsClear, AreApart}
-use Rattle.sq_root.specs.PlaceLaws.{ChosenParts, ChosenFit, OthersAreClear}
+use Rattle.sq_root.specs.PlaceLaws.{FlaggedParts, FlaggedFit, OthersAreClear}
 use Rattle.sq_root.proofs.Parts.{clear-turned}
 
-chosen-map : {A B : Type 0} (f : A → B) (flags : List Bool) (xs : List A)
-    → chosen flags (map f xs) ≡ map f (chosen flags xs)
-chosen-map f [] xs = refl
-chosen-map f (flag ∷ flags) [] = refl
-chosen-map f (true ∷ flags) (x ∷ xs) = ap (λ ys. f x ∷ ys) (chosen-map f flags xs)
-chosen-map f (false ∷ flags) (x ∷ xs) = chosen-map f flags xs
+flagged-map : {A B : Type 0} (f : A → B) (flags : List Bool) (xs : List A)
+    → flagged flags (map f xs) ≡ map f (flagged flags xs)
+flagged-map f [] xs = refl
+flagged-map f (flag ∷ flags) [] = refl
+flagged-map f (true ∷ flags) (x ∷ xs) = ap (λ ys. f x ∷ ys) (flagged-map f flags xs)
+flagged-map f (false ∷ flags) (x ∷ xs) = flagged-map f flags xs
 
-pub chosen-parts : ChosenParts
-chosen-parts flags places root = chosen-map (λ p. part p root) flags places
+pub flagged-parts : FlaggedParts
+flagged-parts flags places root = flagged-map (λ p. part p root) flags places
 
 -- what is true of all is true of those that are picked
-all-chosen : {A : Type 0} (P : A → Type 0) (flags : List Bool) (xs : List A) → All P xs → All P (chosen flags xs)
-all-chosen P [] xs all = All-nil P
-all-chosen P (flag ∷ flags) [] all = All-nil P
-all-chosen P (true ∷ flags) (x ∷ xs) all =
-    All-cons P x (chosen flags xs) (All-head P x xs all) (all-chosen P flags xs (All-tail P x xs all))
-all-chosen P (false ∷ flags) (x ∷ xs) all = all-chosen P flags xs (All-tail P x xs all)
+all-flagged : {A : Type 0} (P : A → Type 0) (flags : List Bool) (xs : List A) → All P xs → All P (flagged flags xs)
+all-flagged P [] xs all = All-nil P
+all-flagged P (flag ∷ flags) [] all = All-nil P
+all-flagged P (true ∷ flags) (x ∷ xs) all =
+    All-cons P x (flagged flags xs) (All-head P x xs all) (all-flagged P flags xs (All-tail P x xs all))
+all-flagged P (false ∷ flags) (x ∷ xs) all = all-flagged P flags xs (All-tail P x xs all)
 
-apart-chosen : (flags : List Bool) (places : List Place) → AreApart places → AreApart (chosen flags places)
-apart-chosen [] places apart = tt
-apart-chosen (flag ∷ flags) [] apart = tt
-apart-chosen (true ∷ flags) (p ∷ ps) apart =
-    (all-chosen (IsClear p) flags ps apart.0, apart-chosen flags ps apart.1)
-apart-chosen (false ∷ flags) (p ∷ ps) apart = apart-chosen flags ps apart.1
+apart-flagged : (flags : List Bool) (places : List Place) → AreApart places → AreApart (flagged flags places)
+apart-flagged [] places apart = tt
+apart-flagged (flag ∷ flags) [] apart = tt
+apart-flagged (true ∷ flags) (p ∷ ps) apart =
+    (all-flagged (IsClear p) flags ps apart.0, apart-flagged flags ps apart.1)
+apart-flagged (false ∷ flags) (p ∷ ps) apart = apart-flagged flags ps apart.1
 
-pub chosen-fit : ChosenFit
-chosen-fit flags places n fits =
+pub flagged-fit : FlaggedFit
+flagged-fit flags places n fits =
     record {
-      within = all-chosen (IsWithin n) flags places fits.within;
-      apart = apart-chosen flags places fits.apart;
+      within = all-flagged (IsWithin n) flags places fits.within;
+      apart = apart-flagged flags places fits.apart;
     }
 
 -- ---- the others
@@ -54,14 +54,14 @@ one-more p ps (q ∷ qs) clear first =
     (one-more p ps qs (All-tail (AreClear ps) q qs clear) (All-tail (IsClear p) q qs first))
 
 others-clear : (flags : List Bool) (places : List Place) → AreApart places
-    → All (AreClear (chosen flags places)) (chosen (map not flags) places)
+    → All (AreClear (flagged flags places)) (flagged (map not flags) places)
 others-clear [] places apart = All-nil (AreClear [])
 others-clear (flag ∷ flags) [] apart = All-nil (AreClear [])
 others-clear (true ∷ flags) (p ∷ ps) apart =
-    one-more p (chosen flags ps) (chosen (map not flags) ps) (others-clear flags ps apart.1)
-    (all-chosen (IsClear p) (map not flags) ps apart.0)
+    one-more p (flagged flags ps) (flagged (map not flags) ps) (others-clear flags ps apart.1)
+    (all-flagged (IsClear p) (map not flags) ps apart.0)
 others-clear (false ∷ flags) (p ∷ ps) apart =
-    All-cons (AreClear (chosen flags ps)) p (chosen (map not flags) ps) (all-chosen (IsClear p) flags ps apart.0)
+    All-cons (AreClear (flagged flags ps)) p (flagged (map not flags) ps) (all-flagged (IsClear p) flags ps apart.0)
     (others-clear flags ps apart.1)
 
 pub others-are-clear : OthersAreClear

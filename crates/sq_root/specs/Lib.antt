@@ -1,4 +1,4 @@
-pub mod Chosen
+pub mod Flagged
 pub mod Places
 pub mod Roots
 pub mod PlaceLaws

@@ -4,14 +4,8 @@ use Rattle.std.specs.List.{All}
 use Rattle.sq_ir.specs.declared.plan.Plan.{Plan}
 use Rattle.sq_tree.specs.Bank.{BankSeen, IsPrepared, bytes_at, size_in}
 use Rattle.sq_root.specs.declared.place.Place.{Place}
-use Rattle.sq_root.specs.Chosen.{chosen}
+use Rattle.sq_root.specs.Flagged.{flagged}
 use Rattle.sq_root.specs.Places.{part, parts, IsWithin, IsClear, Fits, KeepsOutside}
-
--- Arrays that fit have the sizes of their places.
-abbrev pub PartsKeepSizes : Type 0
-PartsKeepSizes =
-    (places : List Place) (root : List ℕ) → Fits places (length root)
-    → map length (parts places root) ≡ map (λ p. p.size) places
 
 -- An array stays as it was if its place shares no byte with those that were read into.
 abbrev pub ClearPartsStay : Type 0
@@ -35,18 +29,18 @@ PreparedStays =
 -- ---- places that are picked
 
 -- The arrays that are picked are those of the places that are picked.
-abbrev pub ChosenParts : Type 0
-ChosenParts =
+abbrev pub FlaggedParts : Type 0
+FlaggedParts =
     (flags : List Bool) (places : List Place) (root : List ℕ)
-    → chosen flags (parts places root) ≡ parts (chosen flags places) root
+    → flagged flags (parts places root) ≡ parts (flagged flags places) root
 
 -- They fit where all do.
-abbrev pub ChosenFit : Type 0
-ChosenFit =
-    (flags : List Bool) (places : List Place) (n : ℕ) → Fits places n → Fits (chosen flags places) n
+abbrev pub FlaggedFit : Type 0
+FlaggedFit =
+    (flags : List Bool) (places : List Place) (n : ℕ) → Fits places n → Fits (flagged flags places) n
 
 -- The others share no byte with them.
 abbrev pub OthersAreClear : Type 0
 OthersAreClear =
     (flags : List Bool) (places : List Place) (n : ℕ) → Fits places n
-    → All (λ q. All (IsClear q) (chosen flags places)) (chosen (map not flags) places)
+    → All (λ q. All (IsClear q) (flagged flags places)) (flagged (map not flags) places)

@@ -1,4 +1,4 @@
-use Rattle.sq_cli.specs.Words.{eval_of}
+use Rattle.sq_words.specs.Words.{eval_of}
 use Rattle.sq_cli.proofs.Evaluations.{evaluates_same}
 use Rattle.sq_cli.proofs.Finals.{causes_after, sources_end, sources_at, sources_told, resolved_at}
 use Rattle.sq_cli.proofs.eval.eval_program.Goals as goal
@@ -22,7 +22,8 @@ eval_free-requires-clause-forms g c = resolved_at c.in-Ok.sources.typed c.in-Ok.
 pub eval_free-requires-clause-holds : goal.eval_free-requires-clause-holds
 eval_free-requires-clause-holds g c =
     sources_at _ c.args.words.now.program.now c.args.words.now.mapping.now c.args.words.now.machine.now
-    c.in-Ok.sources.typed _ c.in-Ok.sources.machine _ c.in-Ok.sources.mapping _ c.in-Ok-resolved.ensures.resolved.tree_is
+    c.in-Ok.sources.typed _ c.in-Ok.sources.machine _ c.in-Ok.sources.mapping
+    _ c.in-Ok-resolved.ensures.resolved.tree_is
     c.in-Ok-resolved.ensures.resolved.machine_is c.in-Ok-resolved.ensures.resolved.mapping_is
     (sources_told _ _ c.args.words.now.program.now c.args.words.now.mapping.now c.args.words.now.machine.now
     c.in-Ok.sources.typed c.in-Ok.sources.machine c.in-Ok.sources.mapping c.in-Ok.ensures.content c.in-Ok.ensures.held)

@@ -6,6 +6,8 @@ use Rattle.sq_cli.proofs.lines.add_numbers.Given as goal
 abbrev pub invariant-loop-number : goal.invariant-loop-number
 invariant-loop-number g l = record {
   later : g.S.Sink.faults l.initial.sink ≤ g.S.Sink.faults l.sink;
-  gathers : (start : _) (faults : ℕ) (text : List ℕ) → Gathers start (g.S.Sink.written l.initial.sink) faults (g.S.Sink.faults l.initial.sink) text l.initial.line
-      → Gathers start (g.S.Sink.written l.sink) faults (g.S.Sink.faults l.sink) (text ++ numbers_text (take l.number-index l.numbers)) l.line;
+  gathers : (start : _) (faults : ℕ) (text : List ℕ) → Gathers start (g.S.Sink.written l.initial.sink) faults
+      (g.S.Sink.faults l.initial.sink) text l.initial.line
+      → Gathers start (g.S.Sink.written l.sink) faults (g.S.Sink.faults l.sink)
+      (text ++ numbers_text (take l.number-index l.numbers)) l.line;
 }

@@ -4,7 +4,8 @@ use Rattle.sq_cli.proofs.Reading.{fits_file, too_long}
 use Rattle.sq_cli.proofs.sources.read_fitting.Goals as goal
 
 pub returns-in-Ok-clause-told : goal.returns-in-Ok-clause-told
-returns-in-Ok-clause-told g c = (fits_file c.args.phase c.in-Ok.text c.requires c.in-Ok.ensures.told.ok_short, c.in-Ok.ensures.told.ok)
+returns-in-Ok-clause-told g c =
+    (fits_file c.args.phase c.in-Ok.text c.requires c.in-Ok.ensures.told.ok_short, c.in-Ok.ensures.told.ok)
 
 pub returns-in-Err-TooLong-clause-told : goal.returns-in-Err-TooLong-clause-told
 returns-in-Err-TooLong-clause-told g c = λ k is.

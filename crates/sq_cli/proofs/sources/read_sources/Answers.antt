@@ -17,7 +17,8 @@ pub returns-in-Err-read_hierarchy-clause-stopped : goal.returns-in-Err-read_hier
 returns-in-Err-read_hierarchy-clause-stopped g c =
     let program = program_held c.args.program.now _ _ c.in-Ok.tree c.in-Ok-checked.typed c.in-Ok.ensures.content
     c.in-Ok-checked.ensures.same c.in-Ok.ensures.told c.in-Ok-checked.ensures.faultless in
-    stops_same c.args.program.now c.args.mapping.now c.args.machine.now _ _ c.in-Err-read_hierarchy.end c.in-Ok.ensures.content
+    stops_same c.args.program.now c.args.mapping.now c.args.machine.now _ _ c.in-Err-read_hierarchy.end
+    c.in-Ok.ensures.content
     (stops_at_machine c.args.program.now c.args.mapping.now c.args.machine.now _ c.in-Ok-checked.typed program
     c.in-Err-read_hierarchy.end c.in-Err-read_hierarchy.ensures.told)
 
@@ -25,7 +26,8 @@ pub returns-in-Err-read_mapped-clause-stopped : goal.returns-in-Err-read_mapped-
 returns-in-Err-read_mapped-clause-stopped g c =
     let program = program_held c.args.program.now _ _ c.in-Ok.tree c.in-Ok-checked.typed c.in-Ok.ensures.content
     c.in-Ok-checked.ensures.same c.in-Ok.ensures.told c.in-Ok-checked.ensures.faultless in
-    let machine = machine_held c.args.program.now c.args.machine.now _ _ c.in-Ok-checked.typed c.in-Ok-read_hierarchy.hierarchy
+    let machine = machine_held c.args.program.now c.args.machine.now _ _ c.in-Ok-checked.typed
+    c.in-Ok-read_hierarchy.hierarchy
     c.in-Ok-read_hierarchy.ensures.content program c.in-Ok-read_hierarchy.ensures.told in
     stops_same c.args.program.now c.args.mapping.now c.args.machine.now _ _ c.in-Err-read_mapped.end
     (c.in-Ok-read_hierarchy.ensures.content ∙ c.in-Ok.ensures.content)
@@ -36,7 +38,8 @@ pub returns-clause-held : goal.returns-clause-held
 returns-clause-held g c =
     let program = program_held c.args.program.now _ _ c.in-Ok.tree c.in-Ok-checked.typed c.in-Ok.ensures.content
     c.in-Ok-checked.ensures.same c.in-Ok.ensures.told c.in-Ok-checked.ensures.faultless in
-    let machine = machine_held c.args.program.now c.args.machine.now _ _ c.in-Ok-checked.typed c.in-Ok-read_hierarchy.hierarchy
+    let machine = machine_held c.args.program.now c.args.machine.now _ _ c.in-Ok-checked.typed
+    c.in-Ok-read_hierarchy.hierarchy
     c.in-Ok-read_hierarchy.ensures.content program c.in-Ok-read_hierarchy.ensures.told in
     mapping_held c.args.program.now c.args.mapping.now c.args.machine.now _ _ c.in-Ok-checked.typed
     c.in-Ok-read_hierarchy.hierarchy c.in-Ok-read_mapped.mapped

@@ -1,40 +1,54 @@
-use Rattle.std.proofs.Common.{Ok, Err, refl, sym}
-use Rattle.sq_cli.specs.Words.{run_of}
-use Rattle.sq_cli.specs.Small.{root_text}
-use Rattle.sq_cli.proofs.Stopping.{stop_ends, memory_stops}
-use Rattle.sq_cli.proofs.Running.{input_stops, run_means, run_printed, fills_same, held_same, ran_same, wrote_same}
-use Rattle.sq_cli.proofs.Performed.{ran_held}
-use Rattle.sq_cli.proofs.Ending.{out_ends}
+use Rattle.std.proofs.Common.{refl}
+use Rattle.sq_words.specs.Words.{asked, run_of}
+use Rattle.sq_cli.proofs.Stopping.{stop_ends}
+use Rattle.sq_cli.proofs.Finals.{causes_after, sources_at, sources_told, resolved_at}
+use Rattle.sq_cli.proofs.RunPhases.{sources_stop, ended_told}
 use Rattle.sq_cli.proofs.run.RunPerform.perform.Goals as goal
 
 pub returns-in-Err-clause-ended : goal.returns-in-Err-clause-ended
-returns-in-Err-clause-ended g c = stop_ends (run_of c.args.self.now.program.now c.args.self.now.mapping.now c.args.self.now.machine.now c.args.self.now.input.now) _ _ c.in-Err.end (c.in-Err.ensures.planned _) (record { out = refl; out_faults = refl; err = refl; err_faults = refl })
+returns-in-Err-clause-ended g c = stop_ends
+    (run_of c.args.self.now.program.now c.args.self.now.mapping.now c.args.self.now.machine.now
+    c.args.self.now.input.now (asked c.args.self.now.order) c.args.self.now.traced) _ _ c.in-Err.end
+    (sources_stop c.args.self.now.program.now c.args.self.now.mapping.now c.args.self.now.machine.now
+    c.args.self.now.input.now c.args.self.now.order c.args.self.now.traced
+    (g.F.Files.content c.args.world.now.files.now) c.in-Err.end c.in-Err.ensures.stopped _)
+    (record { out = refl; out_faults = refl; err = refl; err_faults = refl })
 
-pub returns-in-Err-open_bank-clause-ended : goal.returns-in-Err-open_bank-clause-ended
-returns-in-Err-open_bank-clause-ended g c =
-    stop_ends (run_of c.args.self.now.program.now c.args.self.now.mapping.now c.args.self.now.machine.now c.args.self.now.input.now) _ _ _ (memory_stops (run_of c.args.self.now.program.now c.args.self.now.mapping.now c.args.self.now.machine.now c.args.self.now.input.now) _ _ _ c.in-Err-open_bank.ensures.kept) (record { out = refl; out_faults = refl; err = refl; err_faults = refl })
+pub returns-in-Err-resolved-clause-ended : goal.returns-in-Err-resolved-clause-ended
+returns-in-Err-resolved-clause-ended g c = stop_ends
+    (run_of c.args.self.now.program.now c.args.self.now.mapping.now c.args.self.now.machine.now
+    c.args.self.now.input.now (asked c.args.self.now.order) c.args.self.now.traced) _ _ c.in-Err-resolved.end
+    (sources_stop c.args.self.now.program.now c.args.self.now.mapping.now c.args.self.now.machine.now
+    c.args.self.now.input.now c.args.self.now.order c.args.self.now.traced
+    (g.F.Files.content c.args.world.now.files.now) c.in-Err-resolved.end
+    (c.in-Err-resolved.ensures.stopped _ c.args.self.now.program.now c.args.self.now.mapping.now
+    c.args.self.now.machine.now c.in-Ok.ensures.held) _)
+    (record { out = refl; out_faults = refl; err = refl; err_faults = refl })
 
-pub returns-in-Err-fill_input-clause-ended : goal.returns-in-Err-fill_input-clause-ended
-returns-in-Err-fill_input-clause-ended g c =
-    stop_ends (run_of c.args.self.now.program.now c.args.self.now.mapping.now c.args.self.now.machine.now c.args.self.now.input.now) _ _ c.in-Err-fill_input.end
-    (input_stops c.args.self.now.program.now c.args.self.now.mapping.now c.args.self.now.machine.now c.args.self.now.input.now _ c.in-Ok.planned c.in-Ok.ensures.planned
-    (g.B.Bank.seen c.args.world.now.bank.now) (g.B.Bank.seen c.open_bank.new.bank) (g.B.Bank.seen c.fill_input.new.bank) c.in-Ok-open_bank.ensures.opened c.in-Err-fill_input.ensures.unperformed c.in-Err-fill_input.end
-    (fills_same _ _ c.args.self.now.input.now _ c.in-Ok.planned.plan.value (g.B.Bank.seen c.open_bank.new.bank) (g.B.Bank.seen c.fill_input.new.bank) (Err c.in-Err-fill_input.end) c.in-Ok.ensures.content c.deref.ensures c.in-Err-fill_input.ensures.filled)) (record { out = refl; out_faults = refl; err = refl; err_faults = refl })
+pub run_resolved-requires-clause-forms : goal.run_resolved-requires-clause-forms
+run_resolved-requires-clause-forms g c = resolved_at c.in-Ok.sources.typed c.in-Ok.sources.machine
+    c.in-Ok.sources.mapping
+    c.in-Ok-resolved.resolved c.in-Ok-resolved.ensures.resolved
 
-pub write_output-requires-clause-held : goal.write_output-requires-clause-held
-write_output-requires-clause-held g c =
-    held_same c.in-Ok.planned.plan.value _ _ (sym c.deref-3.ensures)
-    (ran_held c.in-Ok.planned.plan.value c.in-Ok.ensures.planned.laid_out _ _ (held_same _ c.in-Ok.planned.plan.value _ c.deref.ensures c.in-Ok-fill_input.ensures.held) (ran_same _ c.in-Ok.planned.plan.value _ _ c.deref-2.ensures c.run_events.ensures))
+pub run_resolved-requires-clause-holds : goal.run_resolved-requires-clause-holds
+run_resolved-requires-clause-holds g c =
+    sources_at _ c.args.self.now.program.now c.args.self.now.mapping.now c.args.self.now.machine.now
+    c.in-Ok.sources.typed _ c.in-Ok.sources.machine _ c.in-Ok.sources.mapping _
+    c.in-Ok-resolved.ensures.resolved.tree_is c.in-Ok-resolved.ensures.resolved.machine_is
+    c.in-Ok-resolved.ensures.resolved.mapping_is
+    (sources_told _ _ c.args.self.now.program.now c.args.self.now.mapping.now c.args.self.now.machine.now
+    c.in-Ok.sources.typed c.in-Ok.sources.machine c.in-Ok.sources.mapping c.in-Ok.ensures.content
+    c.in-Ok.ensures.held)
 
 pub returns-clause-ended : goal.returns-clause-ended
-returns-clause-ended g c =
-    let opens = c.in-Ok-open_bank.ensures.opened in
-    let held = held_same _ c.in-Ok.planned.plan.value (g.B.Bank.seen c.fill_input.new.bank) c.deref.ensures c.in-Ok-fill_input.ensures.held in
-    let fills = fills_same _ _ c.args.self.now.input.now _ c.in-Ok.planned.plan.value (g.B.Bank.seen c.open_bank.new.bank) (g.B.Bank.seen c.fill_input.new.bank) (Ok tt) c.in-Ok.ensures.content c.deref.ensures c.in-Ok-fill_input.ensures.filled in
-    let ran = ran_same _ c.in-Ok.planned.plan.value (g.B.Bank.seen c.fill_input.new.bank) (g.B.Bank.seen c.run_events.new.bank) c.deref-2.ensures c.run_events.ensures in
-    let printed = run_printed c.args.self.now.program.now c.args.self.now.mapping.now c.args.self.now.machine.now c.args.self.now.input.now (g.F.Files.content c.args.world.now.files.now) c.in-Ok.planned c.in-Ok.ensures.planned
-    (g.B.Bank.seen c.args.world.now.bank.now) (g.B.Bank.seen c.open_bank.new.bank) (g.B.Bank.seen c.fill_input.new.bank) opens c.in-Ok-fill_input.ensures.unperformed held fills (g.B.Bank.seen c.run_events.new.bank) ran in
-    out_ends (run_of c.args.self.now.program.now c.args.self.now.mapping.now c.args.self.now.machine.now c.args.self.now.input.now) _ _ (root_text c.in-Ok.planned.plan.value (g.B.Bank.seen c.run_events.new.bank))
-    (run_means c.args.self.now.program.now c.args.self.now.mapping.now c.args.self.now.machine.now c.args.self.now.input.now (g.F.Files.content c.args.world.now.files.now) c.in-Ok.planned c.in-Ok.ensures.planned
-    (g.B.Bank.seen c.args.world.now.bank.now) (g.B.Bank.seen c.open_bank.new.bank) (g.B.Bank.seen c.fill_input.new.bank) opens c.in-Ok-fill_input.ensures.unperformed held fills (g.B.Bank.seen c.run_events.new.bank) ran) refl refl c.write_output.result
-    (wrote_same _ _ _ _ _ c.in-Ok.planned.plan.value (g.B.Bank.seen c.run_events.new.bank) c.write_output.result c.deref-3.ensures c.write_output.ensures.wrote) printed printed
+returns-clause-ended g c = ended_told
+    (run_of c.args.self.now.program.now c.args.self.now.mapping.now c.args.self.now.machine.now
+    c.args.self.now.input.now (asked c.args.self.now.order) c.args.self.now.traced) _ _ _ c.run_resolved.result
+    c.in-Ok.ensures.content c.run_resolved.ensures.ended
+
+pub returns-in-Err-resolved-clause-cause : goal.returns-in-Err-resolved-clause-cause
+returns-in-Err-resolved-clause-cause g c =
+    causes_after _ _ _ _ _ _ _ c.in-Ok.ensures.cause (c.in-Err-resolved.ensures.cause _ _)
+
+pub returns-clause-cause : goal.returns-clause-cause
+returns-clause-cause g c = causes_after _ _ _ _ _ _ _ c.in-Ok.ensures.cause c.run_resolved.ensures.cause

@@ -1,5 +1,0 @@
-pub mod Bank
-pub mod Bytes
-pub mod Raw
-pub mod Run
-pub mod Source
