@@ -12,8 +12,6 @@ mod reading;
 mod refusal;
 mod runs;
 mod target;
-#[cfg(test)]
-mod tests;
 mod value;
 mod values;
 mod want;

@@ -12,14 +12,10 @@ ghost use Rattle.sq_arrays.specs.Reader.{left_of, elem_of, is_first, kept_of, re
 
 use crate::head::{end, head};
 use crate::values::values;
-#[cfg(test)]
-use crate::window::Spot;
 use crate::window::Window;
 use crate::{InputEnd, Want};
 use sq_num::{Elem, width};
 use sq_port::Files;
-#[cfg(test)]
-use sq_text::Place;
 
 /// Reads the arrays of one file, one after the other, through a window of fixed size. Each call is given the same files
 /// and the same name.
@@ -49,24 +45,6 @@ impl ArrayReader {
             left: 0,
             kept: None,
         }
-    }
-
-    /// For tests: a reader at that byte of a file of which nothing is told.
-    #[cfg(test)]
-    pub(crate) fn starting_at(at: u64) -> ArrayReader
-        requires { at ≤ 268435456 }
-        ensures left { left_of result ≡ 0 }
-        ensures kept { kept_of result ≡ None }
-        ensures ready { (name : List ℕ) → IsReady None name result }
-    {
-        let mut reader = ArrayReader::new();
-        reader.window.spot = Spot {
-            start: 0,
-            end: 0,
-            at,
-            place: Place { line: 1, col: 1 },
-        };
-        reader
     }
 
     /// The type of the current array's elements.

@@ -2,34 +2,12 @@
 #![tactic(auto)]
 
 mod adapters;
-mod capacity;
-mod check;
-mod end;
-mod entry;
-mod eval;
-mod fmt;
-mod launch;
-mod lines;
-mod order;
-mod race;
-mod root;
-mod run;
-mod sources;
-mod status;
-#[cfg(test)]
-mod tests;
-mod top;
-mod trap;
-mod tree;
-mod world;
 
 use adapters::{DiskFiles, StreamSink};
-use end::put_usage;
+use sq_driver::{Status, put_usage, sq_top};
 use sq_tree::RawBank;
-use status::Status;
 use std::process::ExitCode;
 use std::{env, io};
-use top::sq_top;
 
 fn main(rt: HostRuntime) -> ExitCode {
     ExitCode::from(tool(&rt) as u8)

@@ -10,3 +10,13 @@ pub mod WalkedHolds
 pub mod Loops
 pub mod NestedCalls
 pub mod ShortHold
+pub mod Back
+pub mod Every
+pub mod Rising
+pub mod Moves
+pub mod Scoped
+pub mod Near
+pub mod Paths
+pub mod Places
+pub mod Formed
+pub mod ExampleFormed

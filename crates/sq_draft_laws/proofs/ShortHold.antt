@@ -49,7 +49,7 @@ use Rattle.sq_spec_laws.proofs.TableRowsHold.{rows_are_reached}
 use Rattle.sq_placed_bytes.specs.LeafLaws.{event_shape}
 use Rattle.sq_term.specs.Terms.{body_in}
 use Rattle.sq_homes.specs.Drafts as drafts
-use Rattle.sq_plan_formed.specs.Paths.{Nested, nested_of, PathsFit, LeavesAreSmall}
+use Rattle.sq_draft_laws.specs.Paths.{Nested, nested_of, PathsFit, LeavesAreSmall}
 use Rattle.sq_forms_fit.specs.Homes.{bodies_of}
 use Rattle.sq_forms_fit.proofs.RowsHold.{body_is}
 use Rattle.sq_homes_laws.specs.Programs.{BodiesAreTables}

@@ -2,3 +2,9 @@ pub mod Shapes
 pub mod Sized
 pub mod RowsHold
 pub mod Whole
+pub mod Rows
+pub mod Facts
+pub mod Follows
+pub mod LeafCalls
+pub mod Plans
+pub mod Written

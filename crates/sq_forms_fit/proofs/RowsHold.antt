@@ -60,7 +60,7 @@ use Rattle.sq_placed_bytes.specs.Coordinates.{Fits}
 use Rattle.sq_placed_bytes.specs.Calling.{place_of}
 use Rattle.sq_placed_bytes.specs.Fitting.{whole}
 use Rattle.sq_plan_laws.specs.Seated.{IsNear}
-use Rattle.sq_placed_fit.specs.Facts.{ArgFacts, SumFacts, ReducedFacts, RowFacts, home_at}
+use Rattle.sq_forms_fit.specs.Facts.{ArgFacts, SumFacts, ReducedFacts, RowFacts, home_at}
 use Rattle.sq_forms_fit.specs.Homes.{params_at, may_write, mays_of, bodies_of, AreHomes, HomesFit}
 use Rattle.sq_forms_fit.proofs.Sized.{form_shapes_sized}
 use Rattle.sq_forms_fit.proofs.Shapes.{elems_are, dims_are, mapped_at, at_mapped, param_shape}

@@ -34,8 +34,8 @@ use Rattle.sq_spec_laws.proofs.OnesHold.{reductions_are_of_one}
 use Rattle.sq_spec_laws.proofs.TableRowsHold.{rows_are_reached}
 use Rattle.sq_placed.specs.declared.home.Homes.{Homes}
 use Rattle.sq_cells.specs.Tree.{Cause}
-use Rattle.sq_placed_fit.specs.Rows.{TableFits, ListFits, LeafFits, BodyFits, FormsFit}
-use Rattle.sq_placed_fit.proofs.Facts.{facts_fit}
+use Rattle.sq_forms_fit.specs.Rows.{TableFits, ListFits, LeafFits, BodyFits, FormsFit}
+use Rattle.sq_forms_fit.proofs.Facts.{facts_fit}
 use Rattle.sq_forms_fit.specs.Homes.{may_write, mays_of, bodies_of, HomesFit, LeavesStand}
 use Rattle.sq_forms_fit.specs.Laws.{ProgramsFit, ArraysAreSized}
 use Rattle.sq_forms_fit.specs.Sizes.{IsSized}

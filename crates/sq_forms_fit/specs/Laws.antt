@@ -11,7 +11,7 @@ use Rattle.sq_ir.specs.Events.{Leaves}
 use Rattle.sq_forms.specs.Resolving.{Resolving, resolution}
 use Rattle.sq_placed.specs.declared.home.Homes.{Homes}
 use Rattle.sq_cells.specs.Tree.{Cause}
-use Rattle.sq_placed_fit.specs.Rows.{FormsFit}
+use Rattle.sq_forms_fit.specs.Rows.{FormsFit}
 use Rattle.sq_forms_fit.specs.Homes.{mays_of, bodies_of, HomesFit, LeavesStand}
 use Rattle.sq_forms_fit.specs.Sizes.{IsSized}
 

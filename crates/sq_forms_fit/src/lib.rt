@@ -1,7 +1,23 @@
-//! The tables of a program's forms fit what its plan needs.
+//! The tables of a program's forms fit what plans ask; what is placed of them, and the plan of a program's entry, from
+//! any bytes, with its leaf calls.
 #![tactic(auto)]
 
+ghost use Rattle.sq_forms_fit.specs.Rows.{TablesFit};
+ghost use Rattle.sq_forms_fit.specs.Facts.{FactsFit};
 ghost use Rattle.sq_forms_fit.specs.Laws.{ProgramsFit, ArraysAreSized};
+ghost use Rattle.sq_forms_fit.specs.Entry.{EntriesFollow, EntriesSit, EntriesArePlans};
+ghost use Rattle.sq_forms_fit.specs.LeafCalls.{CallsAreOfTables};
+ghost use Rattle.sq_forms_fit.specs.Written.{PlansAreWritten};
+
+/// A row of a call's table fits, where its facts are known.
+pub fn facts_fit()
+    ensures { FactsFit }
+{}
+
+/// What is placed of tables that fit fits.
+pub fn tables_fit()
+    ensures { TablesFit }
+{}
 
 /// Of a program without a fault, under a mapping that was read with it, the tables of all forms fit, wherever their
 /// arrays stand.
@@ -12,4 +28,31 @@ pub fn programs_fit()
 /// The arrays of its forms have one to three dimensions, of which none is empty, and not too many elements.
 pub fn arrays_are_sized()
     ensures { ArraysAreSized }
+{}
+
+/// Whatever bytes there are, those of arrays that are only written included, the run of the plan ends as the source
+/// means on the arrays that are read.
+pub fn entries_follow()
+    ensures { EntriesFollow }
+{}
+
+/// What is placed of tables has their leaf calls, each with the code of its form and its path.
+pub fn calls_are_of_tables()
+    ensures { CallsAreOfTables }
+{}
+
+/// What is placed of a program's entry sits as its tree needs, where the tables of forms fit.
+pub fn entries_sit()
+    ensures { EntriesSit }
+{}
+
+/// What is placed of a program's entry is a plan, where the tables of forms fit, no race is in it, and its buffers
+/// stand apart.
+pub fn entries_are_plans()
+    ensures { EntriesArePlans }
+{}
+
+/// It is the term of the entry written out, with the entry's buffers in scope round it.
+pub fn plans_are_written()
+    ensures { PlansAreWritten }
 {}

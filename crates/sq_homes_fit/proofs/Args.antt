@@ -9,8 +9,8 @@ use Rattle.sq_blocks.specs.declared.argument.Argument.{Argument}
 use Rattle.sq_placed.specs.Seats.{firsts}
 use Rattle.sq_placed_bytes.specs.Coordinates.{Fits}
 use Rattle.sq_placed_bytes.specs.Fitting.{whole}
-use Rattle.sq_placed_fit.specs.Facts.{ArgFacts}
-use Rattle.sq_plan_entry.specs.Entry.{IsWhole}
+use Rattle.sq_forms_fit.specs.Facts.{ArgFacts}
+use Rattle.sq_forms_fit.specs.Entry.{IsWhole}
 use Rattle.sq_term.specs.Stands.{Each, none, more}
 use Rattle.sq_term_fit.specs.Rooms.{ArgFits, IsBelow, no_more, in_each}
 use Rattle.sq_forms_fit.specs.Sizes.{IsSized}

@@ -20,7 +20,7 @@ use Rattle.sq_spec.proofs.EntryHolds.{entry_is_first}
 use Rattle.sq_placed.specs.declared.home.Home.{Home}
 use Rattle.sq_placed.specs.declared.home.Home.TheVariants.{Own}
 use Rattle.sq_placed.specs.declared.home.Homes.{Homes}
-use Rattle.sq_plan_entry.specs.Entry.{IsWhole, EntryFacts}
+use Rattle.sq_forms_fit.specs.Entry.{IsWhole, EntryFacts}
 use Rattle.sq_term.specs.Terms.{body_in, homes_in}
 use Rattle.sq_forms_fit.specs.Homes.{params_at, may_write, mays_of}
 use Rattle.sq_forms_fit.proofs.RowsHold.{arrays_are, params_are, mays_are}

@@ -9,3 +9,15 @@ pub mod Rows
 pub mod Args
 pub mod Buffers
 pub mod Roomy
+pub mod Flags
+pub mod Numbers
+pub mod Rounds
+pub mod Callers
+pub mod Numbered
+pub mod Parts
+pub mod Arrays
+pub mod Owned
+pub mod EntryOwned
+pub mod Machines
+pub mod Lanes
+pub mod Placeable

@@ -8,7 +8,7 @@ use Rattle.sq_forms_fit.specs.Homes.{mays_of, HomesFit}
 use Rattle.sq_homes.specs.declared.choice.Choice.{Choice}
 use Rattle.sq_homes.specs.Drafts.{bodies_of, homes_of, args_of}
 use Rattle.sq_homes_laws.specs.Simple.{Walked, AreSimple}
-use Rattle.sq_plan_entry.specs.Entry.{EntryFacts}
+use Rattle.sq_forms_fit.specs.Entry.{EntryFacts}
 
 -- Each form has a home for each of its parameters, in place only where it was found so, and a buffer for each local.
 abbrev pub HomesFitForms : Type 0

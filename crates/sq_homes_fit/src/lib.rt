@@ -1,9 +1,14 @@
-//! The homes, bodies and buffers of a draft meet what the laws of plans ask, where its choices are simple.
+//! Where nothing leaves a loop: the homes, bodies and buffers of a draft meet what the laws of plans ask, each array has
+//! its own buffer, and the draft can be placed.
 #![tactic(auto)]
 
 ghost use Rattle.sq_homes_fit.specs.Homes.{HomesFitForms, EntriesAreWhole, EntriesHaveBuffers};
 ghost use Rattle.sq_homes_fit.specs.Levels.{LevelsAreThere, DraftsBeginAtRoot};
 ghost use Rattle.sq_homes_fit.specs.Drafts.{DraftsAreTabled, DraftsAreRoomy};
+ghost use Rattle.sq_homes_fit.specs.Numbers.{BuffersAreNumbered};
+ghost use Rattle.sq_homes_fit.specs.Owned.{DraftsOwn};
+ghost use Rattle.sq_homes_fit.specs.Lanes.{MachinesAreMachines, LanesAreThere};
+ghost use Rattle.sq_homes_fit.specs.Placeable.{DraftsArePlaceable};
 
 /// Each form has a home for each of its parameters, in place only where it was found so, and a buffer for each local.
 pub fn homes_fit_forms()
@@ -38,4 +43,30 @@ pub fn drafts_are_tabled()
 /// Arrays fit into the buffers of their homes, and blocks lie inside arrays.
 pub fn drafts_are_roomy()
     ensures { DraftsAreRoomy }
+{}
+
+/// The buffers of a draft are numbered form by form, and each form but the entry has one caller, which stands before
+/// it.
+pub fn buffers_are_numbered()
+    ensures { BuffersAreNumbered }
+{}
+
+/// Each array of a draft has a buffer of its own that it fits into, or stands in its caller's array.
+pub fn drafts_own_their_buffers()
+    ensures { DraftsOwn }
+{}
+
+/// The memories of a machine are nodes as a built term asks.
+pub fn memories_are_machines()
+    ensures { MachinesAreMachines }
+{}
+
+/// Each iteration of a draft's spread maps has a child.
+pub fn lanes_are_there()
+    ensures { LanesAreThere }
+{}
+
+/// A draft can be placed.
+pub fn drafts_can_be_placed()
+    ensures { DraftsArePlaceable }
 {}

@@ -6,8 +6,6 @@ mod num;
 mod numbers;
 mod plan;
 mod term;
-#[cfg(test)]
-mod tests;
 mod traffic;
 
 pub use num::Num;

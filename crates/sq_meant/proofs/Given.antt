@@ -25,7 +25,7 @@ use Rattle.sq_homes.specs.Drafts.{args_of, bodies_of, buffers_of, entry_of, IsDr
 use Rattle.sq_term.specs.Terms.{body_in}
 use Rattle.sq_elim.specs.Choices.{all_in_place}
 use Rattle.sq_homes_fit.specs.Homes.{EntriesAreWhole}
-use Rattle.sq_homes_rooms.specs.Owned.{DraftsOwn}
+use Rattle.sq_homes_fit.specs.Owned.{DraftsOwn}
 use Rattle.sq_draft_laws.specs.Opened.{WalkedIsThere}
 use Rattle.sq_plan_good.specs.Good.{shapes_in, IsInput}
 use Rattle.sq_plan_good.specs.Planned.{IsGoodPlan}

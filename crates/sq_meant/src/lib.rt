@@ -4,8 +4,7 @@
 ghost use Rattle.sq_meant.specs.Laws.{PlacesFit, BanksHavePlaces, InputsAreHeld, RunsEndAsMeant};
 
 use sq_draft_laws::laws::resolved_programs_were_walked;
-use sq_homes_fit::entries_are_whole;
-use sq_homes_rooms::drafts_own_their_buffers;
+use sq_homes_fit::{drafts_own_their_buffers, entries_are_whole};
 use sq_ir::laws::good_plans_have_one_result;
 use sq_leaf::Trap;
 

@@ -5,6 +5,3 @@ pub mod laws;
 mod parse;
 
 pub use parse::parse_program;
-
-#[cfg(test)]
-mod parse_tests;

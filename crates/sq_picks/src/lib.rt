@@ -2,7 +2,5 @@
 #![tactic(auto)]
 
 mod picks;
-#[cfg(test)]
-mod tests;
 
 pub use picks::read_picks;

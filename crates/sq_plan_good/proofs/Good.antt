@@ -55,20 +55,20 @@ use Rattle.sq_plan_laws.specs.Seated.{Sits, at_node}
 use Rattle.sq_plan_laws.specs.Entry.{plan_tree, form_at, held_in, IsPlan, EndsSo, PlansAreSafe}
 use Rattle.sq_plan_laws.specs.LeafCalls.{PlansCount}
 use Rattle.sq_plan_laws.specs.Room.{PlansInside, IsRoomy, HasRoom}
-use Rattle.sq_placed_fit.specs.Rows.{FormsFit}
-use Rattle.sq_placed_fit.proofs.Facts.{passed, passed_at}
+use Rattle.sq_forms_fit.specs.Rows.{FormsFit}
+use Rattle.sq_forms_fit.proofs.Facts.{passed, passed_at}
 use Rattle.sq_forms_fit.specs.Homes as fit
 use Rattle.sq_forms_fit.specs.Homes.{mays_of}
 use Rattle.sq_forms_fit.specs.Laws.{ProgramsFit}
 use Rattle.sq_plan_room.specs.Buffers.{IsSimple}
 use Rattle.sq_plan_room.specs.Rooms as rooms
 use Rattle.sq_plan_room.specs.Rooms.{RoomIsStowed}
-use Rattle.sq_plan_entry.specs.Entry.{EntryFacts, EntriesSit, EntriesArePlans, EntriesFollow, ReadCodes, AreWhole, IsWhole}
-use Rattle.sq_plan_entry.specs.Entry.{entry_shapes, anything}
-use Rattle.sq_plan_entry.specs.LeafCalls.{CallsAreOfTables, form_calls}
-use Rattle.sq_plan_entry.specs.Written.{PlansAreWritten}
-use Rattle.sq_plan_formed.specs.Laws.{FormsAreNear, PathsAreShort, PlansAreWellFormed, HasPath}
-use Rattle.sq_plan_formed.specs.Scope.{HomesAreNear}
+use Rattle.sq_forms_fit.specs.Entry.{EntryFacts, EntriesSit, EntriesArePlans, EntriesFollow, ReadCodes, AreWhole, IsWhole}
+use Rattle.sq_forms_fit.specs.Entry.{entry_shapes, anything}
+use Rattle.sq_forms_fit.specs.LeafCalls.{CallsAreOfTables, form_calls}
+use Rattle.sq_forms_fit.specs.Written.{PlansAreWritten}
+use Rattle.sq_draft_laws.specs.Laws.{FormsAreNear, PathsAreShort, PlansAreWellFormed, HasPath}
+use Rattle.sq_draft_laws.specs.Scope.{HomesAreNear}
 use Rattle.sq_store.specs.Place.{IsPlaced}
 use Rattle.sq_store.specs.Walk.{offsets_of}
 use Rattle.sq_store.specs.Laws.{OffsetsAreAsMany}
@@ -80,9 +80,9 @@ use Rattle.sq_homes_laws.specs.Simple.{Walked, AreSimple, AreMemories, setting_o
 use Rattle.sq_homes_fit.specs.Homes.{HomesFitForms, EntriesAreWhole}
 use Rattle.sq_homes_fit.specs.Levels.{BeginsAtRoot, DraftsBeginAtRoot}
 use Rattle.sq_homes_fit.specs.Drafts.{limits, DraftsAreTabled, DraftsAreRoomy, IsRoomyDraft}
-use Rattle.sq_homes_rooms.specs.Owned.{draft_placed, DraftsOwn, OwnsItsBuffers}
-use Rattle.sq_homes_rooms.specs.Lanes.{MachinesAreMachines, LanesAreThere, IsDraftMachine}
-use Rattle.sq_homes_rooms.specs.Placeable.{DraftsArePlaceable}
+use Rattle.sq_homes_fit.specs.Owned.{draft_placed, DraftsOwn, OwnsItsBuffers}
+use Rattle.sq_homes_fit.specs.Lanes.{MachinesAreMachines, LanesAreThere, IsDraftMachine}
+use Rattle.sq_homes_fit.specs.Placeable.{DraftsArePlaceable}
 use Rattle.sq_draft_laws.specs.Leaves.{LeavesOfDraftsStand}
 use Rattle.sq_draft_laws.specs.Opened.{WalkedIsThere}
 use Rattle.sq_draft_laws.specs.Short.{LeavesAreShort, AreShort, round_of}

@@ -21,8 +21,8 @@ use Rattle.sq_alike.specs.Alike.{Weight, leaf_count}
 use Rattle.sq_placed_bytes.specs.Codes.{loaded}
 use Rattle.sq_term.specs.Terms.{body_in, homes_in}
 use Rattle.sq_plan_laws.specs.Entry.{held_in, EndsSo}
-use Rattle.sq_plan_entry.specs.Entry.{entry_shapes}
-use Rattle.sq_plan_entry.specs.LeafCalls.{form_calls}
+use Rattle.sq_forms_fit.specs.Entry.{entry_shapes}
+use Rattle.sq_forms_fit.specs.LeafCalls.{form_calls}
 use Rattle.sq_nests.specs.Drafts.{IsPlaceable}
 use Rattle.sq_store.specs.Place.{IsPlaced}
 use Rattle.sq_homes.specs.declared.choice.Choice.{Choice}

@@ -6,19 +6,19 @@ use Rattle.sq_plan_laws.specs.LeafCalls.{PlansCount}
 use Rattle.sq_plan_laws.specs.Room.{PlansInside}
 use Rattle.sq_forms_fit.specs.Laws.{ProgramsFit}
 use Rattle.sq_plan_room.specs.Rooms.{RoomIsStowed}
-use Rattle.sq_plan_entry.specs.Entry.{EntriesSit, EntriesArePlans, EntriesFollow}
-use Rattle.sq_plan_entry.specs.LeafCalls.{CallsAreOfTables}
-use Rattle.sq_plan_entry.specs.Written.{PlansAreWritten}
-use Rattle.sq_plan_formed.specs.Laws.{FormsAreNear, PathsAreShort, PlansAreWellFormed}
+use Rattle.sq_forms_fit.specs.Entry.{EntriesSit, EntriesArePlans, EntriesFollow}
+use Rattle.sq_forms_fit.specs.LeafCalls.{CallsAreOfTables}
+use Rattle.sq_forms_fit.specs.Written.{PlansAreWritten}
+use Rattle.sq_draft_laws.specs.Laws.{FormsAreNear, PathsAreShort, PlansAreWellFormed}
 use Rattle.sq_store.specs.Laws.{OffsetsAreAsMany}
 use Rattle.sq_homes_laws.specs.Given.{HomesAreLeveled}
 use Rattle.sq_homes_laws.specs.Programs.{BodiesAreTables, PlacedIsProgram, TermIsEntrys}
 use Rattle.sq_homes_fit.specs.Homes.{HomesFitForms, EntriesAreWhole}
 use Rattle.sq_homes_fit.specs.Levels.{DraftsBeginAtRoot}
 use Rattle.sq_homes_fit.specs.Drafts.{DraftsAreTabled, DraftsAreRoomy}
-use Rattle.sq_homes_rooms.specs.Owned.{DraftsOwn}
-use Rattle.sq_homes_rooms.specs.Lanes.{MachinesAreMachines, LanesAreThere}
-use Rattle.sq_homes_rooms.specs.Placeable.{DraftsArePlaceable}
+use Rattle.sq_homes_fit.specs.Owned.{DraftsOwn}
+use Rattle.sq_homes_fit.specs.Lanes.{MachinesAreMachines, LanesAreThere}
+use Rattle.sq_homes_fit.specs.Placeable.{DraftsArePlaceable}
 use Rattle.sq_draft_laws.specs.Leaves.{LeavesOfDraftsStand}
 use Rattle.sq_draft_laws.specs.Opened.{WalkedIsThere}
 use Rattle.sq_draft_laws.specs.Short.{LeavesAreShort}

@@ -6,20 +6,19 @@ ghost use Rattle.sq_plan_good.specs.Good.{DraftsCanBePlaced, PlacedAreGood};
 use sq_draft_laws::laws::{
     leaves_are_short, leaves_of_drafts_stand, resolved_programs_were_walked,
 };
-use sq_forms_fit::programs_fit;
+use sq_draft_laws::{forms_are_near, paths_are_short, plans_are_well_formed};
+use sq_forms_fit::{
+    calls_are_of_tables, entries_are_plans, entries_follow, entries_sit, plans_are_written,
+    programs_fit,
+};
 use sq_homes_fit::{
-    drafts_are_roomy, drafts_are_tabled, drafts_begin_at_root, entries_are_whole, homes_fit_forms,
+    drafts_are_roomy, drafts_are_tabled, drafts_begin_at_root, drafts_can_be_placed,
+    drafts_own_their_buffers, entries_are_whole, homes_fit_forms, lanes_are_there,
+    memories_are_machines,
 };
 use sq_homes_laws::laws::{
     bodies_are_tables, buffers_have_their_levels, placed_is_program, terms_are_those_of_entries,
 };
-use sq_homes_rooms::{
-    drafts_can_be_placed, drafts_own_their_buffers, lanes_are_there, memories_are_machines,
-};
-use sq_plan_entry::{
-    calls_are_of_tables, entries_are_plans, entries_follow, entries_sit, plans_are_written,
-};
-use sq_plan_formed::{forms_are_near, paths_are_short, plans_are_well_formed};
 use sq_plan_laws::{plans_are_safe, plans_count, plans_inside};
 use sq_plan_room::room_is_stowed;
 use sq_spec::meaning::{tables_are_free_of_races, tables_mean_the_program};

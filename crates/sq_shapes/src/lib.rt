@@ -10,6 +10,3 @@ pub use contents::{number_at, numeral_at, place_at, word_at};
 pub use cursor::{ReadError, Tokens};
 pub use pattern::{Pattern, fits};
 pub use syntax::syntax_fault;
-
-#[cfg(test)]
-mod tests;

@@ -3,8 +3,6 @@
 
 mod options;
 mod seeds;
-#[cfg(test)]
-mod tests;
 mod words;
 
 pub use options::Way;

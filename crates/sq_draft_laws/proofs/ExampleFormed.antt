@@ -1,0 +1,116 @@
+-- Tables and homes that are as asked: a `mapseq` of two lower calls of a leaf.
+use Rattle.std.proofs.Common.{◌≡◌, ℕ, zero, suc, ◌+◌, ◌≤◌, true, List, [], ◌∷◌, length, get_or, slice_get}
+use Rattle.std.proofs.Common.{Some, None, sym, false, ◌<◌, Option, subst, arith, ap, ◌∙◌, ◌++◌}
+use Rattle.sq_text.specs.declared.place.Place.{Place}
+use Rattle.sq_text.specs.declared.spread.SpreadRule.TheVariants.{Cyclic}
+use Rattle.sq_leaf.specs.declared.shape.Shape.{Shape}
+use Rattle.sq_leaf.specs.Leaf.{Leaf as LeafSource}
+use Rattle.sq_blocks.specs.declared.argument.Argument.{Argument}
+use Rattle.sq_spec.specs.declared.statement.LoopKind.TheVariants as loop_kind
+use Rattle.sq_spec.specs.declared.statement.CallInstance.{CallInstance}
+use Rattle.sq_spec.specs.declared.statement.Statement.{Statement}
+use Rattle.sq_spec.specs.declared.statement.Statement.TheVariants as b
+use Rattle.sq_spec.specs.declared.body.Body.TheVariants as body
+use Rattle.sq_spec.specs.declared.body.FormBody.{FormBody}
+use Rattle.sq_spec.specs.Bodies.{no_body}
+use Rattle.sq_spec_laws.specs.TableRows.{Table, tables_in}
+use Rattle.sq_work.specs.declared.reduction.Reduction.{Reduction}
+use Rattle.sq_placed.specs.declared.home.Home.TheVariants.{InPlace, Own}
+use Rattle.sq_placed.specs.declared.home.Homes.{Homes}
+use Rattle.sq_plan_laws.specs.Seated.{IsNear}
+use Rattle.sq_plan_room.specs.Buffers.{IsSimple}
+use Rattle.sq_draft_laws.specs.Scope.{HomesAreNear}
+use Rattle.sq_draft_laws.specs.Paths.{Nested, nested_of, PathsFit, LeavesAreSmall}
+use Rattle.sq_draft_laws.proofs.Every.{Every, every_at}
+use Rattle.sq_draft_laws.proofs.Scoped.{tables_call, tables_map}
+use Rattle.sq_draft_laws.proofs.Paths.{RowsFit, nested_call, nested_map}
+
+module _ (place : Place) (leaf : LeafSource) (x : Shape) (a : Argument) where
+  abbrev row : CallInstance
+  row = record { form = 1; args = a ∷ [] }
+
+  abbrev call : Statement
+  call = b.Call true (row ∷ row ∷ [])
+
+  abbrev loop : Statement
+  loop = b.Map place loop_kind.Sequential (2 ∷ []) (0 ∷ []) (call ∷ [])
+
+  abbrev bodies : ℕ → FormBody
+  bodies zero = record { arrays = x ∷ []; body = body.Inner (loop ∷ []) }
+  bodies (suc zero) = record { arrays = x ∷ []; body = body.Leaf leaf }
+  bodies (suc (suc k)) = no_body
+
+  -- each array in a buffer of its own
+  abbrev homes : ℕ → Homes
+  homes k = record { rule = Cyclic; code = 0; params = Own k ∷ []; locals = []; overlaps = false }
+
+  -- one map stands round the leaf
+  abbrev round : ℕ → ℕ
+  round zero = 0
+  round (suc k) = 1
+
+  nested : nested_of (bodies 0).body ≡ record { loops = 1; times = row ∷ row ∷ [] } ∷ []
+  nested = ap (λ (f : ℕ → List Nested). f 0 ++ [])
+      (nested_map place loop_kind.Sequential (2 ∷ []) (0 ∷ []) (call ∷ []))
+      ∙ ap (λ (f : ℕ → List Nested). (f 1 ++ []) ++ []) (nested_call true (row ∷ row ∷ []))
+
+  paths_fit : PathsFit bodies round
+  paths_fit = record { calls = calls; short = short }
+    where
+      calls : (k i : ℕ) (t : Nested) → slice_get (nested_of (bodies k).body) i ≡ Some t → (j : ℕ) (r : CallInstance)
+          → slice_get t.times j ≡ Some r → round k + t.loops ≤ round r.form
+      calls zero i t e j r g =
+          let fit = every_at (RowsFit round 0) (nested_of (bodies 0).body) i t
+          (subst (Every (RowsFit round 0)) (sym nested) ((omega arith, (omega arith, tt)), tt)) e in
+          every_at (λ (r : CallInstance). 0 + t.loops ≤ round r.form) t.times j r fit g
+      calls (suc zero) i t e j r g = cc
+      calls (suc (suc k)) i t e j r g = cc
+
+      short : (k : ℕ) (l : LeafSource) → (bodies k).body ≡ body.Leaf l → round k ≤ 64
+      short zero l e = omega arith
+      short (suc k) l e = omega arith
+
+  leaves_are_small : LeavesAreSmall bodies
+  leaves_are_small = record { few = few }
+    where
+      few : (k : ℕ) (l : LeafSource) → (bodies k).body ≡ body.Leaf l → length (bodies k).arrays ≤ 32
+      few zero l e = cc
+      few (suc zero) l e = omega arith
+      few (suc (suc k)) l e = omega arith
+
+  tables : tables_in (loop ∷ []) None ≡ record { red = None; lower = true; times = row ∷ row ∷ [] } ∷ []
+  tables = ap (λ (f : Option Reduction → List Table). f None ++ [])
+      (tables_map place loop_kind.Sequential (2 ∷ []) (0 ∷ []) (call ∷ []))
+      ∙ ap (λ (f : Option Reduction → List Table). (f None ++ []) ++ []) (tables_call true (row ∷ row ∷ []))
+
+  abbrev Near : Table → Type 0
+  Near t = Every (λ (r : CallInstance). (k : ℕ) → k < length r.args
+      → IsNear t.lower (get_or (homes r.form).params k InPlace)) t.times
+
+  -- the one argument's home
+  first : (k : ℕ) → k < 1 → IsNear true (get_or (Own 1 ∷ []) k InPlace)
+  first zero l = tt
+  first (suc k) l = absurd (omega (arith, l))
+
+  are_near : HomesAreNear bodies homes
+  are_near = record { simple = simple; near = near }
+    where
+      simple : (f i : ℕ) → IsSimple (get_or (homes f).params i InPlace)
+      simple f zero = tt
+      simple f (suc i) = tt
+
+      near : (f : ℕ) (list : List Statement) → (bodies f).body ≡ body.Inner list → (i : ℕ) (t : Table)
+          → slice_get (tables_in list None) i ≡ Some t → (j : ℕ) (r : CallInstance) → slice_get t.times j ≡ Some r
+          → (k : ℕ) → k < length r.args → IsNear t.lower (get_or (homes r.form).params k InPlace)
+      near zero list e i t g j r h =
+          let same : loop ∷ [] ≡ list = cc in
+          let fit = every_at Near (tables_in list None) i t
+          (subst (λ (l : List Statement). Every Near (tables_in l None)) same
+          (subst (Every Near) (sym tables) ((first, (first, tt)), tt))) g in
+          every_at (λ (r : CallInstance). (k : ℕ) → k < length r.args
+          → IsNear t.lower (get_or (homes r.form).params k InPlace)) t.times j r fit h
+      near (suc zero) list e i t g j r h = cc
+      near (suc (suc f)) list e i t g j r h =
+          let same : [] ≡ list = cc in
+          let none : slice_get (tables_in [] None) i ≡ Some t = ap (λ (l : List Statement). slice_get (tables_in l None)
+          i) same ∙ g in cc

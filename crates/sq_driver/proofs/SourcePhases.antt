@@ -1,0 +1,288 @@
+-- The phases from program to race, of a command whose files are a program, a mapping, a machine and perhaps data.
+use Rattle.std.proofs.Common.{◌≡◌, ℕ, List, [], ◌∷◌, false, Option, Some, None, Result, Ok, Err, refl, sym, ◌∙◌, ap, subst, slice_get}
+use Rattle.sq_port.specs.Ports.{Content}
+use Rattle.sq_text.specs.declared.code.Phase.{Phase}
+use Rattle.sq_text.specs.declared.code.Phase.TheVariants.{Program, Types, Machine, Mapping, Resolve, Race}
+use Rattle.sq_text.specs.declared.fault.Fault.{Fault}
+use Rattle.sq_ast.specs.declared.program.Program.{Program as Tree}
+use Rattle.sq_machfile.specs.Machines.{Hierarchy}
+use Rattle.sq_mapfile.specs.declared.mapping.Mapping.{Mapping as Mapped}
+use Rattle.sq_forms.specs.Forms.{IsFirstMet}
+use Rattle.sq_forms.specs.Resolving.{Resolving, resolution}
+use Rattle.sq_forms.specs.declared.form.Form.{Form}
+use Rattle.sq_forms.specs.declared.form.Use.{Use}
+use Rattle.sq_spec.specs.declared.resolved.Resolved.{Resolved}
+use Rattle.sq_race.specs.declared.forms.Found.{Found}
+use Rattle.sq_race.specs.Race.{variant_by, maps_by, HoldsIn, HoldsAt, IsFirstRace}
+use Rattle.sq_tree.specs.Bank.{BankSeen}
+use Rattle.sq_driver.specs.declared.end.End.{End}
+use Rattle.sq_driver.specs.declared.end.End.TheVariants.{Usage, Absent, FileFault, Refused, Trapped, NoMemory, SinkFault}
+use Rattle.sq_words.specs.Words.{Command}
+use Rattle.sq_driver.specs.Phases.{phases, Inputs, inputs_of, IsTold}
+use Rattle.sq_driver.specs.Holding.{Holds, HoldsOnly}
+use Rattle.sq_driver.specs.Programs.{IsProgramText, IsFirstTypeFault}
+use Rattle.sq_driver.specs.Sources.{IsMachineText, IsFirstMachineFault, IsMappingText, IsFirstMappingFault, Sources}
+use Rattle.sq_driver.specs.Races.{IsResolved, IsFirstRaceFault}
+use Rattle.sq_driver.specs.Faults.{IsFirstOf}
+use Rattle.sq_driver.specs.Meaning.{Passed, AllPassed, Reached}
+use Rattle.sq_driver.specs.Steps.{HoldsRight, ReadsTree, Stopped}
+use Rattle.sq_driver.specs.SharedFiles.{ReadsSources, command_with, StopsSources}
+use Rattle.sq_driver.specs.Evaluating.{EndsWith, ReadsMachine, ReadsMapping, HoldsProgram, HoldsMachine, HoldsSources}
+use Rattle.sq_driver.proofs.Stopping.{told_of, phase_stops, memory_stops, is_there, no_file_there}
+use Rattle.sq_driver.proofs.ProgramPhases.{BeginsWith, program_stops, types_stops, types_passed}
+
+pub ok_same : {A B : Type 0} (x y : A) → ◌≡◌ {A = Result A B} (Ok x) (Ok y) → x ≡ y
+ok_same x y is = cc
+
+ok_or_err : {A B : Type 0} (x : A) (f : B) → Ok x ≡ Err f → ⊥
+ok_or_err x f is = cc
+
+-- no other program, machine and mapping are held
+pub record AreOnly {inputs : Inputs} (tree : Tree) (hierarchy : Hierarchy) (mapped : Mapped)
+    (that : Sources inputs) : Type 0 where
+  pub tree_is : that.tree ≡ tree
+  pub machine_is : that.hierarchy ≡ hierarchy
+  pub mapping_is : that.mapped ≡ mapped
+
+-- a race of equal forms
+same_race : (r s : Resolved) (n : ℕ) (round : List ℕ) (x : Found) → r.forms ≡ s.forms → r.uses ≡ s.uses
+    → r.typed.now ≡ s.typed.now → r.mapping.now ≡ s.mapping.now → HoldsAt r n round x → HoldsAt s n round x
+same_race r s n round x forms uses trees mappings race = record {
+  of = race.of;
+  uses = race.uses;
+  form_is = subst (λ (l : List Form). slice_get l n ≡ Some race.of) forms race.form_is;
+  uses_are = subst (λ (l : List (List Use)). slice_get l n ≡ Some race.uses) uses race.uses_are;
+  holds = subst (λ (t : Tree). HoldsIn
+      (maps_by (variant_by t.tasks (slice_get s.mapping.now.instances race.of.instance))) race.uses round x) trees (
+      subst (λ (m : Mapped). HoldsIn (maps_by (variant_by r.typed.now.tasks (slice_get m.instances race.of.instance)))
+      race.uses round x) mappings race.holds);
+}
+
+module _ (its : Command) (begun : ReadsSources its.kind) (p m k : List ℕ) (told : Option Content) where
+  abbrev pub begins : BeginsWith (command_with its p m k) p
+  begins = record { rest = Types ∷ Machine ∷ Mapping ∷ Resolve ∷ Race ∷ begun.rest; split = begun.split; file = refl }
+
+  pub one : (c : Content) → IsTold (command_with its p m k) told c → told ≡ Some c
+  one c is = told_of (command_with its p m k) p told c refl is
+
+  module _ (tree : Tree) (program : HoldsProgram told p tree) where
+    two : (c : Content) → told ≡ Some c → AllPassed (command_with its p m k) c (Program ∷ Types ∷ [])
+    two c is = types_passed (command_with its p m k) p begins told tree program.held
+        (Machine ∷ Mapping ∷ Resolve ∷ Race ∷ begun.rest) refl program.faultless c is
+
+    pub machine_stops : (bank : BankSeen) (end : End) → ReadsMachine told k (Err end)
+        → Stopped (command_with its p m k) told bank bank end
+    machine_stops bank end stops = phase_stops (command_with its p m k) told Machine
+        (λ c f. Holds IsFirstMachineFault (c k) f) bank bank one
+        (λ c is. record {
+          before = Program ∷ Types ∷ [];
+          after = Mapping ∷ Resolve ∷ Race
+              ∷ begun.rest;
+          split = begun.split;
+          passed = two c (one c is);
+        })
+        (λ c is f holds. holds) refl (λ closed. refl) end stops
+
+  module _ (tree : Tree) (hierarchy : Hierarchy) (machine : HoldsMachine told p k tree hierarchy) where
+    machine_passed : (c : Content) → told ≡ Some c → Passed (command_with its p m k) c Machine
+    machine_passed c is = record {
+      there = is_there c k (machine.held c is).one.holds.0 (machine.held c is).one.holds.1;
+      no_fault = (machine.held c is).no_fault;
+    }
+
+    three : (c : Content) → told ≡ Some c → AllPassed (command_with its p m k) c (Program ∷ Types ∷ Machine ∷ [])
+    three c is = let before = two tree machine.program c is in (before.0, (before.1.0, (machine_passed c is, tt)))
+
+    pub mapping_stops : (bank : BankSeen) (end : End) → ReadsMapping tree hierarchy.levels told m (Err end)
+        → Stopped (command_with its p m k) told bank bank end
+    mapping_stops bank end stops = phase_stops (command_with its p m k) told Mapping
+        (λ c f. Holds (IsFirstMappingFault tree hierarchy.levels) (c m) f) bank bank one
+        (λ c is. record {
+          before = Program ∷ Types ∷ Machine ∷ [];
+          after = Resolve ∷ Race
+              ∷ begun.rest;
+          split = begun.split;
+          passed = three c (one c is);
+        })
+        (λ c is f holds.
+        record {
+          tree = tree;
+          hierarchy = hierarchy;
+          program_is = (machine.program.held c is).one.holds;
+          machine_is =
+              (machine.held c is).one.holds;
+          first = holds;
+        }) refl (λ closed. refl) end stops
+
+  module _ (tree : Tree) (hierarchy : Hierarchy) (mapped : Mapped)
+      (held : HoldsSources told p m k tree hierarchy mapped) where
+    abbrev pub sources : (c : Content) → told ≡ Some c → Sources (inputs_of c (command_with its p m k))
+    sources c is = record {
+      tree = tree;
+      hierarchy = hierarchy;
+      mapped = mapped;
+      program_is = (held.machine.program.held c is).one.holds;
+      machine_is = (held.machine.held c is).one.holds;
+      mapping_is = (held.held c is).one.holds;
+    }
+
+    -- what is said of a mapping for an equal program and machine
+    at_same : {A : Type 0} (P : Tree → Hierarchy → List ℕ → A → Type 0) (c : Content) (is : told ≡ Some c) (t : Tree)
+        (h : Hierarchy) (value : A) → Holds IsProgramText (c p) t → Holds IsMachineText (c k) h
+        → Holds (P t h) (c m) value → Holds (P tree hierarchy) (c m) value
+    at_same P c is t h value program_is machine_is holds = (
+      holds.0,
+      holds.1,
+      subst (λ (x : Tree). P x hierarchy holds.0 value) ((held.machine.program.held c is).one.only t program_is)
+          (subst (λ (y : Hierarchy). P t y holds.0 value) ((held.machine.held c is).one.only h machine_is) holds.2),
+    )
+
+    pub only : (c : Content) → told ≡ Some c → (that : Sources (inputs_of c (command_with its p m k)))
+        → AreOnly tree hierarchy mapped that
+    only c is that = record {
+      tree_is = (held.machine.program.held c is).one.only that.tree that.program_is;
+      machine_is = (held.machine.held c is).one.only that.hierarchy that.machine_is;
+      mapping_is = (held.held c is).one.only that.mapped
+          (at_same (λ t h. IsMappingText t h.levels) c is that.tree that.hierarchy that.mapped that.program_is
+          that.machine_is that.mapping_is);
+    }
+
+    mapping_passed : (c : Content) → told ≡ Some c → Passed (command_with its p m k) c Mapping
+    mapping_passed c is = record {
+      there = is_there c m (held.held c is).one.holds.0 (held.held c is).one.holds.1;
+      no_fault = λ f first.
+          (held.held c is).no_fault f
+          (at_same (λ t h. IsFirstMappingFault t h.levels) c is first.tree first.hierarchy f first.program_is
+          first.machine_is first.first);
+    }
+
+    four : (c : Content) → told ≡ Some c → AllPassed (command_with its p m k) c
+        (Program ∷ Types ∷ Machine ∷ Mapping ∷ [])
+    four c is = let before = three tree hierarchy held.machine c is
+        in (before.0, (before.1.0, (before.1.1.0, (mapping_passed c is, tt))))
+
+    pub resolve_stops : (bank : BankSeen) (f : Fault) → IsFirstMet tree mapped f
+        → Stopped (command_with its p m k) told bank bank (Refused f)
+    resolve_stops bank f first = phase_stops (command_with its p m k) told Resolve (λ c f. IsFirstMet tree mapped f)
+        bank bank one
+        (λ c is. record {
+          before = Program ∷ Types ∷ Machine ∷ Mapping ∷ [];
+          after = Race
+              ∷ begun.rest;
+          split = begun.split;
+          passed = four c (one c is);
+        })
+        (λ c is g met. record { sources = sources c is; first = met }) refl (λ closed. refl) (Refused f) (λ c is. first)
+
+    -- the walk's answer for an equal program and mapping
+    pub walk_same : (c : Content) (is : told ≡ Some c) (that : Sources (inputs_of c (command_with its p m k)))
+        → resolution that.tree.tasks that.mapped ≡ resolution tree.tasks mapped
+    walk_same c is that =
+        ap (λ (t : Tree). resolution t.tasks that.mapped) (only c is that).tree_is
+        ∙ ap (λ (x : Mapped). resolution tree.tasks x) (only c is that).mapping_is
+
+    module _ (r : Resolved) (are : IsResolved tree hierarchy mapped r) where
+      resolve_passed : (c : Content) → told ≡ Some c → Passed (command_with its p m k) c Resolve
+      resolve_passed c is = record {
+        there = no_file_there c;
+        no_fault = λ f met. ok_or_err are.forms.left f
+            (sym are.forms.through ∙ (sym (walk_same c is met.sources) ∙ met.first));
+      }
+
+      five : (c : Content) → told ≡ Some c → AllPassed (command_with its p m k) c
+          (Program ∷ Types ∷ Machine ∷ Mapping ∷ Resolve ∷ [])
+      five c is = let before = four c is
+          in (before.0, (before.1.0, (before.1.1.0, (before.1.1.1.0, (resolve_passed c is, tt)))))
+
+      pub race_stops : (bank : BankSeen) (f : Fault) → IsFirstRaceFault r f
+          → Stopped (command_with its p m k) told bank bank (Refused f)
+      race_stops bank f first = phase_stops (command_with its p m k) told Race (λ c f. IsFirstRaceFault r f) bank bank
+          one
+          (λ c is. record {
+            before = Program ∷ Types ∷ Machine ∷ Mapping ∷ Resolve
+                ∷ [];
+            after = begun.rest;
+            split = begun.split;
+            passed = five c (one c is);
+          })
+          (λ c is g first. record { sources = sources c is; forms = r; are = are; first = first }) refl
+          (λ closed. refl) (Refused f) (λ c is. first)
+
+      module _ (none : IsFirstRace r None) where
+        -- forms that are found again are these, so they have no race either
+        no_race : (c : Content) → told ≡ Some c → (that : Sources (inputs_of c (command_with its p m k)))
+            (s : Resolved) → IsResolved that.tree that.hierarchy that.mapped s → (n : ℕ) (round : List ℕ) (x : Found)
+            → HoldsAt s n round x → ⊥
+        no_race c is that s found n round x race =
+            let left : found.forms.left ≡ are.forms.left = ok_same found.forms.left are.forms.left
+            (sym found.forms.through ∙ (walk_same c is that ∙ are.forms.through)) in
+            let equal = only c is that in
+            none n round x (same_race s r n round x
+            (sym found.forms.are ∙ (ap (λ (l : Resolving). l.forms) left ∙ are.forms.are))
+            (sym found.forms.used ∙ (ap (λ (l : Resolving). l.uses) left ∙ are.forms.used))
+            (found.tree_is ∙ (equal.tree_is ∙ sym are.tree_is))
+            (found.mapping_is ∙ (equal.mapping_is ∙ sym are.mapping_is)) race)
+
+        race_passed : (c : Content) → told ≡ Some c → Passed (command_with its p m k) c Race
+        race_passed c is = record {
+          there = no_file_there c;
+          no_fault = λ f first. no_race c is first.sources first.forms first.are first.first.first.form
+              first.first.first.round first.first.first.found first.first.first.holds;
+        }
+
+        pub six : (c : Content) → told ≡ Some c → AllPassed (command_with its p m k) c
+            (Program ∷ Types ∷ Machine ∷ Mapping ∷ Resolve ∷ Race ∷ [])
+        six c is = let before = five c is
+            in (before.0, (before.1.0, (before.1.1.0, (before.1.1.1.0, (before.1.1.1.1.0, (race_passed c is, tt))))))
+
+-- ---- whatever a command over these files is to do with them
+
+module _ (p m k : List ℕ) (told : Option Content) where
+  -- a fault that stops it, or want of memory
+  stop_with : (Fails : Fault → Type 0) → ((f : Fault) → Fails f → StopsSources told p m k (Refused f)) → (end : End)
+      → EndsWith Fails end → StopsSources told p m k end
+  stop_with Fails stopped Usage ends = absurd ends
+  stop_with Fails stopped (Absent name) ends = absurd ends
+  stop_with Fails stopped (FileFault name) ends = absurd ends
+  stop_with Fails stopped (Refused f) ends = stopped f ends
+  stop_with Fails stopped (Trapped trap) ends = absurd ends
+  stop_with Fails stopped NoMemory ends = λ its begun bank. memory_stops (command_with its p m k) told bank bank refl
+  stop_with Fails stopped SinkFault ends = absurd ends
+
+  pub stops_at_program : (end : End) → ReadsTree told p (Err end) → StopsSources told p m k end
+  stops_at_program end reads its begun bank =
+      program_stops (command_with its p m k) p (begins its begun p m k told) told bank end reads
+
+  pub stops_at_types : (tree : Tree) → ReadsTree told p (Ok tree) → (end : End) → EndsWith (IsFirstTypeFault tree) end
+      → StopsSources told p m k end
+  stops_at_types tree reads end ends = stop_with (IsFirstTypeFault tree)
+      (λ f first its begun bank. types_stops (command_with its p m k) p (begins its begun p m k told) told tree reads
+      (Machine ∷ Mapping ∷ Resolve ∷ Race ∷ begun.rest) refl bank (Refused f) (λ c at. first)) end ends
+
+  pub stops_at_machine : (tree : Tree) → HoldsProgram told p tree → (end : End) → ReadsMachine told k (Err end)
+      → StopsSources told p m k end
+  stops_at_machine tree program end reads its begun bank = machine_stops its begun p m k told tree program bank end
+      reads
+
+  pub stops_at_mapping : (tree : Tree) (hierarchy : Hierarchy) → HoldsMachine told p k tree hierarchy → (end : End)
+      → ReadsMapping tree hierarchy.levels told m (Err end) → StopsSources told p m k end
+  stops_at_mapping tree hierarchy machine end reads its begun bank =
+      mapping_stops its begun p m k told tree hierarchy machine bank end reads
+
+  module _ (tree : Tree) (hierarchy : Hierarchy) (mapped : Mapped)
+      (held : HoldsSources told p m k tree hierarchy mapped) where
+    pub stops_at_resolve : (end : End) → EndsWith (IsFirstMet tree mapped) end → StopsSources told p m k end
+    stops_at_resolve end ends = stop_with (IsFirstMet tree mapped)
+        (λ f first its begun bank. resolve_stops its begun p m k told tree hierarchy mapped held bank f first) end ends
+
+    pub stops_at_race : (r : Resolved) → IsResolved tree hierarchy mapped r → (end : End)
+        → EndsWith (IsFirstRaceFault r) end
+        → StopsSources told p m k end
+    stops_at_race r are end ends = stop_with (IsFirstRaceFault r)
+        (λ f first its begun bank. race_stops its begun p m k told tree hierarchy mapped held r are bank f first) end
+        ends
+
+-- the same of another spelling of what is told
+pub stops_same : (p m k : List ℕ) (told that : Option Content) (end : End) → that ≡ told → StopsSources that p m k end
+    → StopsSources told p m k end
+stops_same p m k told that end same stops = subst (λ (t : Option Content). StopsSources t p m k end) same stops

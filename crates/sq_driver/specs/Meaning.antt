@@ -1,0 +1,93 @@
+-- What each command answers, by what its files hold.
+use Rattle.std.specs.Prelude.{◌≡◌, ℕ, List, [], ◌∷◌, ◌++◌, Option, Some, None, codes}
+use Rattle.sq_port.specs.Ports.{Content}
+use Rattle.sq_text.specs.declared.code.Phase.{Phase}
+use Rattle.sq_text.specs.declared.fault.Fault.{Fault}
+use Rattle.sq_ast.specs.declared.program.Program.{Program as Tree}
+use Rattle.sq_ast.specs.Canonical.{canonical}
+use Rattle.sq_words.specs.declared.words.Kind.{Kind}
+use Rattle.sq_words.specs.declared.words.Kind.TheVariants.{Check, Fmt, Eval, Run}
+use Rattle.sq_words.specs.Words.{program, Command}
+use Rattle.sq_driver.specs.Phases.{phases, file_of, Inputs, inputs_of, IsTold}
+use Rattle.sq_driver.specs.Holding.{Holds}
+use Rattle.sq_driver.specs.Programs.{IsProgramText}
+use Rattle.sq_driver.specs.Entry.{GivesFlat, TrapsFlat}
+use Rattle.sq_driver.specs.Faults.{IsFirstOf}
+use Rattle.sq_driver.specs.declared.trap.Trap.{Trap}
+
+-- a phase's file is there, and the phase has no fault
+pub record Passed (command : Command) (c : Content) (phase : Phase) : Type 0 where
+  pub there : (name : List ℕ) → file_of command phase ≡ Some name → (text : List ℕ) × (c name ≡ Some text)
+  pub no_fault : (its : Fault) → IsFirstOf phase (inputs_of c command) its → ⊥
+
+abbrev pub AllPassed : Command → Content → List Phase → Type 0
+AllPassed command c [] = Unit {0}
+AllPassed command c (phase ∷ rest) = Passed command c phase × AllPassed command c rest
+
+-- every phase before this one is passed
+pub record Reached (command : Command) (c : Content) (phase : Phase) : Type 0 where
+  pub before : List Phase
+  pub after : List Phase
+  pub split : phases command.kind ≡ before ++ phase ∷ after
+  pub passed : AllPassed command c before
+
+-- the canonical text of the program
+pub record GivesCanonical (inputs : Inputs) (out : List ℕ) : Type 0 where
+  pub tree : Tree
+  pub program_is : Holds IsProgramText (inputs program) tree
+  pub text : out ≡ canonical tree
+
+-- the text for `out` of a command that is accepted and doesn't trap
+abbrev pub Gives : Kind → Inputs → List ℕ → Type 0
+Gives Check inputs out = out ≡ codes "ok\n"
+Gives Fmt inputs out = GivesCanonical inputs out
+Gives Eval inputs out = GivesFlat inputs out
+Gives Run inputs out = GivesFlat inputs out
+
+-- the first trap of a command that is accepted
+abbrev pub Traps : Kind → Inputs → Trap → Type 0
+Traps Check inputs trap = ⊥
+Traps Fmt inputs trap = ⊥
+Traps Eval inputs trap = TrapsFlat inputs trap
+Traps Run inputs trap = TrapsFlat inputs trap
+
+-- nothing traps
+abbrev pub IsTrapless : Kind → Inputs → Type 0
+IsTrapless kind inputs = (trap : Trap) → Traps kind inputs trap → ⊥
+
+-- an answer, with what it writes beside the line that names it
+pub data Answer : Type 0 where
+  done : (out trace : List ℕ) → Answer
+  refused : (phase : Phase) (its : Fault) → Answer
+  trapped : (trap : Trap) (trace : List ℕ) → Answer
+  usage : Answer
+  file_fault : (phase : Phase) (name : List ℕ) → Answer
+  no_memory : Answer
+  absent : (phase : Phase) (name : List ℕ) → Answer
+
+-- the cause of an answer, where the files hold this
+abbrev pub IsCause : Command → Content → Answer → Type 0
+IsCause command c (done out trace) = AllPassed command c (phases command.kind)
+    × Gives command.kind (inputs_of c command) out × IsTrapless command.kind (inputs_of c command)
+IsCause command c (refused phase its) = Reached command c phase × IsFirstOf phase (inputs_of c command) its
+IsCause command c (trapped trap trace) = AllPassed command c (phases command.kind)
+    × Traps command.kind (inputs_of c command) trap
+IsCause command c usage = ⊥
+IsCause command c (file_fault phase name) = (file_of command phase ≡ Some name) × Reached command c phase
+IsCause command c no_memory = Unit {0}
+IsCause command c (absent phase name) = (file_of command phase ≡ Some name) × Reached command c phase × (c name ≡ None)
+
+-- a file that an answer names is one of the words
+abbrev pub IsNamed : Command → Answer → Type 0
+IsNamed command usage = ⊥
+IsNamed command (file_fault phase name) = file_of command phase ≡ Some name
+IsNamed command (absent phase name) = file_of command phase ≡ Some name
+IsNamed command (done out trace) = Unit {0}
+IsNamed command (refused phase its) = Unit {0}
+IsNamed command (trapped trap trace) = Unit {0}
+IsNamed command no_memory = Unit {0}
+
+-- the cause of a command's answer
+pub record Means (command : Command) (told : Option Content) (answer : Answer) : Type 0 where
+  pub names : IsNamed command answer
+  pub cause : (c : Content) → IsTold command told c → IsCause command c answer

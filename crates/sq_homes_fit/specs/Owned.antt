@@ -1,0 +1,30 @@
+-- The arrays of a draft have buffers of their own.
+use Rattle.std.specs.Prelude.{ℕ, List, length}
+use Rattle.sq_ir.specs.Written.{Setting}
+use Rattle.sq_ir.specs.declared.plan.PlanNode.{PlanNode}
+use Rattle.sq_spec.specs.declared.resolved.Resolved.{Resolved}
+use Rattle.sq_placed.specs.Placed.{Placed}
+use Rattle.sq_placed.specs.Tables.{entry_placed}
+use Rattle.sq_term.specs.Terms.{body_in, homes_in}
+use Rattle.sq_plan_room.specs.Buffers.{Owns}
+use Rattle.sq_plan_room.specs.Rooms.{EntryOwns}
+use Rattle.sq_forms_fit.specs.Entry.{entry_shapes}
+use Rattle.sq_homes.specs.declared.choice.Choice.{Choice}
+use Rattle.sq_homes.specs.Drafts.{bodies_of, homes_of, args_of, entry_of}
+use Rattle.sq_homes_laws.specs.Simple.{Walked, AreSimple, setting_of}
+
+-- what is placed for a draft: its entry, called with whole arrays
+abbrev pub draft_placed : Resolved → List Choice → Placed
+draft_placed r choices =
+    entry_placed (body_in (bodies_of r)) (homes_in (homes_of r choices)) (length (bodies_of r)) (args_of r)
+
+pub record OwnsItsBuffers (r : Resolved) (choices : List Choice) (s : Setting) : Type 0 where
+  pub owns : Owns s (draft_placed r choices)
+  pub entry : EntryOwns s (entry_shapes (body_in (bodies_of r)) (args_of r)) (entry_of r choices)
+      (draft_placed r choices)
+
+-- Where nothing leaves a loop and no loop overlaps its transfers, each array of a draft has a buffer of its own that it
+-- fits into, or stands in its caller's array, and the entry's arrays have theirs.
+abbrev pub DraftsOwn : Type 0
+DraftsOwn = (r : Resolved) → Walked r → (choices : List Choice) → AreSimple r choices
+    → (nodes : List PlanNode) (offset : ℕ → ℕ) → OwnsItsBuffers r choices (setting_of r choices nodes offset)

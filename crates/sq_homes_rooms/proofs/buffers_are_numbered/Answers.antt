@@ -1,5 +1,0 @@
-use Rattle.sq_homes_rooms.proofs.Numbered.{buffers_are_numbered}
-use Rattle.sq_homes_rooms.proofs.buffers_are_numbered.Goals as goal
-
-pub returns : goal.returns
-returns c = buffers_are_numbered

@@ -1,4 +1,0 @@
-pub mod Numbers
-pub mod Owned
-pub mod Lanes
-pub mod Placeable

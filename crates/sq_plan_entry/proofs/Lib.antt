@@ -1,4 +1,0 @@
-pub mod Follows
-pub mod LeafCalls
-pub mod Plans
-pub mod Written

@@ -1,0 +1,5 @@
+//! The worked cases of the commands, over files and sinks in memory.
+#![tactic(auto)]
+
+#[cfg(test)]
+mod commands;
