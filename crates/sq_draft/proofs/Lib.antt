@@ -1,6 +1,2 @@
-pub mod Lists
-pub mod InStatements
-pub mod Chains
-pub mod Firsts
 pub mod MadeMoves
 pub mod Made

@@ -23,12 +23,12 @@ use Rattle.sq_placed.specs.Tables.{op_of, spread_of, Chain, chain_of, leaving_ar
 use Rattle.sq_term.specs.Terms.{arm_term, entry_context, entry_row, entry_term, body_in, homes_in, no_homes, body_term}
 use Rattle.sq_term.specs.Terms.{term_of, TermPart, any_lower, any_same, all_terms, in_map, map_term, count_num}
 use Rattle.sq_term.specs.Terms.{rows_term, statement_term, chains, first_num, loop_term, hold_term, map_hold}
-use Rattle.sq_draft.specs.Building.{callee_in, any_of, lower_in, same_in, chain_in, holding_args, holding_row}
-use Rattle.sq_draft.specs.Building.{holding_of, hold_by}
+use Rattle.sq_tables.specs.Loops.{any_of, lower_in, same_in, chain_in}
+use Rattle.sq_draft.specs.Building.{callee_in, holding_args, holding_row, holding_of, hold_by}
 use Rattle.sq_spec.specs.Bodies.{no_body}
-use Rattle.sq_draft.proofs.Lists.{an_item}
+use Rattle.sq_tables.proofs.Lists.{an_item}
 use Rattle.sq_term.proofs.Opened.{built_call, built_map}
-use Rattle.sq_draft.proofs.InStatements.{lower_call, lower_map, same_call, same_map, chain_call, chain_map}
+use Rattle.sq_tables.proofs.InStatements.{lower_call, lower_map, same_call, same_map, chain_call, chain_map}
 
 module _ (bodies : ℕ → FormBody) (homes : ℕ → Homes) (callee : ℕ → Context → Term) (rule : SpreadRule) where
   abbrev built : Statement → TermPart

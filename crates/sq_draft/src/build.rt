@@ -1,29 +1,28 @@
 //! The term of a form, from the tables of forms and the homes of their arrays.
 
-ghost use Rattle.std.specs.Prelude.{◌≡◌, ◌++◌, ◌+◌, [], ◌∷◌, map, IfOk, OnOk, true, Some};
+ghost use Rattle.std.specs.Prelude.{◌≡◌, ◌+◌, [], ◌∷◌, map, IfOk, true, Some};
 ghost use Rattle.sq_ir.specs.declared.term.Term.TheVariants as term;
 ghost use Rattle.sq_placed.specs.Tables as tables;
 ghost use Rattle.sq_term.specs.Terms as terms;
+ghost use Rattle.sq_tables.specs.Cases as cases;
+ghost use Rattle.sq_tables.specs.Loops as loops;
 ghost use Rattle.sq_draft.specs.Building as building;
 
-use crate::cases::{Arm, arms_of, picks};
+use crate::args::moves;
 use crate::forms::{
-    CallTable, CalleeArrays, Forms, Holding, LocalArrays, MapTable, Round, local_shapes, round_in,
-    round_of_held,
+    CalleeArrays, Forms, Holding, MapTable, Round, local_shapes, round_in, round_of_held,
 };
-use crate::held::{at_child_already, holding};
-use crate::inside::{
-    any_lower, any_same, call_buffers, call_child, count_num, in_callee, in_map, moves, pick_at,
-    spread_of, tables_of,
-};
+use crate::held::holding;
 use crate::parts::{
-    leaf_term, local_buffers, map_term, push_fills, push_hold_ins, push_hold_outs, push_ins,
-    push_outs, scope,
+    call_scope, case_term, child_scope, leaf_term, locals_scope, map_term, push_fills,
+    push_hold_ins, push_hold_outs, push_ins, push_outs,
 };
+use sq_contexts::{LocalArrays, at_child_already, count_num, in_callee, in_map};
 use sq_ir::{Num, Term, Terms};
 use sq_num::RedOp;
 use sq_placed::{Home, Homes};
 use sq_spec::{Body, CallInstance, Statement};
+use sq_tables::{Arm, CallTable, any_lower, any_same, arms_of, spread_of, tables_of};
 use sq_term::{Context, Move};
 use sqlite_items::{Items, at};
 use std::alloc::{AllocError, Global};
@@ -114,7 +113,7 @@ fn map_of(
     c: &Context,
 ) -> Result<Term, AllocError>
     ensures { IfOk result (λ t. t ≡ building.hold_by
-        (building.holding_of forms.now.bodies.now forms.now.homes.now (building.chain_in x.now) c.now)
+        (building.holding_of forms.now.bodies.now forms.now.homes.now (loops.chain_in x.now) c.now)
         round.inside c.now (building.loop_in forms.now.bodies.now forms.now.homes.now forms.now.depth round.rule
         table.now.kind table.now.counts.now table.now.starts.now table.now.body.now)) }
 {
@@ -138,9 +137,8 @@ fn hold(
         (building.loop_in forms.now.bodies.now forms.now.homes.now forms.now.depth round.rule
         table.now.kind table.now.counts.now table.now.starts.now table.now.body.now)) }
 {
-    let child = call_child(alloc, true, c)?;
     let parts = hold_parts(alloc, left, forms, round, held.moves.as_slice(), table, c)?;
-    let made = scope(alloc, child, held.buffers, parts)?;
+    let made = child_scope(alloc, true, c, held.buffers, parts)?;
     Ok(made)
 }
 
@@ -160,39 +158,31 @@ fn hold_parts(
         table.now.kind table.now.counts.now table.now.starts.now table.now.body.now true (terms.at_child_already c.now)
         ∷ term.Par (map terms.hold_out_term ms.now) ∷ []) }
 {
-    let inner = at_child_already(alloc, c)?;
     let mut parts = Items::new(alloc);
     push_hold_ins(alloc, &mut parts, ms)?;
-    push_loop(
-        alloc,
-        left,
-        forms,
-        round_of_held(round),
-        table,
-        &inner,
-        &mut parts,
-    )?;
+    let made = held_loop(alloc, left, forms, round, table, c)?;
+    parts.push(made)?;
     push_hold_outs(alloc, &mut parts, ms)?;
     Ok(parts)
 }
 
+// The loop, at the child already.
 #[cycle(build)]
-fn push_loop(
+fn held_loop(
     alloc: Global,
     left: u32,
     forms: &Forms<'_>,
     round: Round,
     table: &MapTable<'_>,
     c: &Context,
-    out: &mut Terms,
-) -> Result<(), AllocError>
-    ensures { OnOk result (out.new ≡ out.old
-        ++ building.loop_in forms.now.bodies.now forms.now.homes.now forms.now.depth round.rule
-        table.now.kind table.now.counts.now table.now.starts.now table.now.body.now round.inside c.now ∷ []) }
+) -> Result<Term, AllocError>
+    ensures { IfOk result (λ t. t ≡ building.loop_in forms.now.bodies.now forms.now.homes.now forms.now.depth
+        round.rule table.now.kind table.now.counts.now table.now.starts.now table.now.body.now true
+        (terms.at_child_already c.now)) }
 {
-    let made = loop_term(alloc, left, forms, round, table, c)?;
-    out.push(made)?;
-    Ok(())
+    let inner = at_child_already(alloc, c)?;
+    let made = loop_term(alloc, left, forms, round_of_held(round), table, &inner)?;
+    Ok(made)
 }
 
 // A map in the context in which it stands.
@@ -252,9 +242,6 @@ fn rows_term(
         (terms.homes_in forms.now.homes.now)
         (building.callee_in forms.now.bodies.now forms.now.homes.now forms.now.depth) op lower c.now instances.now) }
 {
-    let arms = arms_of(alloc, instances)?;
-    let numbers = picks(alloc, &arms, instances)?;
-    let pick = pick_at(alloc, numbers, c)?;
     let offsets = tables_of(alloc, c.views.as_slice(), instances)?;
     let call = CallTable {
         op,
@@ -262,8 +249,28 @@ fn rows_term(
         instances,
         offsets: offsets.as_slice(),
     };
-    let arms = arm_terms(alloc, left, forms, &call, arms.list.as_slice(), c)?;
-    Ok(Term::Case { pick, arms })
+    let made = case_of(alloc, left, forms, &call, c)?;
+    Ok(made)
+}
+
+#[cycle(build)]
+fn case_of(
+    alloc: Global,
+    left: u32,
+    forms: &Forms<'_>,
+    call: &CallTable<'_>,
+    c: &Context,
+) -> Result<Term, AllocError>
+    requires { cases.AreTables c.now.views call.now.instances.now call.now.offsets.now }
+    ensures { IfOk result (λ t. t ≡ terms.rows_term (terms.body_in forms.now.bodies.now)
+        (terms.homes_in forms.now.homes.now)
+        (building.callee_in forms.now.bodies.now forms.now.homes.now forms.now.depth)
+        call.now.op call.now.lower c.now call.now.instances.now) }
+{
+    let arms = arms_of(alloc, call.instances)?;
+    let parts = arm_terms(alloc, left, forms, call, arms.list.as_slice(), c)?;
+    let made = case_term(alloc, &arms, call.instances, parts, c)?;
+    Ok(made)
 }
 
 #[cycle(build)]
@@ -275,7 +282,7 @@ fn arm_terms(
     arms: &[Arm<'_>],
     c: &Context,
 ) -> Result<Terms, AllocError>
-    requires { building.AreTables c.now.views call.now.instances.now call.now.offsets.now }
+    requires { cases.AreTables c.now.views call.now.instances.now call.now.offsets.now }
     ensures { IfOk result (λ ts. ts ≡ term.Skip ∷ map (terms.arm_of_form (terms.body_in forms.now.bodies.now)
         (terms.homes_in forms.now.homes.now)
         (building.callee_in forms.now.bodies.now forms.now.homes.now forms.now.depth)
@@ -299,7 +306,7 @@ fn arm_term(
     row: &CallInstance,
     c: &Context,
 ) -> Result<Term, AllocError>
-    requires { building.AreTables c.now.views call.now.instances.now call.now.offsets.now }
+    requires { cases.AreTables c.now.views call.now.instances.now call.now.offsets.now }
     ensures { IfOk result (λ t. t ≡ terms.arm_of_form (terms.body_in forms.now.bodies.now)
         (terms.homes_in forms.now.homes.now)
         (building.callee_in forms.now.bodies.now forms.now.homes.now forms.now.depth)
@@ -323,7 +330,7 @@ pub fn call_term(
     row: &CallInstance,
     c: &Context,
 ) -> Result<Term, AllocError>
-    requires { building.AreTables c.now.views call.now.instances.now call.now.offsets.now }
+    requires { cases.AreTables c.now.views call.now.instances.now call.now.offsets.now }
     ensures { IfOk result (λ t. t ≡ terms.arm_term (terms.body_in forms.now.bodies.now)
         (terms.homes_in forms.now.homes.now)
         (building.callee_in forms.now.bodies.now forms.now.homes.now forms.now.depth)
@@ -344,11 +351,9 @@ pub fn call_term(
         buffers: own.locals.as_slice(),
     };
     let args = row.args.as_slice();
-    let buffers = call_buffers(alloc, params, args)?;
-    let child = call_child(alloc, call.lower, c)?;
     let ms = moves(alloc, call, &callee, c, args)?;
     let parts = call_parts(alloc, left, forms, row.form, ms.as_slice(), &locals, c)?;
-    let made = scope(alloc, child, buffers, parts)?;
+    let made = call_scope(alloc, call.lower, params, args, parts, c)?;
     Ok(made)
 }
 
@@ -368,31 +373,33 @@ fn call_parts(
         (building.callee_in forms.now.bodies.now forms.now.homes.now forms.now.depth form
         (terms.in_callee c.now ms.now (tables.placed_locals locals.now.shapes.now locals.now.buffers.now)))) }
 {
-    let inner = in_callee(alloc, c, ms, locals)?;
     let mut parts = Items::new(alloc);
     push_ins(alloc, &mut parts, ms)?;
-    push_callee(alloc, left, forms, form, locals, &inner, &mut parts)?;
+    let made = called(alloc, left, forms, form, ms, locals, c)?;
+    parts.push(made)?;
     push_outs(alloc, &mut parts, ms)?;
     Ok(parts)
 }
 
+// The callee, in its own context.
 #[cycle(build)]
-fn push_callee(
+fn called(
     alloc: Global,
     left: u32,
     forms: &Forms<'_>,
     form: usize,
+    ms: &[Move],
     locals: &LocalArrays<'_>,
-    inner: &Context,
-    out: &mut Terms,
-) -> Result<(), AllocError>
-    ensures { OnOk result (out.new ≡ out.old ++ terms.callee_term
+    c: &Context,
+) -> Result<Term, AllocError>
+    ensures { IfOk result (λ t. t ≡ terms.callee_term
         (tables.placed_locals locals.now.shapes.now locals.now.buffers.now)
-        (building.callee_in forms.now.bodies.now forms.now.homes.now forms.now.depth form inner.now) ∷ []) }
+        (building.callee_in forms.now.bodies.now forms.now.homes.now forms.now.depth form
+        (terms.in_callee c.now ms.now (tables.placed_locals locals.now.shapes.now locals.now.buffers.now)))) }
 {
-    let term = callee(alloc, left, forms, form, locals, inner)?;
-    out.push(term)?;
-    Ok(())
+    let inner = in_callee(alloc, c, ms, locals)?;
+    let made = callee(alloc, left, forms, form, locals, &inner)?;
+    Ok(made)
 }
 
 #[cycle(build)]
@@ -408,12 +415,12 @@ fn callee(
         (tables.placed_locals locals.now.shapes.now locals.now.buffers.now)
         (building.callee_in forms.now.bodies.now forms.now.homes.now forms.now.depth form inner.now)) }
 {
-    let buffers = local_buffers(alloc, locals)?;
     let mut parts = Items::new(alloc);
     push_fills(alloc, &mut parts, locals)?;
     let body = form_term(alloc, left, forms, form, inner)?;
     parts.push(body)?;
-    scope(alloc, None, buffers, parts)
+    let made = locals_scope(alloc, locals, parts)?;
+    Ok(made)
 }
 
 // The term of a form.

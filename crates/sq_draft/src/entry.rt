@@ -1,64 +1,23 @@
 //! The term of a whole draft.
 
-ghost use Rattle.std.specs.Prelude.{◌≡◌, ◌++◌, [], ◌∷◌, length, IfOk, OnOk, Some, None, false};
+ghost use Rattle.std.specs.Prelude.{◌≡◌, [], ◌∷◌, length, IfOk, None, false};
 ghost use Rattle.sq_term.specs.Terms as terms;
 ghost use Rattle.sq_draft.specs.Building as building;
 
 use crate::build::call_term;
-use crate::forms::{CallTable, Forms};
-use crate::inside::tables_of;
-use crate::places::buffer_view;
+use crate::forms::Forms;
 use sq_blocks::Argument;
-use sq_ir::{LeafViews, Num, Term};
-use sq_leaf::Shape;
-use sq_placed::{Home, Homes};
+use sq_contexts::entry_context;
+use sq_ir::Term;
+use sq_placed::Homes;
 use sq_spec::{CallInstance, FormBody};
+use sq_tables::{CallTable, tables_of};
 use sq_term::Context;
 use sqlite_items::{Items, at};
 use std::alloc::{AllocError, Global};
 
 // More maps and calls than stand within one another in a program within the limits.
 const MOST_LEVELS: u32 = 400;
-
-fn buffer_or(home: Home) -> u32
-    ensures { result ≡ terms.buffer_or home }
-{
-    match home {
-        Home::InPlace => 0,
-        Home::Own(buffer) => buffer,
-        Home::Held { buffer, .. } => buffer,
-        Home::Twin { first, .. } => first,
-    }
-}
-
-fn push_views(out: &mut LeafViews, shapes: &[Shape], homes: &[Home]) -> Result<(), AllocError>
-    ensures { OnOk result (out.new ≡ out.old ++ terms.entry_views shapes.now homes.now) }
-{
-    match homes {
-        [] => Ok(()),
-        [home, others @ ..] => match shapes {
-            [] => Ok(()),
-            [shape, more @ ..] => {
-                out.push(buffer_view(buffer_or(*home), shape)?)?;
-                push_views(out, more, others)?;
-                Ok(())
-            }
-        },
-    }
-}
-
-fn entry_context(alloc: Global, body: &FormBody, own: &Homes) -> Result<Context, AllocError>
-    ensures { IfOk result (λ c. c ≡ terms.entry_context body.now own.now) }
-{
-    let mut views = Items::new(alloc);
-    push_views(&mut views, body.arrays.as_slice(), own.params.as_slice())?;
-    Ok(Context {
-        ordinal: Num::Const(0),
-        child: Some(Num::Const(0)),
-        path: Items::new(alloc),
-        views,
-    })
-}
 
 fn entry_rows(alloc: Global, args: Items<Argument>) -> Result<Items<CallInstance>, AllocError>
     ensures { IfOk result (λ rows. rows ≡ terms.entry_row args ∷ []) }

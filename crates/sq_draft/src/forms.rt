@@ -3,12 +3,12 @@
 ghost use Rattle.std.specs.Prelude.{◌≡◌, ◌||◌, is_some, drop, true};
 ghost use Rattle.sq_placed.specs.Tables as tables;
 
-use crate::inside::op_of;
-use sq_ir::{BufferIds, Numbers};
+use sq_ir::BufferIds;
 use sq_leaf::Shape;
 use sq_num::RedOp;
 use sq_placed::{Home, Homes};
-use sq_spec::{CallInstance, FormBody, LoopKind, Statement};
+use sq_spec::{FormBody, LoopKind, Statement};
+use sq_tables::op_of;
 use sq_term::Move;
 use sq_text::SpreadRule;
 use sqlite_items::Items;
@@ -31,27 +31,11 @@ pub struct MapTable<'a> {
     pub body: &'a [Statement],
 }
 
-/// A call with its rows: by which operator the map round it reduces, and where the blocks of its arguments begin.
-#[derive(Clone, Copy)]
-pub struct CallTable<'a> {
-    pub op: Option<RedOp>,
-    pub lower: bool,
-    pub instances: &'a [CallInstance],
-    pub offsets: &'a [Option<Numbers>],
-}
-
 /// The arrays of a callee, its parameters first, and where these stand.
 #[derive(Clone, Copy)]
 pub struct CalleeArrays<'a> {
     pub shapes: &'a [Shape],
     pub homes: &'a [Home],
-}
-
-/// The locals of a form.
-#[derive(Clone, Copy)]
-pub struct LocalArrays<'a> {
-    pub shapes: &'a [Shape],
-    pub buffers: &'a [u32],
 }
 
 /// The arguments that leave a loop, and the buffers that the loop brings into scope.

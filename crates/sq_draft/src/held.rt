@@ -1,211 +1,27 @@
 //! Loops that arguments leave.
 
-ghost use Rattle.std.specs.Prelude.{◌≡◌, ◌++◌, ◌+◌, ◌*◌, [], ◌∷◌, List, ℕ, IfOk, OnOk, map, get_or, slice_get};
-ghost use Rattle.std.specs.Prelude.{if◌then◌else◌, Some, None};
-ghost use Rattle.std.specs.Option.{option_copied};
-ghost use Rattle.sq_num.specs.Elements as elements;
-ghost use Rattle.sq_rect.specs.Placing.{offset};
-ghost use Rattle.sq_ir.specs.declared.num.Num.TheVariants as num;
-ghost use Rattle.sq_blocks.specs.declared.argument.Argument.{Argument as SpecArgument};
+ghost use Rattle.std.specs.Prelude.{◌≡◌, ◌++◌, List, ℕ, IfOk, OnOk, map, get_or, slice_get};
 ghost use Rattle.sq_placed.specs.declared.home.Home.TheVariants as home;
 ghost use Rattle.sq_term.specs.declared.context.Move.{Move as SpecMove};
-ghost use Rattle.sq_placed.specs.Seats.{cons_some, firsts};
+ghost use Rattle.sq_placed.specs.Seats.{cons_some};
 ghost use Rattle.sq_placed.specs.Tables as tables;
-ghost use Rattle.sq_term.specs.Terms as terms;
-ghost use Rattle.sq_draft.specs.Building as building;
 ghost use Rattle.sq_placed.specs.Trees as trees;
+ghost use Rattle.sq_term.specs.Terms as terms;
+ghost use Rattle.sq_tables.specs.Loops as loops;
+ghost use Rattle.sq_draft.specs.Building as building;
 
-use crate::cases::far;
+use crate::args::{move_from, shape_at};
 use crate::forms::{CalleeArrays, Forms, Holding};
-use crate::inside::{home_at, move_from, shape_at, start_table};
-use crate::moves::{copy_term, signed};
-use crate::places::{block_view, copy_nums, copy_views};
+use crate::moves::copy_term;
 use sq_ast::Mode;
-use sq_blocks::Argument;
-use sq_ir::{BufferIds, LeafView, Num, Numbers, Term, Terms};
-use sq_leaf::Shape;
-use sq_num::width;
+use sq_contexts::{block_view, start_table};
+use sq_ir::{BufferIds, LeafView, Num, Term, Terms};
 use sq_placed::Home;
 use sq_spec::{CallInstance, LoopKind, Statement};
+use sq_tables::{Left, held_offsets, home_at, leaving_args, loops_in, rows_in};
 use sq_term::{Context, Move};
 use sqlite_items::{Items, at};
 use std::alloc::{AllocError, Global};
-use std::marker::Model;
-
-/// An argument that leaves a loop, and its position.
-#[derive(Drop)]
-pub struct Left<'a> {
-    pub position: usize,
-    pub arg: &'a Argument,
-}
-
-impl<'a> Model for Left<'a> {
-    ghost use Rattle.std.specs.Prelude.{ℕ};
-    ghost use Rattle.std.specs.Coded.{codes};
-    ghost use Rattle.sq_blocks.specs.contracts.argument.Argument as contract;
-    ghost use Rattle.sq_blocks.specs.declared.argument.Argument.{Argument as Left_argument};
-
-    ghost Value = { ℕ × Left_argument };
-
-    ghost coded = { Prim.hlevel (codes, contract.the_row.coded) };
-
-    ghost view = { λ l. (l.position, l.arg.now) };
-}
-
-// The rows of the call that a statement is a loop of.
-#[cycle(rows)]
-#[tactic(auto, using(crate::proofs::InStatements::loops, crate::proofs::Chains::chains))]
-fn rows_in(x: &Statement) -> Option<&[CallInstance]>
-    ensures { option_copied result ≡ building.rows_of_chain (building.chain_in x.now) }
-{
-    match x {
-        Statement::Call { lower, instances } => {
-            if *lower {
-                Some(instances.as_slice())
-            } else {
-                None
-            }
-        }
-        Statement::Map { kind, body, .. } => rows_in_map(*kind, body.as_slice()),
-    }
-}
-
-#[cycle(rows)]
-fn rows_in_map(kind: LoopKind, list: &[Statement]) -> Option<&[CallInstance]>
-    ensures { option_copied result ≡ building.rows_of_list kind (map building.chain_in list.now) }
-{
-    match kind {
-        LoopKind::Sequential => match list {
-            [x] => rows_in(x),
-            _ => None,
-        },
-        LoopKind::Parallel | LoopKind::Reduction(_) => None,
-    }
-}
-
-fn one_more(loops: u32) -> Result<u32, AllocError>
-    ensures { IfOk result (λ n. n ≡ loops + 1) }
-{
-    match loops.checked_add(1) {
-        Some(n) => Ok(n),
-        None => Err(AllocError),
-    }
-}
-
-// How many loops stand round that call.
-#[cycle(loops)]
-#[tactic(auto, using(crate::proofs::InStatements::loops, crate::proofs::Chains::chains))]
-fn loops_in(x: &Statement) -> Result<u32, AllocError>
-    ensures { IfOk result (λ n. n ≡ building.loops_of_chain (building.chain_in x.now)) }
-{
-    match x {
-        Statement::Call { .. } => Ok(0),
-        Statement::Map { kind, body, .. } => {
-            let loops = loops_in_map(*kind, body.as_slice())?;
-            Ok(loops)
-        }
-    }
-}
-
-#[cycle(loops)]
-fn loops_in_map(kind: LoopKind, list: &[Statement]) -> Result<u32, AllocError>
-    ensures { IfOk result (λ n. n ≡ building.loops_of_list kind (map building.chain_in list.now)) }
-{
-    match kind {
-        LoopKind::Sequential => match list {
-            [x] => {
-                let inner = loops_in(x)?;
-                more_loops(rows_in(x), inner)
-            }
-            _ => Ok(0),
-        },
-        LoopKind::Parallel | LoopKind::Reduction(_) => Ok(0),
-    }
-}
-
-fn more_loops(rows: Option<&[CallInstance]>, inner: u32) -> Result<u32, AllocError>
-    ensures { IfOk result (λ n. n ≡ building.loops_by (option_copied rows.entry) inner) }
-{
-    match rows {
-        None => Ok(0),
-        Some(_) => one_more(inner),
-    }
-}
-
-fn leaves_loop(loops: u32, home: Home) -> bool
-    ensures { result ≡ tables.leaves_loop loops home }
-{
-    match home {
-        Home::InPlace | Home::Own(_) | Home::Twin { .. } => false,
-        Home::Held { loops: its, .. } => its == loops,
-    }
-}
-
-fn leaving_args<'a>(
-    alloc: Global,
-    loops: u32,
-    homes: &[Home],
-    args: &'a [Argument],
-) -> Result<Items<Left<'a>>, AllocError>
-    ensures { IfOk result (λ ps. ps ≡ tables.leaving_args loops homes.now 0 args.now) }
-{
-    let mut out = Items::new(alloc);
-    for (position, arg) in args.iter().enumerate() {
-        if leaves_loop(loops, home_at(homes, position)) {
-            out.push(Left { position, arg })?;
-        }
-    }
-    Ok(out)
-}
-
-// ---- what leaves a loop
-
-fn held_bytes(v: &LeafView, i: usize, row: &CallInstance) -> Result<u64, AllocError>
-    ensures { IfOk result (λ n. n ≡ terms.held_bytes v.now i row.now) }
-{
-    match at(row.args.as_slice(), i) {
-        None => no_bytes(v),
-        Some(a) => {
-            let elements = far(v.strides.as_slice(), a.rect.as_slice())?;
-            match (width(v.elem) as u64).checked_mul(elements) {
-                Some(n) => Ok(n),
-                None => Err(AllocError),
-            }
-        }
-    }
-}
-
-fn no_bytes(v: &LeafView) -> Result<u64, AllocError>
-    ensures { IfOk result (λ n. n ≡ elements.width v.now.elem * offset v.now.strides (firsts [])) }
-{
-    let elements = far(v.strides.as_slice(), &[])?;
-    match (width(v.elem) as u64).checked_mul(elements) {
-        Some(n) => Ok(n),
-        None => Err(AllocError),
-    }
-}
-
-fn held_offsets(
-    alloc: Global,
-    v: &LeafView,
-    rows: &[CallInstance],
-    i: usize,
-) -> Result<Option<Numbers>, AllocError>
-    ensures { IfOk result (λ o. o ≡ terms.unless_zero (map (terms.held_bytes v.now i) rows.now)) }
-{
-    let mut out = Vec::new(alloc);
-    let mut is_zero = true;
-    for row in rows {
-        let bytes = held_bytes(v, i, row)?;
-        is_zero = is_zero && bytes == 0;
-        out.push(signed(bytes)?)?;
-    }
-    if is_zero {
-        return Ok(None);
-    }
-    let numbers = Numbers::new(alloc, out)?;
-    Ok(Some(numbers))
-}
 
 // An argument that leaves a loop whose call has these rows; number: of the first iteration's row.
 fn held_move(
@@ -339,23 +155,6 @@ pub fn hold_outs(alloc: Global, ms: &[Move]) -> Result<Terms, AllocError>
     Ok(Items::from_vec(out))
 }
 
-/// The same context at the child that lower calls go to.
-pub fn at_child_already(alloc: Global, c: &Context) -> Result<Context, AllocError>
-    ensures { IfOk result (λ d. d ≡ terms.at_child_already c.now) }
-{
-    let ordinal = c.ordinal.copy(alloc)?;
-    let path = copy_nums(alloc, c.path.as_slice())?;
-    let views = copy_views(alloc, c.views.as_slice())?;
-    Ok(Context {
-        ordinal,
-        child: None,
-        path,
-        views,
-    })
-}
-
-// ---- the first iteration
-
 fn first_num(alloc: Global, starts: &[usize], ordinal: Num) -> Result<Num, AllocError>
     ensures { IfOk result (λ n. n ≡ terms.first_num starts.now ordinal) }
 {
@@ -365,9 +164,9 @@ fn first_num(alloc: Global, starts: &[usize], ordinal: Num) -> Result<Num, Alloc
 
 // The number of the row of a loop's first iteration.
 #[cycle(first)]
-#[tactic(auto, using(crate::proofs::InStatements::loops, crate::proofs::Chains::chains))]
+#[tactic(auto, using(sq_tables::proofs::InStatements::loops, sq_tables::proofs::Chains::chains))]
 fn first_in(alloc: Global, x: &Statement, ordinal: Num) -> Result<Num, AllocError>
-    ensures { IfOk result (λ n. n ≡ terms.chain_num (building.chain_in x.now) ordinal) }
+    ensures { IfOk result (λ n. n ≡ terms.chain_num (loops.chain_in x.now) ordinal) }
 {
     match x {
         Statement::Call { .. } => Ok(ordinal),
@@ -391,7 +190,7 @@ fn first_in_map(
     list: &[Statement],
     ordinal: Num,
 ) -> Result<Num, AllocError>
-    ensures { IfOk result (λ n. n ≡ building.first_of_list kind starts.now (map building.chain_in list.now) ordinal) }
+    ensures { IfOk result (λ n. n ≡ loops.first_of_list kind starts.now (map loops.chain_in list.now) ordinal) }
 {
     match kind {
         LoopKind::Sequential => match list {
@@ -409,8 +208,8 @@ fn first_of_one(
     x: &Statement,
     ordinal: Num,
 ) -> Result<Num, AllocError>
-    ensures { IfOk result (λ n. n ≡ building.first_by (building.rows_of_chain (building.chain_in x.now))
-        (building.chain_in x.now) starts.now ordinal) }
+    ensures { IfOk result (λ n. n ≡ loops.first_by (loops.rows_of_chain (loops.chain_in x.now))
+        (loops.chain_in x.now) starts.now ordinal) }
 {
     match rows_in(x) {
         None => Ok(ordinal),
@@ -420,8 +219,6 @@ fn first_of_one(
         }
     }
 }
-
-// ---- what leaves a loop
 
 fn holding_args(
     alloc: Global,
@@ -482,7 +279,7 @@ pub fn holding(
     c: &Context,
 ) -> Result<Option<Holding>, AllocError>
     ensures { IfOk result (λ o. o ≡ building.holding_of forms.now.bodies.now forms.now.homes.now
-        (building.chain_in x.now) c.now) }
+        (loops.chain_in x.now) c.now) }
 {
     let Some(rows) = rows_in(x) else {
         return Ok(None);

@@ -2,14 +2,12 @@
 
 ghost use Rattle.std.specs.Prelude.{◌≡◌, ◌*◌, get_or, IfOk, pos};
 ghost use Rattle.sq_num.specs.Elements as elements;
-ghost use Rattle.sq_num.specs.Reductions as reductions;
-ghost use Rattle.sq_rect.specs.Extents as extents_of;
-ghost use Rattle.sq_ir.specs.Lifting.{lift};
 ghost use Rattle.sq_ir.specs.declared.num.Num.TheVariants as num;
 ghost use Rattle.sq_placed.specs.Trees as trees;
 ghost use Rattle.sq_term.specs.Terms as terms;
 
 use sq_ast::Mode;
+use sq_contexts::signed;
 use sq_ir::{Action, LeafView, Num, Slot, Term};
 use sq_num::{Elem, RedOp, identity, width};
 use sq_placed::Home;
@@ -25,16 +23,6 @@ fn product(a: u32, b: u32) -> Result<u32, AllocError>
     match a.checked_mul(b) {
         Some(n) => Ok(n),
         None => Err(AllocError),
-    }
-}
-
-/// A number as one of 64 bits.
-pub fn signed(n: u64) -> Result<i64, AllocError>
-    ensures { IfOk result (λ k. k ≡ pos n) }
-{
-    match i64::try_from(n) {
-        Ok(k) => Ok(k),
-        Err(_) => Err(AllocError),
     }
 }
 

@@ -1,18 +1,24 @@
 //! Parts of a term.
 
-ghost use Rattle.std.specs.Prelude.{◌≡◌, ◌++◌, [], ◌∷◌, map, IfOk, OnOk};
+ghost use Rattle.std.specs.Prelude.{◌≡◌, ◌++◌, [], ◌∷◌, map, None, IfOk, OnOk};
+ghost use Rattle.sq_ir.specs.declared.num.Num.TheVariants as num;
 ghost use Rattle.sq_ir.specs.declared.term.Term.TheVariants as term;
 ghost use Rattle.sq_ir.specs.declared.term.Action.TheVariants as action;
 ghost use Rattle.sq_placed.specs.Tables as tables;
 ghost use Rattle.sq_placed.specs.Trees as trees;
 ghost use Rattle.sq_term.specs.Terms as terms;
+ghost use Rattle.sq_tables.specs.Cases as cases;
 
-use crate::forms::LocalArrays;
+use crate::args::call_buffers;
 use crate::held::{hold_ins, hold_outs};
 use crate::moves::{back_term, bring_term, fill_term};
-use crate::places::{buffer_view, copy_nums, copy_views, push_local_buffers};
+use sq_blocks::Argument;
+use sq_contexts::{LocalArrays, buffer_view, call_child, copy_lists, pick_at, push_local_buffers};
 use sq_ir::{Action, BufferIds, Num, Term, Terms};
 use sq_leaf::Shape;
+use sq_placed::Home;
+use sq_spec::CallInstance;
+use sq_tables::{Arms, picks};
 use sq_term::{Context, Move};
 use sq_text::SpreadRule;
 use sqlite_items::{Boxed as Box, Items};
@@ -78,8 +84,7 @@ fn clears(alloc: Global, shapes: &[Shape], buffers: &[u32]) -> Result<Terms, All
     Ok(out)
 }
 
-/// The buffers of locals.
-pub fn local_buffers(alloc: Global, locals: &LocalArrays<'_>) -> Result<BufferIds, AllocError>
+fn local_buffers(alloc: Global, locals: &LocalArrays<'_>) -> Result<BufferIds, AllocError>
     ensures { IfOk result (λ bs. bs ≡ trees.local_buffers
         (tables.placed_locals locals.now.shapes.now locals.now.buffers.now)) }
 {
@@ -88,8 +93,8 @@ pub fn local_buffers(alloc: Global, locals: &LocalArrays<'_>) -> Result<BufferId
     Ok(out)
 }
 
-/// Parts in sequence, with buffers in scope.
-pub fn scope(
+// Parts in sequence, with buffers in scope.
+fn scope(
     alloc: Global,
     child: Option<Num>,
     buffers: BufferIds,
@@ -103,6 +108,79 @@ pub fn scope(
         buffers,
         body,
     })
+}
+
+/// The same at the child that a call goes to.
+pub fn child_scope(
+    alloc: Global,
+    lower: bool,
+    c: &Context,
+    buffers: BufferIds,
+    parts: Terms,
+) -> Result<Term, AllocError>
+    ensures { IfOk result (λ x. x ≡ term.Within (terms.call_child lower c.now) buffers (term.Seq parts)) }
+{
+    let child = call_child(alloc, lower, c)?;
+    scope(alloc, child, buffers, parts)
+}
+
+/// The same with the buffers of a call.
+pub fn call_scope(
+    alloc: Global,
+    lower: bool,
+    homes: &[Home],
+    args: &[Argument],
+    parts: Terms,
+    c: &Context,
+) -> Result<Term, AllocError>
+    ensures { IfOk result (λ x. x ≡ term.Within (terms.call_child lower c.now)
+        (terms.buffers_from homes.now 0 args.now) (term.Seq parts)) }
+{
+    let buffers = call_buffers(alloc, homes, args)?;
+    child_scope(alloc, lower, c, buffers, parts)
+}
+
+/// The same with the buffers of locals.
+pub fn locals_scope(
+    alloc: Global,
+    locals: &LocalArrays<'_>,
+    parts: Terms,
+) -> Result<Term, AllocError>
+    ensures { IfOk result (λ x. x ≡ term.Within None (trees.local_buffers
+        (tables.placed_locals locals.now.shapes.now locals.now.buffers.now)) (term.Seq parts)) }
+{
+    let buffers = local_buffers(alloc, locals)?;
+    scope(alloc, None, buffers, parts)
+}
+
+fn arm_pick(
+    alloc: Global,
+    arms: &Arms<'_>,
+    instances: &[CallInstance],
+    c: &Context,
+) -> Result<Num, AllocError>
+    requires { cases.AreIndexed arms.now }
+    ensures { IfOk result (λ n. n ≡
+        num.Pick (terms.numbers (terms.picks arms.now.list instances.now)) c.now.ordinal) }
+{
+    let numbers = picks(alloc, arms, instances)?;
+    pick_at(alloc, numbers, c)
+}
+
+/// A call, whose arms have these terms.
+pub fn case_term(
+    alloc: Global,
+    arms: &Arms<'_>,
+    instances: &[CallInstance],
+    parts: Terms,
+    c: &Context,
+) -> Result<Term, AllocError>
+    requires { cases.AreIndexed arms.now }
+    ensures { IfOk result (λ x. x ≡
+        term.Case (num.Pick (terms.numbers (terms.picks arms.now.list instances.now)) c.now.ordinal) parts) }
+{
+    let pick = arm_pick(alloc, arms, instances, c)?;
+    Ok(Term::Case { pick, arms: parts })
 }
 
 /// What brings the parameters in.
@@ -141,8 +219,7 @@ pub fn push_fills(
 pub fn leaf_term(alloc: Global, code: u32, c: &Context) -> Result<Term, AllocError>
     ensures { IfOk result (λ x. x ≡ term.Act (action.Leaf code c.now.views c.now.path)) }
 {
-    let views = copy_views(alloc, c.views.as_slice())?;
-    let path = copy_nums(alloc, c.path.as_slice())?;
+    let (path, views) = copy_lists(alloc, c.path.as_slice(), c.views.as_slice())?;
     Ok(Term::Act(Action::Leaf { code, views, path }))
 }
 

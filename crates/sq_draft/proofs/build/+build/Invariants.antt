@@ -22,8 +22,8 @@ decreases-form_term l = 24 * l.left + 3
 abbrev pub decreases-callee : goal.decreases-callee
 decreases-callee l = 24 * l.left + 4
 
-abbrev pub decreases-push_callee : goal.decreases-push_callee
-decreases-push_callee l = 24 * l.left + 5
+abbrev pub decreases-called : goal.decreases-called
+decreases-called l = 24 * l.left + 5
 
 abbrev pub decreases-call_parts : goal.decreases-call_parts
 decreases-call_parts l = 24 * l.left + 6
@@ -37,14 +37,17 @@ decreases-arm_term l = 24 * l.left + 8
 abbrev pub decreases-arm_terms : goal.decreases-arm_terms
 decreases-arm_terms l = 24 * l.left + 9
 
+abbrev pub decreases-case_of : goal.decreases-case_of
+decreases-case_of l = 24 * l.left + 10
+
 abbrev pub decreases-rows_term : goal.decreases-rows_term
-decreases-rows_term l = 24 * l.left + 10
+decreases-rows_term l = 24 * l.left + 11
 
 abbrev pub decreases-loop_term : goal.decreases-loop_term
 decreases-loop_term l = 24 * l.left + 3
 
-abbrev pub decreases-push_loop : goal.decreases-push_loop
-decreases-push_loop l = 24 * l.left + 4
+abbrev pub decreases-held_loop : goal.decreases-held_loop
+decreases-held_loop l = 24 * l.left + 4
 
 abbrev pub decreases-hold_parts : goal.decreases-hold_parts
 decreases-hold_parts l = 24 * l.left + 5

@@ -1,6 +1,0 @@
-use Rattle.std.proofs.Common.{◌≡◌, map, drop}
-use Rattle.sq_draft.specs.Building.{any_of, same_in}
-use Rattle.sq_draft.proofs.inside.+same.Given as goal
-
-abbrev pub invariant-any_same-loop-x : goal.invariant-any_same-loop-x
-invariant-any_same-loop-x l = any_of (map same_in (drop l.x-index l.list)) ≡ any_of (map same_in l.list)

@@ -1,6 +1,0 @@
-use Rattle.std.proofs.Common.{◌≡◌, ◌++◌, drop}
-use Rattle.sq_term.specs.Terms.{buffers_from}
-use Rattle.sq_draft.proofs.inside.call_buffers.Given as goal
-
-abbrev pub invariant-loop-i : goal.invariant-loop-i
-invariant-loop-i l = l.out ++ buffers_from l.homes l.i (drop l.i l.args) ≡ buffers_from l.homes 0 l.args

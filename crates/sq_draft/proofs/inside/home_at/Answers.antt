@@ -1,8 +1,0 @@
-use Rattle.std.proofs.Common.{sym, ap, ◌∙◌}
-use Rattle.std.specs.Option.{option_copied}
-use Rattle.sq_placed.specs.declared.home.Home.TheVariants.{InPlace}
-use Rattle.sq_draft.proofs.Lists.{no_item}
-use Rattle.sq_draft.proofs.inside.home_at.Goals as goal
-
-pub returns-in-None : goal.returns-in-None
-returns-in-None c = no_item c.args.homes.now c.args.i InPlace (sym c.at.ensures ∙ ap option_copied c.in-None.is)

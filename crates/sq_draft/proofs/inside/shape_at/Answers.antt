@@ -1,7 +1,0 @@
-use Rattle.std.proofs.Common.{sym, ◌∙◌}
-use Rattle.sq_placed.specs.Tables.{no_shape}
-use Rattle.sq_draft.proofs.Lists.{an_item}
-use Rattle.sq_draft.proofs.inside.shape_at.Goals as goal
-
-pub returns : goal.returns
-returns c = λ shape is. an_item c.args.shapes.now c.args.i no_shape shape (sym c.at.ensures ∙ is)

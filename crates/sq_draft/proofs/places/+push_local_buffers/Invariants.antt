@@ -1,5 +1,0 @@
-use Rattle.std.proofs.Common.{length}
-use Rattle.sq_draft.proofs.places.+push_local_buffers.Given as goal
-
-abbrev pub decreases-push_local_buffers : goal.decreases-push_local_buffers
-decreases-push_local_buffers l = length l.shapes.now

@@ -1,5 +1,0 @@
-use Rattle.std.proofs.Common.{length}
-use Rattle.sq_draft.proofs.places.+push_locals.Given as goal
-
-abbrev pub decreases-push_locals : goal.decreases-push_locals
-decreases-push_locals l = length l.shapes.now

@@ -1,0 +1,4 @@
+pub mod Lists
+pub mod InStatements
+pub mod Chains
+pub mod Firsts

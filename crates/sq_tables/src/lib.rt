@@ -1,0 +1,16 @@
+//! What the tables of a form say of its calls and its loops.
+#![tactic(auto)]
+
+mod blocks;
+mod cases;
+mod inside;
+mod leaving;
+mod loops;
+mod tables;
+
+pub use blocks::held_offsets;
+pub use cases::{Arm, Arms, arms_of, picks};
+pub use inside::{any_lower, any_same};
+pub use leaving::{Left, home_at, leaving_args};
+pub use loops::{loops_in, op_of, rows_in, spread_of};
+pub use tables::{CallTable, table_of, tables_of};
