@@ -2,6 +2,7 @@
 use sq_source::read_program;
 use sq_text::{Arg, Code, Fault, Phase, Place, Stop};
 use std::alloc::Global;
+use std::mem::forget;
 use std::process::Abort;
 
 // A program that breaks no rule.
@@ -419,10 +420,15 @@ fn is_fault(fault: &Fault, code: Code, place: Place, name: &str) -> bool {
     is_name && fault.phase == Phase::Types && fault.code == code && fault.place == Some(place)
 }
 
+// Programs are forgotten: then their drop is none of this function's.
 fn is_refused(alloc: Global, text: &str, code: Code, place: Place, name: &str) -> bool {
     match read_program(alloc, text.as_bytes()) {
+        Ok(program) => {
+            forget(program);
+            false
+        }
         Err(Stop::Refused(fault)) => is_fault(&fault, code, place, name),
-        _ => false,
+        Err(Stop::NoMemory) => false,
     }
 }
 
@@ -460,7 +466,13 @@ fn all_fail(rt: &impl Abort, alloc: Global, cases: &[Case]) {
 }
 
 fn is_kept(alloc: Global, text: &str) -> bool {
-    read_program(alloc, text.as_bytes()).is_ok()
+    match read_program(alloc, text.as_bytes()) {
+        Ok(program) => {
+            forget(program);
+            true
+        }
+        Err(_) => false,
+    }
 }
 
 #[test]
