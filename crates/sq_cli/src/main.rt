@@ -1,4 +1,4 @@
-//! `sq`: checks, formats and evaluates programs, and runs them on the memories of machines.
+//! `sq`: checks, formats, plans and evaluates programs, and runs them on the memories of machines.
 #![tactic(auto)]
 
 mod adapters;

@@ -1,5 +1,5 @@
 -- How `eval` ends.
-use Rattle.std.proofs.Common.{◌≡◌, ◌≤◌, ◌⊎◌, inl, inr, ℕ, List, [], ◌∷◌, Option, Some, None, Result, Ok, Err, refl, sym, ◌∙◌, subst}
+use Rattle.std.proofs.Common.{◌≡◌, ◌≤◌, ◌⊎◌, inl, inr, ℕ, List, [], ◌∷◌, Bool, false, Option, Some, None, Result, Ok, Err, refl, sym, ◌∙◌, subst}
 use Rattle.sq_port.specs.Ports.{Content}
 use Rattle.sq_text.specs.declared.code.Phase.TheVariants.{Program, Types, Machine, Mapping, Resolve, Race, Input}
 use Rattle.sq_text.specs.declared.fault.Fault.{Fault}
@@ -17,10 +17,12 @@ use Rattle.sq_words.specs.Words.{Command, eval_of}
 use Rattle.sq_driver.specs.declared.trap.Trap.{Trap}
 use Rattle.sq_driver.specs.declared.end.End.{End}
 use Rattle.sq_driver.specs.declared.end.End.TheVariants.{Trapped, NoMemory}
+use Rattle.sq_driver.specs.Phases.{opens, IsTold}
 use Rattle.sq_driver.specs.Races.{IsResolved}
 use Rattle.sq_driver.specs.Entry.{params_of}
 use Rattle.sq_driver.specs.Outputs.{stored_texts}
 use Rattle.sq_driver.specs.Meaning.{AllPassed, done, trapped, IsCause, Means}
+use Rattle.sq_driver.specs.Banks.{Writing, whole, cut_out, AfterDone, BankAfter}
 use Rattle.sq_driver.specs.Outcome.{Outside, Ended}
 use Rattle.sq_driver.specs.Steps.{ReadsTree, Stopped}
 use Rattle.sq_driver.specs.Evaluating.{HoldsProgram, HoldsSources, EndsFlat, Evaluates}
@@ -52,26 +54,34 @@ pub evaluates_same : (command : Command) (told that : Option Content) (out now_o
 evaluates_same command told that out now_out faults now_faults result same evaluates = subst
     (λ (t : Option Content). Evaluates command t out now_out faults now_faults result) same evaluates
 
-module _ (p m k d : List ℕ) (old now : Outside) (err : now.err ≡ old.err)
-    (err_faults : now.err_faults ≡ old.err_faults) (bank : now.bank ≡ old.bank) where
-  means : (text : List ℕ) → ((c : Content) → old.told ≡ Some c → IsCause (eval_of p m k d) c (done text []))
-      → Means (eval_of p m k d) old.told (done text [])
-  means text cause = record {
-    names = tt;
-    cause = λ c is. cause c
-        (one (eval_of p m k d) reads_eval p m k old.told c is);
-  }
+-- of a command that doesn't open the bank
+module _ (its : Command) (old now : Outside) (told : (c : Content) → IsTold its old.told c → old.told ≡ Some c)
+    (closed : opens its.kind ≡ false) (err : now.err ≡ old.err) (err_faults : now.err_faults ≡ old.err_faults)
+    (bank : now.bank ≡ old.bank) where
+  means : (text : List ℕ) → ((c : Content) → old.told ≡ Some c → IsCause its c (done text []))
+      → Means its old.told (done text [])
+  means text cause = record { names = tt; cause = λ c is. cause c (told c is) }
 
-  pub ends : (result : Result (Unit {0}) End) → Evaluates (eval_of p m k d) old.told old.out now.out old.out_faults
-      now.out_faults result → Ended (eval_of p m k d) old now result
-  ends (Ok tt) written = done_whole (eval_of p m k d) old now written.text (means written.text written.cause) err
-      err_faults written.gained written.same (bank, refl)
-  ends (Err end) (inl cut) = subst (λ (e : End). Ended (eval_of p m k d) old now (Err e)) (sym cut.end_is)
-      (done_cut (eval_of p m k d) old now cut.text (means cut.text cut.cause) err err_faults cut.gained cut.rose
-      cut.later (bank, refl))
-  ends (Err end) (inr stop) = stop_ends (eval_of p m k d) old now end
-      (subst (λ (b : BankSeen). Stopped (eval_of p m k d) old.told old.bank b end) (sym bank) (stop.stopped old.bank))
+  after : (text : List ℕ) (writing : Writing) → BankAfter its old.told (done text []) writing old.bank now.bank
+  after text writing = subst (λ (b : Bool). AfterDone b its old.told writing text [] old.bank now.bank) (sym closed)
+      (bank, refl)
+
+  pub closed_ends : (result : Result (Unit {0}) End) → Evaluates its old.told old.out now.out old.out_faults
+      now.out_faults result → Ended its old now result
+  closed_ends (Ok tt) written = done_whole its old now written.text (means written.text written.cause) err err_faults
+      written.gained written.same (after written.text whole)
+  closed_ends (Err end) (inl cut) = subst (λ (e : End). Ended its old now (Err e)) (sym cut.end_is)
+      (done_cut its old now cut.text (means cut.text cut.cause) err err_faults cut.gained cut.rose cut.later
+      (after cut.text cut_out))
+  closed_ends (Err end) (inr stop) = stop_ends its old now end
+      (subst (λ (b : BankSeen). Stopped its old.told old.bank b end) (sym bank) (stop.stopped old.bank))
       (record { out = stop.out_is; out_faults = stop.faults_is; err = err; err_faults = err_faults })
+
+pub ends : (p m k d : List ℕ) (old now : Outside) → now.err ≡ old.err → now.err_faults ≡ old.err_faults
+    → now.bank ≡ old.bank → (result : Result (Unit {0}) End) → Evaluates (eval_of p m k d) old.told old.out now.out
+    old.out_faults now.out_faults result → Ended (eval_of p m k d) old now result
+ends p m k d old now err err_faults bank = closed_ends (eval_of p m k d) old now
+    (one (eval_of p m k d) reads_eval p m k old.told) refl err err_faults bank
 
 -- ---- the phases program and types
 

@@ -17,6 +17,7 @@ pub mod OutTexts
 pub mod Picks
 pub mod Preparing
 pub mod Places
+pub mod Planning
 pub mod ProgramPhases
 pub mod Puts
 pub mod Reading

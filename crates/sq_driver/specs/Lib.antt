@@ -17,6 +17,7 @@ pub mod Phases
 pub mod Picking
 pub mod Programs
 pub mod Races
+pub mod Reported
 pub mod Roots
 pub mod RunLaws
 pub mod SharedFiles

@@ -6,12 +6,13 @@ use Rattle.sq_text.specs.declared.fault.Fault.{Fault}
 use Rattle.sq_ast.specs.declared.program.Program.{Program as Tree}
 use Rattle.sq_ast.specs.Canonical.{canonical}
 use Rattle.sq_words.specs.declared.words.Kind.{Kind}
-use Rattle.sq_words.specs.declared.words.Kind.TheVariants.{Check, Fmt, Eval, Run}
+use Rattle.sq_words.specs.declared.words.Kind.TheVariants.{Check, Fmt, Plan, Eval, Run}
 use Rattle.sq_words.specs.Words.{program, Command}
 use Rattle.sq_driver.specs.Phases.{phases, file_of, Inputs, inputs_of, IsTold}
 use Rattle.sq_driver.specs.Holding.{Holds}
 use Rattle.sq_driver.specs.Programs.{IsProgramText}
 use Rattle.sq_driver.specs.Entry.{GivesFlat, TrapsFlat}
+use Rattle.sq_driver.specs.Reported.{GivesReport}
 use Rattle.sq_driver.specs.Faults.{IsFirstOf}
 use Rattle.sq_driver.specs.declared.trap.Trap.{Trap}
 
@@ -41,6 +42,7 @@ pub record GivesCanonical (inputs : Inputs) (out : List ℕ) : Type 0 where
 abbrev pub Gives : Kind → Inputs → List ℕ → Type 0
 Gives Check inputs out = out ≡ codes "ok\n"
 Gives Fmt inputs out = GivesCanonical inputs out
+Gives Plan inputs out = GivesReport inputs out
 Gives Eval inputs out = GivesFlat inputs out
 Gives Run inputs out = GivesFlat inputs out
 
@@ -48,6 +50,7 @@ Gives Run inputs out = GivesFlat inputs out
 abbrev pub Traps : Kind → Inputs → Trap → Type 0
 Traps Check inputs trap = ⊥
 Traps Fmt inputs trap = ⊥
+Traps Plan inputs trap = ⊥
 Traps Eval inputs trap = TrapsFlat inputs trap
 Traps Run inputs trap = TrapsFlat inputs trap
 

@@ -4,13 +4,14 @@ use Rattle.sq_port.specs.Ports.{Content}
 use Rattle.sq_text.specs.declared.code.Phase.{Phase}
 use Rattle.sq_text.specs.declared.code.Phase.TheVariants.{Program, Types, Machine, Mapping, Resolve, Race, Capacity, Order, Input}
 use Rattle.sq_words.specs.declared.words.Kind.{Kind}
-use Rattle.sq_words.specs.declared.words.Kind.TheVariants.{Check, Fmt, Eval, Run}
+use Rattle.sq_words.specs.declared.words.Kind.TheVariants.{Check, Fmt, Plan, Eval, Run}
 use Rattle.sq_words.specs.Words.{Role, program, mapping, machine, input, order, Files, no_files, named, Command}
 
 -- the phases of a command, in order
 abbrev pub phases : Kind → List Phase
 phases Check = Program ∷ Types ∷ []
 phases Fmt = Program ∷ []
+phases Plan = Program ∷ Types ∷ Machine ∷ Mapping ∷ Resolve ∷ Race ∷ Capacity ∷ []
 phases Eval = Program ∷ Types ∷ Machine ∷ Mapping ∷ Resolve ∷ Race ∷ Input ∷ []
 phases Run = Program ∷ Types ∷ Machine ∷ Mapping ∷ Resolve ∷ Race ∷ Capacity ∷ Order ∷ Input ∷ []
 
@@ -30,6 +31,7 @@ role_of Capacity = None
 abbrev pub opens : Kind → Bool
 opens Check = false
 opens Fmt = false
+opens Plan = false
 opens Eval = false
 opens Run = true
 

@@ -68,3 +68,8 @@ WroteOut out now_out faults now_faults text (Ok value) = Gains out now_out text 
 WroteOut out now_out faults now_faults text (Err SinkFault) = GainsPrefix out now_out text × Rose faults now_faults
     × (faults ≤ now_faults)
 WroteOut out now_out faults now_faults text (Err end) = ⊥
+
+-- or, for want of memory, nothing of it
+abbrev pub WroteOutOrLacked : Option (List ℕ) → Option (List ℕ) → ℕ → ℕ → List ℕ → Result (Unit {0}) End → Type 0
+WroteOutOrLacked out now_out faults now_faults text (Err NoMemory) = (now_out ≡ out) × (now_faults ≡ faults)
+WroteOutOrLacked out now_out faults now_faults text result = WroteOut out now_out faults now_faults text result

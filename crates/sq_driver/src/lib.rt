@@ -10,6 +10,7 @@ mod fmt;
 mod launch;
 mod lines;
 mod order;
+mod plan;
 mod race;
 mod root;
 mod run;

@@ -165,6 +165,7 @@ fn dispatch<'a, F: Files, S: Sink, E: Sink, B: Bank>(
     match parse(words) {
         Some(Command::Check(check)) => check.perform(alloc, world),
         Some(Command::Fmt(fmt)) => fmt.perform(alloc, world),
+        Some(Command::Plan(plan)) => plan.perform(alloc, world),
         Some(Command::Eval(eval)) => eval.perform(alloc, world),
         Some(Command::Run(run)) => run.perform(alloc, world),
         None => Err(End::Usage),

@@ -7,9 +7,9 @@ use Rattle.std.specs.declared.alloc.Global.{Global}
 use Rattle.sq_words.specs.declared.options.Way.{Way as ReadWay}
 use Rattle.sq_words.specs.declared.options.Way.TheVariants.{First, Last, Seed, List as Listed}
 use Rattle.sq_words.specs.declared.words.Kind.{Kind}
-use Rattle.sq_words.specs.declared.words.Kind.TheVariants.{Check, Fmt, Eval, Run}
+use Rattle.sq_words.specs.declared.words.Kind.TheVariants.{Check, Fmt, Plan, Eval, Run}
 use Rattle.sq_words.specs.declared.words.Command.{Command as Read}
-use Rattle.sq_words.specs.declared.words.Command.TheVariants.{Check as ReadCheck, Fmt as ReadFmt, Eval as ReadEval, Run as ReadRun}
+use Rattle.sq_words.specs.declared.words.Command.TheVariants.{Check as ReadCheck, Fmt as ReadFmt, Plan as ReadPlan, Eval as ReadEval, Run as ReadRun}
 
 -- ---- commands
 
@@ -162,12 +162,13 @@ options_of options (word ∷ words) = option_and_then (λ more. options_of more 
 
 -- the first word of a command
 abbrev pub kind_of : List ℕ → Option Kind
-kind_of word = if bytes_eq word (codes "check") then Some Check else (if bytes_eq word (codes "fmt") then Some Fmt else (if bytes_eq word (codes "eval") then Some Eval else (if bytes_eq word (codes "run") then Some Run else None)))
+kind_of word = if bytes_eq word (codes "check") then Some Check else (if bytes_eq word (codes "fmt") then Some Fmt else (if bytes_eq word (codes "plan") then Some Plan else (if bytes_eq word (codes "eval") then Some Eval else (if bytes_eq word (codes "run") then Some Run else None))))
 
 -- its further words: what the files that they name are for
 abbrev pub roles : Kind → List Role
 roles Check = program ∷ []
 roles Fmt = program ∷ []
+roles Plan = program ∷ mapping ∷ machine ∷ []
 roles Eval = program ∷ mapping ∷ machine ∷ input ∷ []
 roles Run = program ∷ mapping ∷ machine ∷ input ∷ []
 
@@ -214,9 +215,16 @@ check_of name = command_with Check (with_file program name no_files) (with_no_fi
 abbrev pub fmt_of : List ℕ → Command
 fmt_of name = command_with Fmt (with_file program name no_files) (with_no_file first) false
 
--- the names of four files
+-- the names of three files
+abbrev pub source_files : List ℕ → List ℕ → List ℕ → Files
+source_files name its_mapping its_machine = with_file machine its_machine (with_file mapping its_mapping (with_file program name no_files))
+
+-- and of the data
 abbrev pub all_files : List ℕ → List ℕ → List ℕ → List ℕ → Files
-all_files name its_mapping its_machine its_input = with_file input its_input (with_file machine its_machine (with_file mapping its_mapping (with_file program name no_files)))
+all_files name its_mapping its_machine its_input = with_file input its_input (source_files name its_mapping its_machine)
+
+abbrev pub plan_of : List ℕ → List ℕ → List ℕ → Command
+plan_of name its_mapping its_machine = command_with Plan (source_files name its_mapping its_machine) (with_no_file first) false
 
 abbrev pub eval_of : List ℕ → List ℕ → List ℕ → List ℕ → Command
 eval_of name its_mapping its_machine its_input = command_with Eval (all_files name its_mapping its_machine its_input) (with_no_file first) false
@@ -235,5 +243,6 @@ asked (Listed file) = listed file.now
 abbrev pub meant : Read → Command
 meant (ReadCheck words) = check_of words.program.now
 meant (ReadFmt words) = fmt_of words.program.now
+meant (ReadPlan words) = plan_of words.program.now words.mapping.now words.machine.now
 meant (ReadEval words) = eval_of words.program.now words.mapping.now words.machine.now words.input.now
 meant (ReadRun words) = run_of words.program.now words.mapping.now words.machine.now words.input.now (asked words.order) words.traced

@@ -9,6 +9,7 @@ use crate::options::{Way, options_of};
 pub enum Kind {
     Check,
     Fmt,
+    Plan,
     Eval,
     Run,
 }
@@ -23,6 +24,14 @@ pub struct Check<'a> {
 #[derive(Clone, Copy)]
 pub struct Fmt<'a> {
     pub program: &'a str,
+}
+
+/// `plan PROG MAP MACH`
+#[derive(Clone, Copy)]
+pub struct Plan<'a> {
+    pub program: &'a str,
+    pub mapping: &'a str,
+    pub machine: &'a str,
 }
 
 /// `eval PROG MAP MACH DATA`
@@ -50,6 +59,7 @@ pub struct Run<'a> {
 pub enum Command<'a> {
     Check(Check<'a>),
     Fmt(Fmt<'a>),
+    Plan(Plan<'a>),
     Eval(Eval<'a>),
     Run(Run<'a>),
 }
@@ -75,6 +85,8 @@ fn kind_for(word: &str) -> Option<Kind>
         Some(Kind::Check)
     } else if word == "fmt" {
         Some(Kind::Fmt)
+    } else if word == "plan" {
+        Some(Kind::Plan)
     } else if word == "eval" {
         Some(Kind::Eval)
     } else if word == "run" {
@@ -94,6 +106,11 @@ fn with_words(kind: Kind, words: &[String]) -> Option<Command<'_>>
         })),
         (Kind::Fmt, [program]) => Some(Command::Fmt(Fmt {
             program: program.as_str(),
+        })),
+        (Kind::Plan, [program, mapping, machine]) => Some(Command::Plan(Plan {
+            program: program.as_str(),
+            mapping: mapping.as_str(),
+            machine: machine.as_str(),
         })),
         (Kind::Eval, [program, mapping, machine, input]) => Some(Command::Eval(Eval {
             program: program.as_str(),

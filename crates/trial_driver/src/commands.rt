@@ -85,6 +85,14 @@ const FILES: &[(&str, &[u8])] = &[
         "less.mach",
         b"machine 1; level host { capacity 64; } children 2; level core { capacity 31; }",
     ),
+    (
+        "uneven.mach",
+        b"machine 2; levels host, core; node h { capacity 80; node a { capacity 32; } node b { capacity 16; } }",
+    ),
+    (
+        "blocked.map",
+        b"mapping 2; entry top(N = 10); instance top = twice::inner @ host { spread = blocked; tunable U = 4; call twice -> low; } instance low = twice::leaf @ core { }",
+    ),
     ("picks.txt", b"3 1\n4 1 5\n"),
     ("027.txt", b"0 2 7\n"),
     ("7x.txt", b"7 x\n"),
@@ -223,7 +231,7 @@ fn words_of(rt: &HostRuntime, words: &[&str]) -> Result<Vec<String>, Fail> {
 fn answers(rt: &HostRuntime, case: &Case<'static>) -> Result<bool, Fail> {
     let words = words_of(rt, case.words)?;
     let mut files = files(rt)?;
-    let mut out = MemSink::new(rt.alloc(), 200)?;
+    let mut out = MemSink::new(rt.alloc(), 500)?;
     let mut err = MemSink::new(rt.alloc(), 500)?;
     let mut bank = RawBank::new();
     let status = sq_top(
@@ -664,6 +672,100 @@ fn evaluations(rt: HostRuntime) -> Result<(), Fail> {
     Ok(())
 }
 
+const REPORT: &[u8] =
+    b"level host nodes 1 capacity 64 need 64 used 64\nlevel core nodes 2 capacity 32 need 32 used 32\nbuffer host 0 32 top A\nbuffer host 32 32 top B\nbuffer core 0 16 low A\nbuffer core 16 16 low B\nedge host core down 32 up 32\nleaves 2\n";
+
+const PLANNED: &[Case<'static>] = &[
+    Case {
+        words: &["plan", "two.sq", "8.map", "two.mach"],
+        status: Status::Done,
+        out: REPORT,
+        err: b"",
+    },
+    // Each node has a name.
+    Case {
+        words: &["plan", "two.sq", "blocked.map", "uneven.mach"],
+        status: Status::Done,
+        out: b"level host nodes 1 capacity 80 need 80 used 80\nnode h capacity 80 need 80\nlevel core nodes 2 capacity 16 need 32 used 32\nnode a capacity 32 need 32\nnode b capacity 16 need 16\nbuffer host 0 40 top A\nbuffer host 40 40 top B\nbuffer core 0 16 low A\nbuffer core 16 16 low B\nbuffer core 0 8 low A\nbuffer core 8 8 low B\nedge host core down 40 up 40\nleaves 3\n",
+        err: b"",
+    },
+    // Both arguments stand in place, and there is one level.
+    Case {
+        words: &["plan", "dup.sq", "dup.map", "32.mach"],
+        status: Status::Done,
+        out: b"level host nodes 1 capacity 32 need 32 used 32\nbuffer host 0 16 top A\nbuffer host 16 16 top B\nleaves 1\n",
+        err: b"",
+    },
+    Case {
+        words: &["plan", "two.sq", "8.map", "less.mach"],
+        status: Status::Refused,
+        out: b"",
+        err: b"refused capacity Capacity core 32 31\n",
+    },
+    Case {
+        words: &["plan", "two.sq", "10.map", "uneven.mach"],
+        status: Status::Refused,
+        out: b"",
+        err: b"refused capacity Capacity b 32 16\n",
+    },
+    Case {
+        words: &["plan", "race.sq", "8.map", "two.mach"],
+        status: Status::Refused,
+        out: b"",
+        err: b"refused race Race 5:3 B 0 [0..4] 1 [0..4]\n",
+    },
+    Case {
+        words: &["plan", "two.sq", "cycle.map", "fan.mach"],
+        status: Status::Refused,
+        out: b"",
+        err: b"refused machine LimitFan 1:49 0\n",
+    },
+    Case {
+        words: &["plan", "two.sq", "none.map", "two.mach"],
+        status: Status::Absent,
+        out: b"",
+        err: b"absent none.map\n",
+    },
+    Case {
+        words: &["plan", "two.sq", "8.map", "two.mach", "8.txt"],
+        status: Status::Usage,
+        out: b"",
+        err: USAGE,
+    },
+];
+
+#[test]
+fn plans(rt: HostRuntime) -> Result<(), Fail> {
+    for case in PLANNED {
+        assert!(rt; answers(&rt, case)?);
+    }
+    Ok(())
+}
+
+// The sink of a report has room for each front of it.
+#[test]
+fn a_report_that_fails_is_cut_there(rt: HostRuntime) -> Result<(), Fail> {
+    let words = words_of(&rt, &["plan", "two.sq", "8.map", "two.mach"])?;
+    for room in 0..REPORT.len() {
+        let mut files = files(&rt)?;
+        let mut out = MemSink::new(rt.alloc(), room)?;
+        let mut err = MemSink::new(rt.alloc(), 200)?;
+        let mut bank = RawBank::new();
+        let status = sq_top(
+            rt.alloc(),
+            &words,
+            &mut files,
+            &mut out,
+            &mut err,
+            &mut bank,
+        );
+        assert_eq!(rt; status, Status::SinkFault);
+        assert_eq!(rt; Some(out.written()), REPORT.get(0..room));
+        assert!(rt; err.written().is_empty());
+    }
+    Ok(())
+}
+
 const READ: &[Case<'static>] = &[
     Case {
         words: &["fmt", "double.sq"],
@@ -728,6 +830,12 @@ const FAILING: &[Case<'static>] = &[
         words: &["eval", "double.sq", "3.map", "32.mach", "3.txt"],
         status: Status::SinkFault,
         out: b"array",
+        err: b"",
+    },
+    Case {
+        words: &["plan", "double.sq", "3.map", "32.mach"],
+        status: Status::SinkFault,
+        out: b"level",
         err: b"",
     },
     Case {

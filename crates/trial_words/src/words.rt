@@ -6,6 +6,9 @@ use std::test::Fail;
 const LINES: &[(&str, bool)] = &[
     ("check P", true),
     ("fmt P Q", false),
+    ("plan P M", false),
+    ("plan P M K", true),
+    ("plan P M K D", false),
     ("eval P M K D", true),
     ("eval P M K D order=first", false),
     ("run P M K", false),

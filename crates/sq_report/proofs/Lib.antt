@@ -1,0 +1,6 @@
+mod Counted
+mod Examples
+mod Lists
+mod Pieces
+mod Sums
+mod Texts

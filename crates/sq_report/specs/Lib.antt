@@ -1,0 +1,5 @@
+pub mod Adding
+pub mod Figures
+pub mod Reports
+pub mod Laws
+pub mod Examples
