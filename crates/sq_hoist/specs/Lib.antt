@@ -1,4 +1,0 @@
-pub mod Loops
-pub mod Counts
-pub mod Choices
-pub mod Notes
