@@ -1,5 +1,12 @@
-//! Tests over texts of programs: what they do when they are compiled and run.
+//! Plans are run here: made by hand, and of programs as texts that are compiled. Their control and the numbers of their
+//! terms are tested here too.
 #![tactic(auto)]
 
 #[cfg(test)]
-mod tests;
+mod bank_tests;
+#[cfg(test)]
+mod control_tests;
+#[cfg(test)]
+mod number_tests;
+#[cfg(test)]
+mod program_tests;

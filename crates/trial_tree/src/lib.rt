@@ -4,8 +4,6 @@
 mod lanes;
 mod leaf;
 mod runs;
-#[cfg(test)]
-mod tests;
 mod turns;
 
 pub use lanes::three_lanes;

@@ -3,15 +3,15 @@ ghost use Rattle.std.specs.Prelude.{IfOk};
 ghost use Rattle.sq_ir.specs.Plans.{IsGood};
 ghost use Rattle.sq_ir.specs.DraftLeaves.{leaves_of};
 
-use crate::{Ran, fills, int_leaf, run_on, three_lanes};
 use sq_ir::Plan;
 use sq_leaf::{Trap, TrapKind};
 use sq_port::{FirstOrder, LastOrder, ListOrder, MemSink, Order, Picks, SeedOrder};
 use sq_text::SpreadRule;
-use sq_tree::{Bank, LogBank, RawBank, RunEnd};
+use sq_tree::{Bank, LogBank, RawBank, RunEnd, put_event};
 use std::alloc::{AllocError, Global};
 use std::rc::Rc;
 use std::test::Fail;
+use trial_tree::{Ran, fills, int_leaf, run_on, three_lanes};
 
 // Its division is at column 46.
 const LEAF: &[u8] = b"task share::leaf(inout int X[1]) { X[0] = 12 / X[0]; }";
@@ -257,6 +257,43 @@ fn traces_tell_the_events_in_their_order(rt: HostRuntime) -> Result<(), Fail> {
         let _ran = run_case(alloc, &case, &mut bank, &mut trace)?;
         assert_eq!(rt; trace.written(), case.3.as_bytes());
     }
+    Ok(())
+}
+
+// The lines of the events that a bank tells.
+fn lines_told(alloc: Global, plan: &Plan, bank: &LogBank) -> Result<Option<MemSink>, AllocError> {
+    let Some(events) = bank.events() else {
+        return Ok(None);
+    };
+    let mut told = MemSink::new(alloc, 1_000)?;
+    for event in events {
+        if put_event(&mut told, plan, event).is_err() {
+            return Err(AllocError);
+        }
+    }
+    Ok(Some(told))
+}
+
+// Whether a bank with room for so many events tells those of a case after its run; None where it tells none.
+fn tells(alloc: Global, case: &Case, room: usize) -> Result<Option<bool>, AllocError> {
+    let plan = plan_of(alloc, rule_of(case.0))?;
+    let mut bank = LogBank::new(alloc, room)?;
+    let mut trace = MemSink::new(alloc, 1_000)?;
+    let _ran = run_case(alloc, case, &mut bank, &mut trace)?;
+    match lines_told(alloc, &plan, &bank)? {
+        Some(told) => Ok(Some(told.written() == case.3.as_bytes())),
+        None => Ok(None),
+    }
+}
+
+#[test]
+fn a_bank_tells_its_events_while_it_has_room(rt: HostRuntime) -> Result<(), Fail> {
+    let alloc = rt.alloc();
+    // 18 events, and 4 before a trap
+    assert_eq!(rt; tells(alloc, &TRACES[2], 18)?, Some(true));
+    assert_eq!(rt; tells(alloc, &TRACES[2], 17)?, None);
+    assert_eq!(rt; tells(alloc, &TRACES[4], 4)?, Some(true));
+    assert_eq!(rt; tells(alloc, &TRACES[4], 3)?, None);
     Ok(())
 }
 
