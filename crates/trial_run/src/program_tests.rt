@@ -6,8 +6,10 @@ ghost use Rattle.sq_ir.specs.DraftLeaves.{leaves_of};
 ghost use Rattle.sq_race.specs.Race.{IsFirstRace};
 
 use sq_compile::compile;
-use sq_ir::Plan;
+use sq_elim::drop_copies;
+use sq_ir::{Plan, PlanNodes};
 use sq_leaf::TrapKind;
+use sq_lower::lower;
 use sq_machfile::read_machine;
 use sq_mapfile::read_mapping;
 use sq_port::{FirstOrder, LastOrder, MemSink, Order, SeedOrder};
@@ -16,11 +18,13 @@ use sq_race::laws::without_a_race;
 use sq_source::read_program;
 use sq_spec::{Resolved, resolve};
 use sq_store::StoreFault;
+use sq_sums::nested_sums;
 use sq_tree::{RawBank, RunEnd};
 use std::alloc::{AllocError, Global};
 use std::process::Abort;
 use std::rc::Rc;
 use std::test::Fail;
+use trial_store::memories;
 use trial_tree::{Ran, run_on};
 
 // A program, its mapping and its machine.
@@ -129,8 +133,61 @@ void task tens::leaf(in int A[N], out int B[N]) {
     "machine 1; level host { capacity 32; } children 4; level core { capacity 32; }",
 );
 
+// Blocks in three dimensions, smaller ones at the ends.
+const CUBES: Sources = (
+    "void task inc::inner(inout byte A[X][Y][Z]) {
+  blkset Ab = rchop(A, 1, 2, 2);
+  mappar (int i = 0 to X, int j = 0 to (Y + 1) / 2, int k = 0 to (Z + 1) / 2) {
+    inc(Ab[i][j][k]);
+  }
+}
+void task inc::leaf(inout byte A[X][Y][Z]) {
+  A[0][0][0] += 1;
+}",
+    "mapping 1; entry top(X = 1, Y = 3, Z = 3); instance top = inc::inner @ host { call inc -> low; } instance low = inc::leaf @ core { }",
+    "machine 1; level host { capacity 16; } children 2; level core { capacity 8; }",
+);
+
+// Blocks by lists, two forms of one call, a local, and a map that is spread in each iteration of a `mapseq`.
+const WINDOWS: Sources = (
+    "void task sums::inner(in int A[N], out int B[M]) {
+  tunable int S[];
+  tunable int E[];
+  blkset Ab = ichop(A, S, E);
+  blkset Bb = rchop(B, 1);
+  mapseq (int t = 0 to 2) {
+    mappar (int i = 0 to len(S)) {
+      sums(Ab[i], Bb[i]);
+    }
+  }
+}
+void task sums::leaf(in int A[N], out int B[M]) {
+  local int T[1];
+  for (int i = 0; i < N; i++) T[0] += A[i];
+  B[0] = T[0];
+}",
+    "mapping 1; entry top(N = 5, M = 2); instance top = sums::inner @ host { tunable S = [0, 3]; tunable E = [4, 5]; call sums -> low; } instance low = sums::leaf @ core { }",
+    "machine 1; level host { capacity 32; } children 2; level core { capacity 32; }",
+);
+
+// One task at three levels.
+const LEVELS: Sources = (
+    "void task next::inner(inout int A[N]) {
+  tunable int U;
+  blkset Ab = rchop(A, U);
+  mappar (int i = 0 to N / U) {
+    next(Ab[i]);
+  }
+}
+void task next::leaf(inout int A[N]) {
+  for (int i = 0; i < N; i++) A[i] += 1;
+}",
+    "mapping 1; entry top(N = 4); instance top = next::inner @ host { tunable U = 2; call next -> mid; } instance mid = next::inner @ chip { tunable U = 1; call next -> low; } instance low = next::leaf @ core { }",
+    "machine 1; level host { capacity 16; } children 1; level chip { capacity 8; } children 2; level core { capacity 8; }",
+);
+
 // Events in order, for one input.
-const TRACES: [(Sources, &'static str, &'static str); 6] = [
+const TRACES: [(Sources, &'static str, &'static str); 9] = [
     (
         DOUBLED,
         "1 2 3 4 5 6 7 8 9 9 9 9 9 9 9 9",
@@ -157,9 +214,24 @@ const TRACES: [(Sources, &'static str, &'static str); 6] = [
         "1 2 3 4 5 6 7 8 9 10",
         "fill 0.0:40 40\ncopy 0.0:0 1.0:0 16\nfill 1.0:16 16\nleaf 1.0 low\ncopy 1.0:16 0.0:40 16\ncopy 0.0:16 1.0:0 16\nfill 1.0:16 16\nleaf 1.0 low\ncopy 1.0:16 0.0:56 16\ncopy 0.0:32 1.1:0 8\nfill 1.1:8 8\nleaf 1.1 low\ncopy 1.1:8 0.0:72 8\n",
     ),
+    (
+        CUBES,
+        "0 0 0",
+        "copy 0.0:0 1.0:0 2\ncopy 0.0:3 1.0:2 2\nleaf 1.0 low\ncopy 1.0:0 0.0:0 2\ncopy 1.0:2 0.0:3 2\ncopy 0.0:6 1.0:0 2\nleaf 1.0 low\ncopy 1.0:0 0.0:6 2\ncopy 0.0:2 1.1:0 1\ncopy 0.0:5 1.1:1 1\nleaf 1.1 low\ncopy 1.1:0 0.0:2 1\ncopy 1.1:1 0.0:5 1\ncopy 0.0:8 1.1:0 1\nleaf 1.1 low\ncopy 1.1:0 0.0:8 1\n",
+    ),
+    (
+        WINDOWS,
+        "1 2 3 4 5 0 7 7",
+        "fill 0.0:24 8\ncopy 0.0:0 1.0:0 16\nfill 1.0:16 4\nfill 1.0:24 4\nleaf 1.0 low\ncopy 1.0:16 0.0:24 4\ncopy 0.0:12 1.1:0 8\nfill 1.1:8 4\nfill 1.1:16 4\nleaf 1.1 low\ncopy 1.1:8 0.0:28 4\ncopy 0.0:0 1.0:0 16\nfill 1.0:16 4\nfill 1.0:24 4\nleaf 1.0 low\ncopy 1.0:16 0.0:24 4\ncopy 0.0:12 1.1:0 8\nfill 1.1:8 4\nfill 1.1:16 4\nleaf 1.1 low\ncopy 1.1:8 0.0:28 4\n",
+    ),
+    (
+        LEVELS,
+        "1 2 3 4",
+        "copy 0.0:0 1.0:0 8\ncopy 1.0:0 2.0:0 4\nleaf 2.0 low\ncopy 2.0:0 1.0:0 4\ncopy 1.0:4 2.1:0 4\nleaf 2.1 low\ncopy 2.1:0 1.0:4 4\ncopy 1.0:0 0.0:0 8\ncopy 0.0:8 1.0:0 8\ncopy 1.0:0 2.0:0 4\nleaf 2.0 low\ncopy 2.0:0 1.0:0 4\ncopy 1.0:4 2.1:0 4\nleaf 2.1 low\ncopy 2.1:0 1.0:4 4\ncopy 1.0:0 0.0:8 8\n",
+    ),
 ];
 
-const RUNS: [(Sources, Way); 14] = [
+const RUNS: [(Sources, Way); 19] = [
     (
         DOUBLED,
         (
@@ -207,6 +279,11 @@ const RUNS: [(Sources, Way); 14] = [
     (SUMMED, ("first", "1 2 3 4 5", "1 2 3 4 15")),
     (SUMMED, ("last", "1 2 3 4 5", "1 2 3 4 15")),
     (SUMMED, ("seed", "1 2 3 4 5", "1 2 3 4 15")),
+    (CUBES, ("first", "0 0 0", "65537 65536 1")),
+    (CUBES, ("last", "0 0 0", "65537 65536 1")),
+    (WINDOWS, ("last", "1 2 3 4 5 0 7 7", "1 2 3 4 5 0 10 9")),
+    (LEVELS, ("first", "1 2 3 4", "2 3 4 5")),
+    (LEVELS, ("seed", "1 2 3 4", "2 3 4 5")),
     (TENS, ("first", "1 0 2 0", "trap 1")),
     (TENS, ("last", "1 0 2 0", "trap 1")),
 ];
@@ -367,6 +444,63 @@ fn runs_end_as_the_program_means_in_each_order(rt: HostRuntime) -> Result<(), Fa
         let ran = run_in(&rt, alloc, &sources, &way, &mut trace)?;
         assert!(rt; ends_so(alloc, &ran, way.2)?);
     }
+    Ok(())
+}
+
+fn first_of(sums: &[u64]) -> u64 {
+    match sums {
+        [first, ..] => *first,
+        [] => 0,
+    }
+}
+
+// What the root needs for the draft in which every argument has a buffer.
+fn lowered_need(
+    alloc: Global,
+    resolved: &Resolved<'_>,
+    nodes: &PlanNodes,
+) -> Result<u64, AllocError> {
+    let draft = lower(alloc, resolved)?;
+    let sums = nested_sums(alloc, &draft, nodes)?;
+    Ok(first_of(sums.as_slice()))
+}
+
+// What it needs where no copy serves an argument in place.
+fn dropped_need(
+    alloc: Global,
+    resolved: &Resolved<'_>,
+    nodes: &PlanNodes,
+) -> Result<u64, AllocError> {
+    let draft = lower(alloc, resolved)?;
+    let draft = drop_copies(alloc, resolved, draft)?;
+    let sums = nested_sums(alloc, &draft, nodes)?;
+    Ok(first_of(sums.as_slice()))
+}
+
+fn needed(
+    rt: &impl Abort,
+    alloc: Global,
+    sources: &Sources,
+    is_dropped: bool,
+) -> Result<u64, AllocError> {
+    let machine = read_machine(alloc, sources.2.as_bytes()).expect(rt, "a machine");
+    let typed = read_program(alloc, sources.0.as_bytes()).expect(rt, "a program");
+    let mapping = read_mapping(alloc, sources.1.as_bytes(), &typed, &machine).expect(
+        rt,
+        "a mapping",
+    );
+    let resolved = resolve(alloc, &typed, &mapping, &machine).expect(rt, "forms");
+    let nodes = memories(alloc, "0:64:0").expect(rt, "memory");
+    if is_dropped {
+        return dropped_need(alloc, &resolved, &nodes);
+    }
+    lowered_need(alloc, &resolved, &nodes)
+}
+
+#[test]
+fn arguments_in_place_need_no_copy(rt: HostRuntime) -> Result<(), Fail> {
+    assert_eq!(rt; needed(&rt, rt.alloc(), &IN_PLACE, false)?, 64);
+    assert_eq!(rt; needed(&rt, rt.alloc(), &IN_PLACE, true)?, 32);
     Ok(())
 }
 
