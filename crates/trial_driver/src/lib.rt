@@ -3,3 +3,7 @@
 
 #[cfg(test)]
 mod commands;
+#[cfg(test)]
+mod devices;
+#[cfg(test)]
+mod files;
