@@ -17,7 +17,7 @@ use Rattle.sq_spec.specs.declared.resolved.Resolved.{Resolved}
 use Rattle.sq_flat.specs.Held.{Stored}
 use Rattle.sq_flat.specs.Ends.{HoldsEnd}
 use Rattle.sq_words.specs.Words.{Command, with_file, input}
-use Rattle.sq_driver.specs.declared.trap.Trap.{Trap}
+use Rattle.sq_report.specs.declared.trap.Trap.{Trap}
 use Rattle.sq_driver.specs.Phases.{phases, inputs_of}
 use Rattle.sq_driver.specs.Sources.{Sources}
 use Rattle.sq_driver.specs.Faults.{IsFirstOf}

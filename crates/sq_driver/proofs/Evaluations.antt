@@ -14,7 +14,7 @@ use Rattle.sq_flat.specs.Ends.{HoldsEnd}
 use Rattle.sq_tree.specs.Bank.{BankSeen}
 use Rattle.sq_words.specs.declared.words.Kind.TheVariants.{Eval}
 use Rattle.sq_words.specs.Words.{Command, eval_of}
-use Rattle.sq_driver.specs.declared.trap.Trap.{Trap}
+use Rattle.sq_report.specs.declared.trap.Trap.{Trap}
 use Rattle.sq_driver.specs.declared.end.End.{End}
 use Rattle.sq_driver.specs.declared.end.End.TheVariants.{Trapped, NoMemory}
 use Rattle.sq_driver.specs.Phases.{opens, IsTold}

@@ -27,7 +27,7 @@ use Rattle.sq_flat.specs.declared.flat.Trapped.{Trapped as FlatTrapped}
 use Rattle.sq_leaf.specs.declared.trap.Trap.{Trap as LeafTrap}
 use Rattle.sq_tree.specs.Bank.{BankSeen}
 use Rattle.sq_words.specs.declared.words.Kind.TheVariants.{Eval}
-use Rattle.sq_driver.specs.declared.trap.Trap.{Trap}
+use Rattle.sq_report.specs.declared.trap.Trap.{Trap}
 use Rattle.sq_driver.specs.declared.end.End.{End}
 use Rattle.sq_driver.specs.declared.end.End.TheVariants.{Usage, Absent, FileFault, Refused, Trapped, NoMemory, SinkFault}
 use Rattle.sq_driver.specs.declared.status.Status.{Status}

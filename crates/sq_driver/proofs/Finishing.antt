@@ -4,7 +4,7 @@ use Rattle.sq_port.specs.Ports.{Content, Gains, GainsPrefix, Rose}
 use Rattle.std.proofs.lemmas.List.{append-nil}
 use Rattle.sq_port.proofs.Gained.{gains_both}
 use Rattle.sq_tree.specs.Bank.{BankSeen}
-use Rattle.sq_driver.specs.declared.trap.Trap.{Trap}
+use Rattle.sq_report.specs.declared.trap.Trap.{Trap}
 use Rattle.sq_driver.specs.declared.status.Status.{Status}
 use Rattle.sq_driver.specs.declared.status.Status.TheVariants.{Done, SinkFault}
 use Rattle.sq_driver.specs.declared.end.End.{End}

@@ -29,7 +29,7 @@ use Rattle.sq_orders.specs.Chosen.{chosen_held, chosen_answer, chosen_next}
 use Rattle.sq_words.specs.declared.words.Kind.TheVariants.{Run}
 use Rattle.sq_words.specs.Words as words
 use Rattle.sq_words.specs.Words.{Way, Order, run_of}
-use Rattle.sq_driver.specs.declared.trap.Trap.{Trap}
+use Rattle.sq_report.specs.declared.trap.Trap.{Trap}
 use Rattle.sq_driver.specs.declared.end.End.{End}
 use Rattle.sq_driver.specs.declared.end.End.TheVariants.{Usage, Absent, FileFault, Refused, Trapped, NoMemory, SinkFault}
 use Rattle.sq_driver.specs.declared.launch.Launch.{Launch}

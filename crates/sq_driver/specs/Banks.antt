@@ -16,7 +16,7 @@ use Rattle.sq_tree.specs.Trace.{event_line, trace_text}
 use Rattle.sq_orders.specs.Chosen.{chosen_answer, chosen_next}
 use Rattle.sq_words.specs.Words.{input, order, Command}
 use Rattle.sq_driver.specs.Phases.{opens, is_open_at, inputs_of, IsTold}
-use Rattle.sq_driver.specs.declared.trap.Trap.{Trap as Shown}
+use Rattle.sq_report.specs.declared.trap.Trap.{Trap as Shown}
 use Rattle.sq_driver.specs.Orders.{ListHolds, HeldBy}
 use Rattle.sq_compile.specs.Compiled.{IsPlanOf}
 use Rattle.sq_driver.specs.Capacity.{AreFormsOf}

@@ -5,7 +5,8 @@ use Rattle.sq_driver.specs.declared.status.Status.{Status}
 use Rattle.sq_driver.specs.declared.status.Status.TheVariants.{Done as DoneStatus, Refused as RefusedStatus, Trapped as TrappedStatus, Usage as UsageStatus, FileFault as FileFaultStatus, SinkFault as SinkFaultStatus, NoMemory as NoMemoryStatus, Absent as AbsentStatus}
 use Rattle.sq_driver.specs.declared.end.End.{End}
 use Rattle.sq_driver.specs.declared.end.End.TheVariants.{Usage, Absent, FileFault, Refused, Trapped, NoMemory, SinkFault}
-use Rattle.sq_driver.specs.Texts.{line, usage_line, fault_line, trap_line}
+use Rattle.sq_report.specs.Answers.{named_line, fault_line, trap_line}
+use Rattle.sq_driver.specs.Texts.{usage_line}
 
 abbrev pub status_of : End → Status
 status_of Usage = UsageStatus
@@ -24,8 +25,8 @@ ending (Err end) = status_of end
 -- the line of an end
 abbrev pub end_text : End → List ℕ
 end_text Usage = usage_line
-end_text (Absent name) = line (codes "absent ") name.now
-end_text (FileFault name) = line (codes "fault ") name.now
+end_text (Absent name) = named_line (codes "absent ") name.now
+end_text (FileFault name) = named_line (codes "fault ") name.now
 end_text (Refused fault) = fault_line fault
 end_text (Trapped trap) = trap_line trap
 end_text NoMemory = codes "no memory\n"

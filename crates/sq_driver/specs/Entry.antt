@@ -14,7 +14,7 @@ use Rattle.sq_work.specs.Meaning.{Trapped}
 use Rattle.sq_ast.specs.Modes.{is_read}
 use Rattle.sq_forms.specs.Resolving.{entry_params, entry_extents}
 use Rattle.sq_spec.specs.Works.{extents_at, flat}
-use Rattle.sq_driver.specs.declared.trap.Trap.{Trap}
+use Rattle.sq_report.specs.declared.trap.Trap.{Trap}
 use Rattle.sq_words.specs.Words.{input}
 use Rattle.sq_driver.specs.Phases.{Inputs}
 use Rattle.sq_driver.specs.Data.{data_fault}

@@ -14,7 +14,7 @@ use Rattle.sq_driver.specs.Programs.{IsProgramText}
 use Rattle.sq_driver.specs.Entry.{GivesFlat, TrapsFlat}
 use Rattle.sq_driver.specs.Reported.{GivesReport}
 use Rattle.sq_driver.specs.Faults.{IsFirstOf}
-use Rattle.sq_driver.specs.declared.trap.Trap.{Trap}
+use Rattle.sq_report.specs.declared.trap.Trap.{Trap}
 
 -- a phase's file is there, and the phase has no fault
 pub record Passed (command : Command) (c : Content) (phase : Phase) : Type 0 where

@@ -7,7 +7,8 @@ use Rattle.sq_driver.specs.declared.status.Status.{Status}
 use Rattle.sq_driver.specs.declared.status.Status.TheVariants.{Done as DoneStatus, Refused as RefusedStatus, Trapped as TrappedStatus, Usage as UsageStatus, FileFault as FileFaultStatus, NoMemory as NoMemoryStatus, Absent as AbsentStatus}
 use Rattle.sq_driver.specs.declared.end.End.{End}
 use Rattle.sq_driver.specs.declared.end.End.TheVariants.{Usage, Absent, FileFault, Refused, Trapped, NoMemory, SinkFault}
-use Rattle.sq_driver.specs.Texts.{line, usage_line, fault_line, trap_line}
+use Rattle.sq_report.specs.Answers.{named_line, fault_line, trap_line}
+use Rattle.sq_driver.specs.Texts.{usage_line}
 use Rattle.sq_words.specs.Words.{Command}
 use Rattle.sq_driver.specs.Meaning.{Answer, done, refused, trapped, usage, file_fault, no_memory, absent, Means}
 use Rattle.sq_driver.specs.Banks.{Writing, whole, cut_out, cut_err, BankAfter}
@@ -38,9 +39,9 @@ line_for (done out trace) = []
 line_for (refused phase its) = fault_line its
 line_for (trapped trap trace) = trap_line trap
 line_for usage = usage_line
-line_for (file_fault phase name) = line (codes "fault ") name
+line_for (file_fault phase name) = named_line (codes "fault ") name
 line_for no_memory = codes "no memory\n"
-line_for (absent phase name) = line (codes "absent ") name
+line_for (absent phase name) = named_line (codes "absent ") name
 
 -- the text for `err`
 abbrev pub err_text : Answer → List ℕ

@@ -4,10 +4,9 @@ ghost use Rattle.sq_port.specs.Ports.{Rose, Gains, GainsPrefix, Wrote};
 ghost use Rattle.sq_driver.specs.Texts.{usage_line};
 ghost use Rattle.sq_driver.specs.Ends.{status_of, end_text};
 
-use crate::lines::{put_fault, put_line, put_trap};
 use crate::status::Status;
-use crate::trap::Trap;
 use sq_port::{Failed, Sink, put_next};
+use sq_report::{Trap, put_fault, put_named, put_trap};
 use sq_text::Fault;
 
 #[derive(Drop)]
@@ -48,8 +47,8 @@ pub fn put_end<E: Sink>(err: &mut E, end: &End<'_>) -> Result<(), Failed>
 {
     match end {
         End::Usage => put_usage_line(err),
-        End::Absent(name) => put_line(err, b"absent ", name.as_bytes()),
-        End::FileFault(name) => put_line(err, b"fault ", name.as_bytes()),
+        End::Absent(name) => put_named(err, b"absent ", name.as_bytes()),
+        End::FileFault(name) => put_named(err, b"fault ", name.as_bytes()),
         End::Refused(fault) => put_fault(err, fault),
         End::Trapped(trap) => put_trap(err, trap),
         End::NoMemory => put_next(err, Ok(()), b"no memory\n"),

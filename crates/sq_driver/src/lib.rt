@@ -8,7 +8,6 @@ mod entry;
 mod eval;
 mod fmt;
 mod launch;
-mod lines;
 mod order;
 mod plan;
 mod race;
@@ -17,7 +16,6 @@ mod run;
 mod sources;
 mod status;
 mod top;
-mod trap;
 mod tree;
 mod world;
 

@@ -3,3 +3,4 @@ pub mod Figures
 pub mod Reports
 pub mod Laws
 pub mod Examples
+pub mod Answers

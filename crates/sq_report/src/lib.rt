@@ -1,7 +1,8 @@
-//! The report of a plan on a machine.
+//! The texts that commands write but the arrays: the report of a plan on a machine, and the lines of faults and traps.
 #![tactic(auto)]
 
 mod adding;
+mod answers;
 mod buffers;
 mod edges;
 pub mod laws;
@@ -10,6 +11,9 @@ mod nodes;
 mod notes;
 mod report;
 mod totals;
+mod trap;
 
+pub use answers::{put_fault, put_named, put_trap};
 pub use report::put_plan;
 pub use totals::{Totals, totals_of};
+pub use trap::{Trap, trap_at};
