@@ -11,6 +11,7 @@ use Rattle.sq_ir.specs.Plans.{AskedOfActions, IsAllowed, InBuffers, MayBePerform
 use Rattle.sq_ir.specs.declared.term.LeafView.{LeafView}
 use Rattle.sq_ir.specs.declared.term.Action.{Action}
 use Rattle.sq_ir.specs.declared.term.Action.TheVariants as action
+use Rattle.sq_placed.specs.declared.home.Homes.{Homes}
 use Rattle.sq_placed.specs.Tables.{entry_placed}
 use Rattle.sq_cells.specs.Tree.{Cause}
 use Rattle.sq_alike.specs.Alike.{MayRun}
@@ -26,7 +27,7 @@ use Rattle.sq_draft_laws.specs.Scope.{InScope}
 use Rattle.sq_draft_laws.specs.Paths.{LeavesAreSmall}
 use Rattle.sq_draft_laws.specs.Laws.{HasPath, SlotsAreInScope, PlansAreWellFormed}
 use Rattle.sq_draft_laws.proofs.Back.{joined, with_both, meets_less, scoped_all}
-use Rattle.sq_draft_laws.proofs.Moves.{Settled}
+use Rattle.sq_draft_laws.proofs.Moves.{Leveled, Settled}
 use Rattle.sq_draft_laws.proofs.Scoped.{entry_up}
 use Rattle.sq_draft_laws.proofs.Places.{near_below}
 
@@ -34,12 +35,15 @@ use Rattle.sq_draft_laws.proofs.Places.{near_below}
 abbrev Nothing : AskedOfActions
 Nothing env bs a = Unit {0}
 
+abbrev leveled_by : (ℕ → Homes) → (level : ℕ → ℕ) → Leveled
+leveled_by homes level = record { code = λ f. (homes f).code; level = level }
+
 pub slots_are_in_scope : SlotsAreInScope
 slots_are_in_scope s most bounds last nodes level_of machine bodies homes level leveled tabled roomy near first root
     here n args fits =
     let buffers = map buffer_or (homes 0).params in
     let term = entry_term bodies homes n args in
-    meets_less s (with_both Nothing (Settled s bodies)) (InScope s) (λ env bs a h. h.1.0) term at_root buffers
+    meets_less s (with_both Nothing (Settled s bodies (leveled_by homes level))) (InScope s) (λ env bs a h. h.1.0) term at_root buffers
     (entry_up s bodies homes level leveled roomy near Nothing first root n args _ fits at_root refl
     (entry_is_fine s most bounds last nodes level_of machine bodies homes level leveled tabled first here n args
     buffers))
@@ -63,13 +67,13 @@ are_near : (vs : List View) (word capacity : ℕ) → capacity ≤ word → All 
     → All (λ v. All (λ k. k < capacity) (places v)) vs → All (λ v. v.at < word) vs
 are_near vs word capacity l some inside k d m = near_below (get_or vs k d) word capacity l (some k d m) (inside k d m)
 
-module _ (s : Setting) (leaves : Leaves Cause) (bodies : ℕ → FormBody) (small : LeavesAreSmall bodies)
+module _ (s : Setting) (leaves : Leaves Cause) (bodies : ℕ → FormBody) (forms : Leveled) (small : LeavesAreSmall bodies)
     (low : (node : ℕ) → s.capacity node ≤ 2 ^ 32) where
   abbrev Runs : Event → Type 0
   Runs e = MayRun leaves e × (IsRoomy s.capacity e × HasPath e)
 
   abbrev Asked : AskedOfActions
-  Asked = with_both (RowsInside s) (Settled s bodies)
+  Asked = with_both (RowsInside s) (Settled s bodies forms)
 
   in_buffers : (env : Env) (bs : List ℕ) (a : Action) → RowsInside s env bs a → InScope s env bs a
       → InBuffers s env bs a
@@ -93,7 +97,7 @@ module _ (s : Setting) (leaves : Leaves Cause) (bodies : ℕ → FormBody) (smal
     h.1,
   )
 
-  performed : (env : Env) (bs : List ℕ) (a : Action) → Settled s bodies env bs a → Runs (event_of s env a)
+  performed : (env : Env) (bs : List ℕ) (a : Action) → Settled s bodies forms env bs a → Runs (event_of s env a)
       → MayBePerformed leaves s.capacity (event_of s env a)
   performed env bs (action.CopyRow from to bytes) h g = let r = g.1.0 h.1 in (r.0, r.1, g.0)
   performed env bs (action.FillRow to elem count value) h g = g.1.0 h.1
@@ -122,6 +126,7 @@ module _ (s : Setting) (leaves : Leaves Cause) (bodies : ℕ → FormBody) (smal
 pub plans_are_well_formed : PlansAreWellFormed
 plans_are_well_formed s leaves most bounds last nodes level_of machine bodies homes level leveled tabled roomy near
     first root here entry small low n args many fits runs inside paths =
+    let forms = leveled_by homes level in
     let buffers = map buffer_or (homes 0).params in
     let term = entry_term bodies homes n args in
     let tree = plan_tree s (entry_placed bodies homes n args) (entry_shapes bodies args) buffers in
@@ -130,8 +135,8 @@ plans_are_well_formed s leaves most bounds last nodes level_of machine bodies ho
     args fits buffers) in
     let all = all_both (MayRun leaves) (λ e. IsRoomy s.capacity e × HasPath e) tree runs
     (all_both (IsRoomy s.capacity) HasPath tree inside paths) in
-    let events = scoped_all (Runs s leaves bodies small low) 0 buffers (written s term at_root)
-    (subst (AllEvents (Runs s leaves bodies small low))
+    let events = scoped_all (Runs s leaves bodies forms small low) 0 buffers (written s term at_root)
+    (subst (AllEvents (Runs s leaves bodies forms small low))
     (sym (plans_are_written s bodies homes level leveled first root n args many)) all) in
-    joined s (Asked s leaves bodies small low) (Asked s leaves bodies small low) (IsAllowed leaves s)
-    (Runs s leaves bodies small low) (allowed s leaves bodies small low) term at_root buffers both both events
+    joined s (Asked s leaves bodies forms small low) (Asked s leaves bodies forms small low) (IsAllowed leaves s)
+    (Runs s leaves bodies forms small low) (allowed s leaves bodies forms small low) term at_root buffers both both events

@@ -19,4 +19,6 @@ pub mod Near
 pub mod Paths
 pub mod Places
 pub mod Formed
+pub mod AtNodes
+pub mod AtLevels
 pub mod ExampleFormed

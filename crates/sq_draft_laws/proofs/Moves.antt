@@ -45,22 +45,30 @@ use Rattle.sq_draft_laws.proofs.Rising.{Rises, AllRise, rise_skip, rise_act, ris
 
 -- ---- what is asked of actions
 
--- a leaf's views are no more than the arrays of its form
-pub record IsLeafOf (bodies : ℕ → FormBody) (views : List LeafView) : Type 0 where
-  pub form : ℕ
-  pub leaf : LeafSource
-  pub is : (bodies form).body ≡ body.Leaf leaf
-  pub few : length views ≤ length (bodies form).arrays
+-- of each form the number of its code and its level
+pub record Leveled : Type 0 where
+  pub code : ℕ → ℕ
+  pub level : ℕ → ℕ
+
+-- A leaf is a form, of the level in force, with the number of its code; its views are no more than the form's arrays.
+pub record IsLeafOf (bodies : ℕ → FormBody) (forms : Leveled) (env : Env) (code : ℕ) (views : List LeafView) : Type 0
+  where
+    pub form : ℕ
+    pub leaf : LeafSource
+    pub is : (bodies form).body ≡ body.Leaf leaf
+    pub code_is : forms.code form ≡ code
+    pub level_is : env.level ≡ forms.level form
+    pub few : length views ≤ length (bodies form).arrays
 
 -- a row has bytes
-abbrev pub HasBytes : (ℕ → FormBody) → Action → Type 0
-HasBytes bodies (action.CopyRow from to bytes) = 0 < bytes
-HasBytes bodies (action.FillRow to elem count value) = 0 < count * width elem
-HasBytes bodies (action.AccRow op elem from to count) = 0 < count * width elem
-HasBytes bodies (action.Leaf code views path) = IsLeafOf bodies views
+abbrev pub HasBytes : (ℕ → FormBody) → Leveled → Env → Action → Type 0
+HasBytes bodies forms env (action.CopyRow from to bytes) = 0 < bytes
+HasBytes bodies forms env (action.FillRow to elem count value) = 0 < count * width elem
+HasBytes bodies forms env (action.AccRow op elem from to count) = 0 < count * width elem
+HasBytes bodies forms env (action.Leaf code views path) = IsLeafOf bodies forms env code views
 
-abbrev pub Settled : Setting → (ℕ → FormBody) → AskedOfActions
-Settled s bodies env bs a = InScope s env bs a × HasBytes bodies a
+abbrev pub Settled : Setting → (ℕ → FormBody) → Leveled → AskedOfActions
+Settled s bodies forms env bs a = InScope s env bs a × HasBytes bodies forms env a
 
 -- ---- views
 
@@ -100,17 +108,17 @@ some_turned Long k h = omega (arith, h)
 
 -- ---- rows that are copied, filled and accumulated
 
-module _ (s : Setting) (bodies : ℕ → FormBody) (P : AskedOfActions) (level : ℕ) (bs : List ℕ) where
+module _ (s : Setting) (bodies : ℕ → FormBody) (forms : Leveled) (P : AskedOfActions) (level : ℕ) (bs : List ℕ) where
   abbrev Up : Term → Type 0
-  Up x = Rises s P (with_both P (Settled s bodies)) level bs x
+  Up x = Rises s P (with_both P (Settled s bodies forms)) level bs x
 
-  rows_up : (extents : List ℕ) (a : Action) → ((env : Env) → Settled s bodies env bs a) → Up (by_rows extents a)
-  rows_up extents a f = rise_loop s P (with_both P (Settled s bodies)) level bs (n.Const (pos (rows_of extents)))
+  rows_up : (extents : List ℕ) (a : Action) → ((env : Env) → Settled s bodies forms env bs a) → Up (by_rows extents a)
+  rows_up extents a f = rise_loop s P (with_both P (Settled s bodies forms)) level bs (n.Const (pos (rows_of extents)))
       (term.Act a)
-      (rise_act s P (with_both P (Settled s bodies)) level bs a (λ env is h. (h, f env)))
+      (rise_act s P (with_both P (Settled s bodies forms)) level bs a (λ env is h. (h, f env)))
 
   skip_up : Up term.Skip
-  skip_up = rise_skip s P (with_both P (Settled s bodies)) level bs
+  skip_up = rise_skip s P (with_both P (Settled s bodies forms)) level bs
 
   copy_up : (v a b : LeafView) → 0 < last_of v.extents → Contains bs a.slot.buffer → Contains bs b.slot.buffer
       → Up (copy_term v a b)
@@ -124,7 +132,7 @@ module _ (s : Setting) (bodies : ℕ → FormBody) (P : AskedOfActions) (level :
   add_up op v a b some h g = rows_up v.extents _ (λ env. ((h, g), some_turned v.elem (last_of v.extents) some))
 
   if_up : (b : Bool) (x : Term) → Up x → Up (if b then x else term.Skip)
-  if_up b x h = rise_if s P (with_both P (Settled s bodies)) level bs b x h
+  if_up b x h = rise_if s P (with_both P (Settled s bodies forms)) level bs b x h
 
   module _ (m : Move) (h : IsMoved s level bs m) where
     come : Up (copy_in_term m)
@@ -153,14 +161,14 @@ module _ (s : Setting) (bodies : ℕ → FormBody) (P : AskedOfActions) (level :
 
   -- of each parameter
   pub moves_up : (f : Move → Term) → ((m : Move) → IsMoved s level bs m → Up (f m)) → (ms : List Move)
-      → Every (IsMoved s level bs) ms → AllRise s P (with_both P (Settled s bodies)) level bs (map f ms)
+      → Every (IsMoved s level bs) ms → AllRise s P (with_both P (Settled s bodies forms)) level bs (map f ms)
   moves_up f h [] g = tt
   moves_up f h (m ∷ ms) g = (h m g.0, moves_up f h ms g.1)
 
   -- the fills of locals
   pub clears_up : (shapes : List Shape) (locals : List ℕ) → AreWhole shapes → LocalsOf s level locals
       → Among (local_buffers (placed_locals shapes locals)) bs
-      → AllRise s P (with_both P (Settled s bodies)) level bs
+      → AllRise s P (with_both P (Settled s bodies forms)) level bs
       (map (λ k. clear_term (local_view k)) (placed_locals shapes locals))
   clears_up [] locals w o there = tt
   clears_up (x ∷ shapes) [] w o there = tt

@@ -57,7 +57,7 @@ use Rattle.sq_draft_laws.proofs.Every.{every_less, arms_every, Among, among_left
 use Rattle.sq_draft_laws.proofs.Every.{later_there}
 use Rattle.sq_draft_laws.proofs.Rising.{level_in, Rises, AllRise, rise_skip, rise_act, rise_seq, rise_par, rise_loop}
 use Rattle.sq_draft_laws.proofs.Rising.{rise_spread, rise_case, rise_within}
-use Rattle.sq_draft_laws.proofs.Moves.{Settled, IsHere, IsMoved, bring_up, back_up, moves_up, clears_up}
+use Rattle.sq_draft_laws.proofs.Moves.{Leveled, Settled, IsHere, IsMoved, bring_up, back_up, moves_up, clears_up}
 use Rattle.sq_draft_laws.proofs.Moves.{moves_here, moves_len, locals_here, locals_len}
 
 -- ---- lists
@@ -149,8 +149,11 @@ in_turn s level count bs c spread k starts h = go spread
 module _ (s : Setting) (bodies : ℕ → FormBody) (homes : ℕ → Homes) (level : ℕ → ℕ)
     (leveled : AreLeveled s bodies homes level) (roomy : AreRoomy s bodies homes) (near : HomesAreNear bodies homes)
     (P : AskedOfActions) where
+  abbrev pub forms : Leveled
+  forms = record { code = λ f. (homes f).code; level = level }
+
   abbrev Q : AskedOfActions
-  Q = with_both P (Settled s bodies)
+  Q = with_both P (Settled s bodies forms)
 
   abbrev pub Up : ℕ → List ℕ → Term → Type 0
   Up at bs x = Rises s P Q at bs x
@@ -213,12 +216,12 @@ module _ (s : Setting) (bodies : ℕ → FormBody) (homes : ℕ → Homes) (leve
         ∷ []))) (sym (inner lower))
         (rise_seq s P Q to outside _ (
           rise_par s P Q to outside _
-              (moves_up s bodies P to outside bring_term (bring_up s bodies P to outside) ms moved),
+              (moves_up s bodies forms P to outside bring_term (bring_up s bodies forms P to outside) ms moved),
           (
             rise_within s P Q to outside None (local_buffers ks) _
                 (rise_seq s P Q to inside _ (
                   rise_par s P Q to inside _
-                      (clears_up s bodies P to inside rest (homes arm.form).locals whole locals (among_left _ _)),
+                      (clears_up s bodies forms P to inside rest (homes arm.form).locals whole locals (among_left _ _)),
                   (
                     subst (λ (l : ℕ). Up l inside (made arm.form (in_callee c ms ks))) deep
                         (callees arm.form (in_callee c ms ks) inside (subst (λ (l : ℕ). IsIn s l
@@ -228,7 +231,7 @@ module _ (s : Setting) (bodies : ℕ → FormBody) (homes : ℕ → Homes) (leve
                 )),
             (
               rise_par s P Q to outside _
-                  (moves_up s bodies P to outside back_term (back_up s bodies P to outside) ms moved),
+                  (moves_up s bodies forms P to outside back_term (back_up s bodies forms P to outside) ms moved),
               tt,
             ),
           ),
@@ -446,7 +449,7 @@ module _ (s : Setting) (bodies : ℕ → FormBody) (homes : ℕ → Homes) (leve
             every_all (IsSeen s env bs) c.views
                 (every_less (IsHere s (level f) bs) (IsSeen s env bs)
                 (λ v g. record { scope = g.scope; level = g.level_is ∙ sym is }) c.views h.views),
-            record { form = f; leaf = code; is = e; few = h.few },
+            record { form = f; leaf = code; is = e; code_is = refl; level_is = is; few = h.few },
           ),
         ))
 

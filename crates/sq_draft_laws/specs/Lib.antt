@@ -5,3 +5,4 @@ pub mod Short
 pub mod Scope
 pub mod Paths
 pub mod Laws
+pub mod AtLevels

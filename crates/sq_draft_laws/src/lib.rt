@@ -2,6 +2,7 @@
 //! of a program's entry, as a plan, is well formed: what its actions name is in scope, and each event may be performed.
 #![tactic(auto)]
 
+ghost use Rattle.sq_draft_laws.specs.AtLevels.{LeavesAreAtLevels};
 ghost use Rattle.sq_draft_laws.specs.Laws.{SlotsAreInScope, FormsAreNear, PathsAreShort, PlansAreWellFormed};
 
 pub mod laws;
@@ -24,4 +25,9 @@ pub fn paths_are_short()
 /// Where its events may run, lie inside their nodes and have such paths, the entry's term is well formed.
 pub fn plans_are_well_formed()
     ensures { PlansAreWellFormed }
+{}
+
+/// Each leaf event calls a form that is a leaf, at a node of the form's level.
+pub fn leaves_are_at_levels()
+    ensures { LeavesAreAtLevels }
 {}

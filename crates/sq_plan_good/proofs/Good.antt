@@ -67,6 +67,7 @@ use Rattle.sq_forms_fit.specs.Entry.{EntryFacts, EntriesSit, EntriesArePlans, En
 use Rattle.sq_forms_fit.specs.Entry.{entry_shapes, anything}
 use Rattle.sq_forms_fit.specs.LeafCalls.{CallsAreOfTables, form_calls}
 use Rattle.sq_forms_fit.specs.Written.{PlansAreWritten}
+use Rattle.sq_draft_laws.specs.AtLevels.{IsAtLevel}
 use Rattle.sq_draft_laws.specs.Laws.{FormsAreNear, PathsAreShort, PlansAreWellFormed, HasPath}
 use Rattle.sq_draft_laws.specs.Scope.{HomesAreNear}
 use Rattle.sq_store.specs.Place.{IsPlaced}
@@ -87,7 +88,8 @@ use Rattle.sq_draft_laws.specs.Leaves.{LeavesOfDraftsStand}
 use Rattle.sq_draft_laws.specs.Opened.{WalkedIsThere}
 use Rattle.sq_draft_laws.specs.Short.{LeavesAreShort, AreShort, round_of}
 use Rattle.sq_plan_good.specs.Parts.{Placing, Laws}
-use Rattle.sq_plan_good.specs.Good.{HasNoRace, shapes_in, IsInput, EndsAsMeant, HasLeafCalls, IsGoodFor}
+use Rattle.sq_plan_good.specs.Good.{HasNoRace, shapes_in, IsInput, EndsAsMeant, HasLeafCalls, LeavesAreAtHome}
+use Rattle.sq_plan_good.specs.Good.{IsGoodFor}
 use Rattle.sq_plan_good.specs.Good.{DraftsCanBePlaced, PlacedAreGood}
 use Rattle.sq_plan_good.proofs.SimpleHomes.{homes_are_simple}
 
@@ -397,8 +399,22 @@ module _ (placing : Placing) (r : Resolved) (choices : List Choice) (simple : Ar
       calls f = ap (leaf_count f) tree_is ∙ (laws.counted s leaves outer entry anything x is_plan f
           ∙ laws.calls bodies homes f n 0 [])
 
+      at_home : LeavesAreAtHome r choices p
+      at_home = subst (λ (t : Term). AllEvents (IsAtLevel bodies homes (level_at r) (λ k. (node_at nodes k).level))
+          (scoped 0 entry (written s t at_root))) (sym term_is)
+          (laws.at_levels s limits machine.bounds last.last (length nodes) (λ k. (node_at nodes k).level) machine.machine
+          bodies homes (level_at r) leveled tabled roomy.roomy near begins.entry begins.buffer machine.root n args
+          roomy.row)
+
       all_good : IsGoodFor r choices nodes p
-      all_good = record { draft_ = is_draft; nodes_ = refl; good = good; ends = ends; calls = calls }
+      all_good = record {
+        draft_ = is_draft;
+        nodes_ = refl;
+        good = good;
+        ends = ends;
+        calls = calls;
+        at_home = at_home;
+      }
 
 -- ---- any draft
 

@@ -11,7 +11,8 @@ use Rattle.sq_spec.specs.Works.{work_of, flat}
 use Rattle.sq_ir.specs.Runs.{exec}
 use Rattle.sq_ir.specs.Events as events
 use Rattle.sq_ir.specs.Events.{Bytes}
-use Rattle.sq_ir.specs.Plans.{setting_of, tree_of, IsGood}
+use Rattle.sq_ir.specs.Unordered.{AllEvents}
+use Rattle.sq_ir.specs.Plans.{setting_of, node_at, tree_of, IsGood}
 use Rattle.sq_ir.specs.DraftLeaves as draft
 use Rattle.sq_ir.specs.declared.plan.Draft.{Draft}
 use Rattle.sq_ir.specs.declared.plan.Plan.{Plan}
@@ -27,7 +28,9 @@ use Rattle.sq_nests.specs.Drafts.{IsPlaceable}
 use Rattle.sq_store.specs.Place.{IsPlaced}
 use Rattle.sq_homes.specs.declared.choice.Choice.{Choice}
 use Rattle.sq_homes.specs.Drafts.{bodies_of, homes_of, args_of, IsDraftOf}
+use Rattle.sq_homes_laws.specs.Given.{level_at}
 use Rattle.sq_homes_laws.specs.Simple.{AreSimple, AreMemories}
+use Rattle.sq_draft_laws.specs.AtLevels.{IsAtLevel}
 
 -- no two iterations of its maps race
 abbrev pub HasNoRace : Resolved → Type 0
@@ -60,6 +63,13 @@ HasLeafCalls r choices p = (f : Weight) → leaf_count f (tree_of p)
     ≡ form_calls (body_in (bodies_of r)) (λ form path. f (homes_in (homes_of r choices) form).code path)
     (length (bodies_of r)) 0 []
 
+-- Each leaf event calls a form that is a leaf: it has the number of that form's code, and its node is of the form's
+-- level.
+abbrev pub LeavesAreAtHome : Resolved → List Choice → Plan → Type 0
+LeavesAreAtHome r choices p = AllEvents
+    (IsAtLevel (body_in (bodies_of r)) (homes_in (homes_of r choices)) (level_at r) (λ n. (node_at p.nodes n).level))
+    (tree_of p)
+
 -- ---- the whole
 
 -- The plan of a program under these choices, in these memories: it is well formed, its unordered events are
@@ -70,6 +80,7 @@ pub record IsGoodFor (r : Resolved) (choices : List Choice) (nodes : List PlanNo
   pub good : IsGood (draft.leaves_of p.draft) p
   pub ends : EndsAsMeant r p
   pub calls : HasLeafCalls r choices p
+  pub at_home : LeavesAreAtHome r choices p
 
 -- A draft of a program in which nothing leaves a loop and no loop overlaps its transfers can be placed.
 abbrev pub DraftsCanBePlaced : Type 0

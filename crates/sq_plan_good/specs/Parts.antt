@@ -9,6 +9,7 @@ use Rattle.sq_plan_room.specs.Rooms.{RoomIsStowed}
 use Rattle.sq_forms_fit.specs.Entry.{EntriesSit, EntriesArePlans, EntriesFollow}
 use Rattle.sq_forms_fit.specs.LeafCalls.{CallsAreOfTables}
 use Rattle.sq_forms_fit.specs.Written.{PlansAreWritten}
+use Rattle.sq_draft_laws.specs.AtLevels.{LeavesAreAtLevels}
 use Rattle.sq_draft_laws.specs.Laws.{FormsAreNear, PathsAreShort, PlansAreWellFormed}
 use Rattle.sq_store.specs.Laws.{OffsetsAreAsMany}
 use Rattle.sq_homes_laws.specs.Given.{HomesAreLeveled}
@@ -57,6 +58,7 @@ pub record Laws : Type 0 where
   pub near : FormsAreNear
   pub paths : PathsAreShort
   pub formed : PlansAreWellFormed
+  pub at_levels : LeavesAreAtLevels
   pub many : OffsetsAreAsMany
   pub serial : RaceFreeIsSerial
   pub means : TablesMeanProgram

@@ -6,7 +6,7 @@ ghost use Rattle.sq_plan_good.specs.Good.{DraftsCanBePlaced, PlacedAreGood};
 use sq_draft_laws::laws::{
     leaves_are_short, leaves_of_drafts_stand, resolved_programs_were_walked,
 };
-use sq_draft_laws::{forms_are_near, paths_are_short, plans_are_well_formed};
+use sq_draft_laws::{forms_are_near, leaves_are_at_levels, paths_are_short, plans_are_well_formed};
 use sq_forms_fit::{
     calls_are_of_tables, entries_are_plans, entries_follow, entries_sit, plans_are_written,
     programs_fit,
@@ -66,6 +66,7 @@ pub fn simple_plans_are_good()
     forms_are_near();
     paths_are_short();
     plans_are_well_formed();
+    leaves_are_at_levels();
     the_walk_lays_buffers();
     race_free_maps_are_serial();
     tables_mean_the_program();

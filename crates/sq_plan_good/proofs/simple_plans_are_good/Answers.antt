@@ -33,6 +33,7 @@ returns c = placed_are_good (record {
   near = c.forms_are_near.ensures;
   paths = c.paths_are_short.ensures;
   formed = c.plans_are_well_formed.ensures;
+  at_levels = c.leaves_are_at_levels.ensures;
   many = c.the_walk_lays_buffers.ensures.many;
   serial = c.race_free_maps_are_serial.ensures;
   means = c.tables_mean_the_program.ensures;
