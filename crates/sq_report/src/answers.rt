@@ -8,6 +8,7 @@ ghost use Rattle.sq_report.specs.Answers as answers;
 
 use crate::adding::{add, add_field, add_number, add_place, add_spaced};
 use crate::trap::{Trap, kind_word};
+use sq_leaf::TrapKind;
 use sq_port::{Failed, Line, Sink};
 use sq_text::{Arg, Fault, Place, Span};
 
@@ -111,12 +112,19 @@ fn add_path<S: Sink>(line: &mut Line, sink: &mut S, path: &[u32])
     }
 }
 
+fn add_kind<S: Sink>(line: &mut Line, sink: &mut S, kind: TrapKind)
+    ensures { Adds (S.written sink.old) (S.written sink.new) (S.faults sink.old) (S.faults sink.new) line.old line.new
+        (answers.trapped_text kind) }
+{
+    add(line, sink, b"trapped ");
+    add(line, sink, kind_word(kind));
+}
+
 fn add_trap<S: Sink>(line: &mut Line, sink: &mut S, trap: &Trap)
     ensures { Adds (S.written sink.old) (S.written sink.new) (S.faults sink.old) (S.faults sink.new) line.old line.new
         (answers.trap_line trap.now) }
 {
-    add(line, sink, b"trapped ");
-    add(line, sink, kind_word(trap.kind));
+    add_kind(line, sink, trap.kind);
     add(line, sink, b" ");
     add_place(line, sink, trap.place);
     add(line, sink, b" path ");
