@@ -26,7 +26,7 @@ use Rattle.sq_spec.proofs.OpenedStatement.{table_of_call, table_of_map}
 use Rattle.sq_spec.proofs.Rows.{row_kept, rows_kept, begun_before, get_or_map, inner_at}
 use Rattle.sq_spec.proofs.TablesMean.{turn, iteration_points_deeper, first_start}
 use Rattle.sq_term_fit.specs.Fits.{Bounds, AskedOfStatement, HaveCounts, all_parts, Tabled}
-use Rattle.sq_term_fit.proofs.Meeting.{tabled_call, tabled_map}
+use Rattle.sq_term_fit.proofs.Chains.{tabled_call, tabled_map}
 use Rattle.sq_begun.specs.Begun.{Nest, joined, nests_step, nests_of, times_begun, AreFew, IsServed, TablesAreBegun}
 
 -- ---- lists

@@ -10,12 +10,11 @@ use Rattle.sq_spec.specs.declared.statement.Statement.{Statement, roll-Statement
 use Rattle.sq_spec.specs.declared.statement.Statement.TheVariants as b
 use Rattle.sq_spec.specs.declared.statement.Statement.TheOpen.{Statement-F}
 use Rattle.sq_spec.specs.declared.statement.Statement.TheFolds.{ind-Statement, map-Statement}
-use Rattle.sq_rooms.specs.Fitting.{statements}
-use Rattle.sq_rooms.specs.Lowers.{any_of, lower_in}
+use Rattle.sq_rooms.specs.Lowers.{statements, any_of, lower_in}
 use Rattle.sq_rooms.specs.Orders.{EachOf}
 use Rattle.sq_rooms.proofs.LowersOpened.{lower_call, lower_map}
 use Rattle.sq_term_fit.specs.Fits.{Bounds, AskedOfStatement, all_parts, Tabled, TabledBody}
-use Rattle.sq_term_fit.proofs.Meeting.{tabled_call, tabled_map}
+use Rattle.sq_term_fit.proofs.Chains.{tabled_call, tabled_map}
 use Rattle.sq_begun.specs.Lower.{LowerStandAbove}
 
 either : (u v : Bool) → (u || v) ≡ true → (u ≡ true) ⊎ (v ≡ true)

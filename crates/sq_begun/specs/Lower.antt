@@ -1,8 +1,7 @@
 -- Where lower calls stand.
 use Rattle.std.specs.Prelude.{◌≡◌, ℕ, suc, ◌<◌, true}
 use Rattle.sq_spec.specs.declared.body.Body.{Body}
-use Rattle.sq_rooms.specs.Fitting.{statements}
-use Rattle.sq_rooms.specs.Lowers.{lower_in}
+use Rattle.sq_rooms.specs.Lowers.{statements, lower_in}
 use Rattle.sq_rooms.specs.Orders.{EachOf}
 use Rattle.sq_term_fit.specs.Fits.{Bounds, TabledBody}
 

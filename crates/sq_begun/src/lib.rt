@@ -3,7 +3,6 @@
 
 ghost use Rattle.sq_begun.specs.Begun.{TablesAreBegun};
 ghost use Rattle.sq_begun.specs.Few.{RunsAreFew};
-ghost use Rattle.sq_begun.specs.Begins.{TabledBegin};
 ghost use Rattle.sq_begun.specs.Lower.{LowerStandAbove};
 ghost use Rattle.sq_begun.specs.Programs.{ProgramsAreTabled};
 
@@ -20,11 +19,6 @@ pub fn runs_are_few()
 /// Of a program without a fault, under a mapping that was read with it, the tables of all forms are as asked.
 pub fn programs_are_tabled()
     ensures { ProgramsAreTabled }
-{}
-
-/// Tables as a built term asks are begun as placing asks.
-pub fn tabled_begin()
-    ensures { TabledBegin }
 {}
 
 /// A lower call in them stands above the last level, whether it is begun or not.

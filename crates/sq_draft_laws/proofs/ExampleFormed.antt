@@ -1,4 +1,4 @@
--- Tables and homes that are as asked: a `mapseq` of two lower calls of a leaf.
+-- Tables and homes that are as asked: a `mapseq` of two lower calls of a leaf, which their argument leaves.
 use Rattle.std.proofs.Common.{◌≡◌, ℕ, zero, suc, ◌+◌, ◌≤◌, true, List, [], ◌∷◌, length, get_or, slice_get}
 use Rattle.std.proofs.Common.{Some, None, sym, false, ◌<◌, Option, subst, arith, ap, ◌∙◌, ◌++◌}
 use Rattle.sq_text.specs.declared.place.Place.{Place}
@@ -15,14 +15,15 @@ use Rattle.sq_spec.specs.declared.body.FormBody.{FormBody}
 use Rattle.sq_spec.specs.Bodies.{no_body}
 use Rattle.sq_spec_laws.specs.TableRows.{Table, tables_in}
 use Rattle.sq_work.specs.declared.reduction.Reduction.{Reduction}
-use Rattle.sq_placed.specs.declared.home.Home.TheVariants.{InPlace, Own}
+use Rattle.sq_placed.specs.declared.home.Home.TheVariants.{InPlace, Own, Held}
 use Rattle.sq_placed.specs.declared.home.Homes.{Homes}
 use Rattle.sq_plan_laws.specs.Seated.{IsNear}
-use Rattle.sq_plan_room.specs.Buffers.{IsSimple}
-use Rattle.sq_draft_laws.specs.Scope.{HomesAreNear}
+use Rattle.sq_draft_laws.specs.Scope.{IsSingle, HomesAreNear}
 use Rattle.sq_draft_laws.specs.Paths.{Nested, nested_of, PathsFit, LeavesAreSmall}
 use Rattle.sq_draft_laws.proofs.Every.{Every, every_at}
-use Rattle.sq_draft_laws.proofs.Scoped.{tables_call, tables_map}
+use Rattle.sq_rooms.specs.Orders.{EachOf, Round, rounds_of}
+use Rattle.sq_rooms.specs.Held.{IsHeldRow, AreHeldRows, AreHeldInside}
+use Rattle.sq_draft_laws.proofs.Scoped.{tables_call, tables_map, rounds_call, rounds_map}
 use Rattle.sq_draft_laws.proofs.Paths.{RowsFit, nested_call, nested_map}
 
 module _ (place : Place) (leaf : LeafSource) (x : Shape) (a : Argument) where
@@ -40,9 +41,10 @@ module _ (place : Place) (leaf : LeafSource) (x : Shape) (a : Argument) where
   bodies (suc zero) = record { arrays = x ∷ []; body = body.Leaf leaf }
   bodies (suc (suc k)) = no_body
 
-  -- each array in a buffer of its own
+  -- each array in a buffer of its own, the leaf's round the loop
   abbrev homes : ℕ → Homes
-  homes k = record { rule = Cyclic; code = 0; params = Own k ∷ []; locals = []; overlaps = false }
+  homes zero = record { rule = Cyclic; code = 0; params = Own 0 ∷ []; locals = []; overlaps = false }
+  homes (suc k) = record { rule = Cyclic; code = 0; params = Held 1 1 ∷ []; locals = []; overlaps = false }
 
   -- one map stands round the leaf
   abbrev round : ℕ → ℕ
@@ -88,16 +90,46 @@ module _ (place : Place) (leaf : LeafSource) (x : Shape) (a : Argument) where
       → IsNear t.lower (get_or (homes r.form).params k InPlace)) t.times
 
   -- the one argument's home
-  first : (k : ℕ) → k < 1 → IsNear true (get_or (Own 1 ∷ []) k InPlace)
+  first : (k : ℕ) → k < 1 → IsNear true (get_or (Held 1 1 ∷ []) k InPlace)
   first zero l = tt
   first (suc k) l = absurd (omega (arith, l))
 
+  -- ---- the loop that it leaves
+
+  rounds : rounds_of (bodies 0).body ≡ record { loops = 1; rows = row ∷ row ∷ [] } ∷ []
+  rounds = ap (λ (f : ℕ → List Round). f 0 ++ [])
+      (rounds_map place loop_kind.Sequential (2 ∷ []) (0 ∷ []) (call ∷ []))
+      ∙ ap (λ (f : ℕ → List Round). f 1 ++ []) (rounds_call true (row ∷ row ∷ []))
+
+  one_loop : (i b n : ℕ) → get_or (Held 1 1 ∷ []) i InPlace ≡ Held b n → n ≡ 1
+  one_loop zero b n e = cc
+  one_loop (suc i) b n e = absurd (cc e)
+
+  one_form : (j : ℕ) (q : CallInstance) → slice_get (row ∷ row ∷ []) j ≡ Some q → q.form ≡ 1
+  one_form zero q e = let same : row ≡ q = cc e in sym (ap (λ (r : CallInstance). r.form) same)
+  one_form (suc zero) q e = let same : row ≡ q = cc e in sym (ap (λ (r : CallInstance). r.form) same)
+  one_form (suc (suc j)) q e = absurd (cc e)
+
+  held_row : IsHeldRow homes (record { loops = 1; rows = row ∷ row ∷ [] }) row
+  held_row = record {
+    some = λ i b n e. let x = one_loop i b n e in omega (arith, x);
+    round = λ i b n e. let x = one_loop i b n e in omega (arith, x);
+    one = λ i b n e j q there. one_form j q there;
+  }
+
+  held_inside : AreHeldInside bodies homes
+  held_inside zero = subst (EachOf (AreHeldRows homes)) (sym rounds) ((held_row, (held_row, tt)), tt)
+  held_inside (suc zero) = tt
+  held_inside (suc (suc k)) = tt
+
   are_near : HomesAreNear bodies homes
-  are_near = record { simple = simple; near = near }
+  are_near = record { single = single; near = near; held = held_inside }
     where
-      simple : (f i : ℕ) → IsSimple (get_or (homes f).params i InPlace)
-      simple f zero = tt
-      simple f (suc i) = tt
+      single : (f i : ℕ) → IsSingle (get_or (homes f).params i InPlace)
+      single zero zero = tt
+      single zero (suc i) = tt
+      single (suc f) zero = tt
+      single (suc f) (suc i) = tt
 
       near : (f : ℕ) (list : List Statement) → (bodies f).body ≡ body.Inner list → (i : ℕ) (t : Table)
           → slice_get (tables_in list None) i ≡ Some t → (j : ℕ) (r : CallInstance) → slice_get t.times j ≡ Some r

@@ -249,7 +249,7 @@ is_leaf_of d number leaf at = record {
 }
 
 pub leaves_of_drafts_stand : BodiesAreTables → VariantsCompile → LinesCanRun → LeavesOfDraftsStand
-leaves_of_drafts_stand tables compile lines r walked choices simple d draft k leaf h =
+leaves_of_drafts_stand tables compile lines r walked choices d draft k leaf h =
     let f = leaf_form r walked k leaf h in
     let c = coded r choices 0 0 0 (drafts.bodies_of r) k leaf
     (ap (λ (b : FormBody). b.body) (tables r k) ∙ h) in

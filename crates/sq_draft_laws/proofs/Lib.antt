@@ -14,6 +14,7 @@ pub mod Back
 pub mod Every
 pub mod Rising
 pub mod Moves
+pub mod Holding
 pub mod Scoped
 pub mod Near
 pub mod Paths

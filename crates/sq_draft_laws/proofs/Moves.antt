@@ -33,12 +33,12 @@ use Rattle.sq_term.specs.declared.context.Context.{Context}
 use Rattle.sq_term.specs.declared.context.Move.{Move}
 use Rattle.sq_term.specs.Terms.{by_rows, copy_term, fill_term, add_term, clear_term, copy_in_term, copy_out_term}
 use Rattle.sq_term.specs.Terms.{bring_term_by, bring_term, back_term_by, back_term, local_view, offsets, block_view}
-use Rattle.sq_term.specs.Terms.{own_view, move_of, moves_from, buffers_from}
+use Rattle.sq_term.specs.Terms.{own_view, move_of, moves_from, buffers_from, hold_in_term_by, hold_in_term}
+use Rattle.sq_term.specs.Terms.{hold_out_term_by, hold_out_term}
 use Rattle.sq_term.specs.Stands.{IsOf, LocalsOf, below}
 use Rattle.sq_term_fit.specs.Rooms.{IsWhole, AreWhole}
 use Rattle.sq_plan_laws.specs.Seated.{IsNear}
-use Rattle.sq_plan_room.specs.Buffers.{IsSimple}
-use Rattle.sq_draft_laws.specs.Scope.{InScope}
+use Rattle.sq_draft_laws.specs.Scope.{InScope, IsSingle}
 use Rattle.sq_draft_laws.proofs.Back.{with_both}
 use Rattle.sq_draft_laws.proofs.Every.{Every, Among, first_there, later_there}
 use Rattle.sq_draft_laws.proofs.Rising.{Rises, AllRise, rise_skip, rise_act, rise_loop, rise_if}
@@ -159,6 +159,23 @@ module _ (s : Setting) (bodies : ℕ → FormBody) (forms : Leveled) (P : AskedO
         go None Output = if_up (is_moved m.home) (copy_out_term m) back
         go None Both = if_up (is_moved m.home) (copy_out_term m) back
 
+    -- round a loop that it leaves
+    pub hold_in_up : Up (hold_in_term m)
+    hold_in_up = go m.mode
+      where
+        go : (k : Mode) → Up (hold_in_term_by k m)
+        go Input = come
+        go Output = skip_up
+        go Both = come
+
+    pub hold_out_up : Up (hold_out_term m)
+    hold_out_up = go m.mode
+      where
+        go : (k : Mode) → Up (hold_out_term_by k m)
+        go Input = skip_up
+        go Output = back
+        go Both = back
+
   -- of each parameter
   pub moves_up : (f : Move → Term) → ((m : Move) → IsMoved s level bs m → Up (f m)) → (ms : List Move)
       → Every (IsMoved s level bs) ms → AllRise s P (with_both P (Settled s bodies forms)) level bs (map f ms)
@@ -181,7 +198,7 @@ module _ (s : Setting) (bodies : ℕ → FormBody) (forms : Leveled) (P : AskedO
 
 -- ---- the arguments of a call
 
-extents_own : (shape : Shape) (h : Home) (v : LeafView) → v.extents ≡ shape.extents → (own_view shape h v).extents
+pub extents_own : (shape : Shape) (h : Home) (v : LeafView) → v.extents ≡ shape.extents → (own_view shape h v).extents
     ≡ shape.extents
 extents_own shape InPlace v e = e
 extents_own shape (Own b) v e = refl
@@ -195,27 +212,31 @@ more_there (Held x loops) bs b g = g
 more_there (Twin x y) bs b g = g
 
 module _ (s : Setting) (lower : Bool) (at : ℕ) (bs inner : List ℕ) (wider : Among bs inner) where
-  own_here : (shape : Shape) (h : Home) → IsSimple h → IsNear lower h → IsOf s (below lower at) h
-      → ((b : ℕ) → h ≡ Own b → Contains inner b) → (v : LeafView) → IsHere s at bs v
-      → IsHere s (below lower at) inner (own_view shape h v)
-  own_here shape InPlace simple near of there v here = record {
+  own_here : (shape : Shape) (h : Home) → IsSingle h → IsNear lower h → IsOf s (below lower at) h
+      → ((b : ℕ) → h ≡ Own b → Contains inner b) → ((b loops : ℕ) → h ≡ Held b loops → Contains inner b)
+      → (v : LeafView) → IsHere s at bs v → IsHere s (below lower at) inner (own_view shape h v)
+  own_here shape InPlace single near of there held v here = record {
     scope = wider v.slot.buffer here.scope;
     level_is = here.level_is ∙ ap (λ z. below z at) (sym near);
   }
-  own_here shape (Own b) simple near of there v here = record { scope = there b refl; level_is = of }
-  own_here shape (Held b loops) simple near of there v here = absurd simple
-  own_here shape (Twin b c) simple near of there v here = absurd simple
+  own_here shape (Own b) single near of there held v here = record { scope = there b refl; level_is = of }
+  own_here shape (Held b loops) single near of there held v here
+      = record { scope = held b loops refl; level_is = of }
+  own_here shape (Twin b c) single near of there held v here = absurd single
 
   pub moves_here : (op : Option RedOp) (shapes : List Shape) (hs : List Home) (c : Context) (times : List CallInstance)
-      → AreWhole shapes → ((j : ℕ) → IsSimple (get_or hs j InPlace))
+      → AreWhole shapes → ((j : ℕ) → IsSingle (get_or hs j InPlace))
       → ((j : ℕ) → IsOf s (below lower at) (get_or hs j InPlace)) → Every (IsHere s at bs) c.views
       → (i : ℕ) (args : List Argument)
-      → ((j : ℕ) → j < i + length args → IsNear lower (get_or hs j InPlace)) → Among (buffers_from hs i args) inner
+      → ((j : ℕ) → j < i + length args → IsNear lower (get_or hs j InPlace))
+      → ((j b loops : ℕ) → j < i + length args → get_or hs j InPlace ≡ Held b loops → Contains inner b)
+      → Among (buffers_from hs i args) inner
       → Every (IsMoved s (below lower at) inner) (moves_from op shapes hs c times i args)
-  moves_here op shapes hs c times w simple of views i [] near there = tt
-  moves_here op shapes hs c times w simple of views i (a ∷ rest) near there =
+  moves_here op shapes hs c times w single of views i [] near held there = tt
+  moves_here op shapes hs c times w single of views i (a ∷ rest) near held there =
       go (slice_get c.views a.array) refl _
-      (moves_here op shapes hs c times w simple of views (suc i) rest (λ j l. near j (omega (arith, l)))
+      (moves_here op shapes hs c times w single of views (suc i) rest (λ j l. near j (omega (arith, l)))
+      (λ j b n l e. held j b n (omega (arith, l)) e)
       (λ b h. there b (more_there home (buffers_from hs (suc i) rest) b h)))
     where
       shape : Shape
@@ -232,7 +253,8 @@ module _ (s : Setting) (lower : Bool) (at : ℕ) (bs inner : List ℕ) (wider : 
           → IsMoved s (below lower at) inner (move_of op shape home a (offsets c.views times i) c.ordinal v)
       one v here = record {
         outside = wider v.slot.buffer here.scope;
-        own = own_here shape home (simple i) (near i (omega arith)) (of i) own_there
+        own = own_here shape home (single i) (near i (omega arith)) (of i) own_there
+            (λ b n e. held i b n (omega arith) e)
             (block_view (offsets c.views times i) c.ordinal shape.extents v)
             (record { scope = here.scope; level_is = here.level_is });
         some = subst (λ (z : List ℕ). 0 < last_of z)

@@ -1,13 +1,12 @@
 -- The induction over statements, and over forms: what actions name is in scope, by levels and homes alone.
-use Rattle.std.proofs.Common.{◌≡◌, ℕ, zero, suc, ◌+◌, ◌<◌, ◌≤◌, pos, Bool, true, false, ◌||◌, is_some, List, [], ◌∷◌}
-use Rattle.std.proofs.Common.{◌++◌, map, length, get_or, slice_get, take, drop, Option, Some, None, refl, sym, ap}
-use Rattle.std.proofs.Common.{subst, ◌∙◌, arith, length-append, if◌then◌else◌}
+use Rattle.std.proofs.Common.{◌≡◌, ℕ, zero, suc, ◌+◌, ◌<◌, ◌≤◌, Bool, true, false, ◌||◌, is_some, List, [], ◌∷◌, ◌++◌}
+use Rattle.std.proofs.Common.{map, length, get_or, slice_get, take, drop, Option, Some, None, refl, sym, ap, subst, ◌∙◌}
+use Rattle.std.proofs.Common.{arith, length-append, Contains, ◌⊎◌, inl, inr, ⊎_elim}
 use Rattle.sq_num.specs.declared.RedOp.{RedOp}
 use Rattle.sq_text.specs.declared.place.Place.{Place}
 use Rattle.sq_text.specs.declared.spread.SpreadRule.{SpreadRule}
 use Rattle.sq_text.specs.declared.spread.SpreadRule.TheVariants.{Cyclic, Blocked}
 use Rattle.sq_leaf.specs.declared.shape.Shape.{Shape}
-use Rattle.sq_ir.specs.Lifting.{lift}
 use Rattle.sq_ir.specs.Written.{Setting}
 use Rattle.sq_ir.specs.Plans.{AskedOfActions}
 use Rattle.sq_ir.specs.declared.num.Num.{Num}
@@ -32,16 +31,16 @@ use Rattle.sq_placed.specs.declared.home.Home.TheVariants.{InPlace, Own, Held, T
 use Rattle.sq_placed.specs.declared.home.Homes.{Homes}
 use Rattle.sq_placed.specs.Placed.{PlacedLocal}
 use Rattle.sq_placed.specs.Trees.{local_buffers}
-use Rattle.sq_placed.specs.Tables.{locals_of, op_of, spread_of, Chain, chain_of, leaves_loop, leaving_args, leaving_row}
-use Rattle.sq_placed.specs.Tables.{leaving_chain, chain_form}
+use Rattle.sq_placed.specs.Tables.{locals_of, op_of, spread_of, Chain, chain_of, leaving_args, leaving_row, call_chain}
+use Rattle.sq_placed.specs.Tables.{one_more, row_form}
 use Rattle.sq_term.specs.declared.context.Context.{Context}
 use Rattle.sq_term.specs.declared.context.Move.{Move}
 use Rattle.sq_term.specs.Terms.{numbers, lift_child, lift_view, in_map, local_view, moves_from, buffers_from}
 use Rattle.sq_term.specs.Terms.{clear_term, bring_term, back_term, in_callee, call_child, arms_of, picks, TermPart}
 use Rattle.sq_term.specs.Terms.{any_lower, any_same, chains, all_terms, map_term, arm_term, arm_of_form, rows_term}
-use Rattle.sq_term.specs.Terms.{count_num, loop_term}
-use Rattle.sq_term.specs.Terms.{statement_term, first_num, chain_times, chain_num, hold_term, body_term, term_of}
-use Rattle.sq_term.specs.Terms.{buffer_or, entry_views, entry_context, entry_row, entry_term}
+use Rattle.sq_term.specs.Terms.{count_num, loop_term, statement_term, first_num, hold_term, body_term, term_of}
+use Rattle.sq_term.specs.Terms.{buffer_or, entry_views, entry_context, entry_row, entry_term, held_moves}
+use Rattle.sq_term.specs.Terms.{leaving_buffers, hold_in_term, hold_out_term, at_child_already, map_hold, term_step}
 use Rattle.sq_term.specs.Stands.{IsOf, AreOf, below, calls_in_rows, all_calls, calls_in, calls_in_all, calls_of}
 use Rattle.sq_term.specs.Stands.{AreLevel, LocalsOf, AreLeveled, Each, none, more}
 use Rattle.sq_term.proofs.Opened.{built_call, built_map, calls_call, calls_map}
@@ -49,16 +48,18 @@ use Rattle.sq_term.proofs.Same.{level_left, level_right}
 use Rattle.sq_term_fit.specs.Rooms.{AreWhole, joined_rows, reached_step, reached_in, reached_of, RowFits, RowsFit}
 use Rattle.sq_term_fit.specs.Rooms.{AreRoomy}
 use Rattle.sq_plan_laws.specs.Seated.{IsNear}
-use Rattle.sq_plan_room.specs.Buffers.{IsSimple}
-use Rattle.sq_draft_laws.specs.Scope.{IsSeen, HomesAreNear}
+use Rattle.sq_draft_laws.specs.Scope.{IsSeen, HomesAreNear, IsSingle}
 use Rattle.sq_draft_laws.proofs.Back.{with_both}
 use Rattle.sq_draft_laws.proofs.Every.{Every, every_append, every_left, every_right, every_by, every_all, every_map}
-use Rattle.sq_draft_laws.proofs.Every.{every_less, arms_every, Among, among_left, among_right, first_there}
-use Rattle.sq_draft_laws.proofs.Every.{later_there}
+use Rattle.sq_draft_laws.proofs.Every.{every_less, arms_every, Among, among_left, among_right, first_there, later_there}
 use Rattle.sq_draft_laws.proofs.Rising.{level_in, Rises, AllRise, rise_skip, rise_act, rise_seq, rise_par, rise_loop}
 use Rattle.sq_draft_laws.proofs.Rising.{rise_spread, rise_case, rise_within}
 use Rattle.sq_draft_laws.proofs.Moves.{Leveled, Settled, IsHere, IsMoved, bring_up, back_up, moves_up, clears_up}
-use Rattle.sq_draft_laws.proofs.Moves.{moves_here, moves_len, locals_here, locals_len}
+use Rattle.sq_draft_laws.proofs.Moves.{moves_here, moves_len, locals_here, locals_len, hold_in_up, hold_out_up}
+use Rattle.sq_spec.specs.declared.statement.LoopKind.TheVariants as loop_kind
+use Rattle.sq_rooms.specs.Orders.{EachOf, Round, all_rounds, map_rounds, round_step, rounds_in, rounds_of}
+use Rattle.sq_rooms.specs.Held.{IsHeldRow, AreHeldRows}
+use Rattle.sq_draft_laws.proofs.Holding.{Leaves, left_leave, left_there, held_here}
 
 -- ---- lists
 
@@ -85,21 +86,6 @@ home_of s level [] o i = tt
 home_of s level (h ∷ hs) o zero = o.0
 home_of s level (h ∷ hs) o (suc i) = home_of s level hs o.1 i
 
--- ---- nothing leaves a loop
-
-stays : (loops : ℕ) (h : Home) → IsSimple h → leaves_loop loops h ≡ false
-stays loops InPlace g = refl
-stays loops (Own x) g = refl
-stays loops (Held x k) g = absurd g
-stays loops (Twin x y) g = absurd g
-
-none_leave : (hs : List Home) → ((i : ℕ) → IsSimple (get_or hs i InPlace)) → (loops i : ℕ) (args : List Argument)
-    → leaving_args loops hs i args ≡ []
-none_leave hs h loops i [] = refl
-none_leave hs h loops i (a ∷ rest)
-    = ap (λ (z : Bool). if z then (i, a) ∷ leaving_args loops hs (suc i) rest else leaving_args loops hs (suc i) rest)
-    (stays loops (get_or hs i InPlace) (h i)) ∙ none_leave hs h loops (suc i) rest
-
 -- ---- the equations of tables and of rows
 
 pub tables_call : (lower : Bool) (times : List CallInstance) → tables_of (b.Call lower times)
@@ -121,18 +107,29 @@ reached_map : (place : Place) (m : LoopKind) (counts starts : List ℕ) (parts :
 reached_map place m counts starts parts = ap reached_in (sym (b.rolls-Map place m counts starts parts))
     ∙ fold-roll-Statement (List CallInstance) reached_step (Statement-F.Map place m counts starts parts)
 
+pub rounds_call : (lower : Bool) (times : List CallInstance) → rounds_in (b.Call lower times)
+    ≡ round_step (Statement-F.Call lower times)
+rounds_call lower times = ap rounds_in (sym (b.rolls-Call lower times))
+    ∙ fold-roll-Statement (ℕ → List Round) round_step (Statement-F.Call lower times)
+
+pub rounds_map : (place : Place) (m : LoopKind) (counts starts : List ℕ) (parts : List Statement)
+    → rounds_in (b.Map place m counts starts parts) ≡ map_rounds m (map rounds_in parts)
+rounds_map place m counts starts parts = ap rounds_in (sym (b.rolls-Map place m counts starts parts))
+    ∙ fold-roll-Statement (ℕ → List Round) round_step (Statement-F.Map place m counts starts parts)
+
 -- ---- contexts
 
--- Lower calls go to a child, and the views stand in buffers in scope of the form's level; there are no more than count.
-pub record IsIn (s : Setting) (level count : ℕ) (bs : List ℕ) (c : Context) : Type 0 where
-  pub child : Num
-  pub child_is : c.child ≡ Some child
+-- With this level in force lower calls go to the next one of the form's, and the views stand in buffers in scope of the
+-- form's level; there are no more than count.
+pub record IsIn (s : Setting) (level now count : ℕ) (bs : List ℕ) (c : Context) : Type 0 where
+  pub next : level_in c.child now ≡ suc level
   pub views : Every (IsHere s level bs) c.views
   pub few : length c.views ≤ count
 
-in_turn : (s : Setting) (level count : ℕ) (bs : List ℕ) (c : Context) (spread : Option SpreadRule) (k : Num)
-    (starts : List ℕ) → IsIn s level count bs c → IsIn s level count bs (in_map spread k starts c)
-in_turn s level count bs c spread k starts h = go spread
+in_turn : (s : Setting) (level now count : ℕ) (bs : List ℕ) (c : Context) (spread : Option SpreadRule) (k : Num)
+    (starts : List ℕ) → (is_some spread ≡ true → now ≡ level) → IsIn s level now count bs c
+    → IsIn s level now count bs (in_map spread k starts c)
+in_turn s level now count bs c spread k starts near h = go spread near
   where
     views : Every (IsHere s level bs) (map lift_view c.views)
     views = every_map (IsHere s level bs) (IsHere s level bs) lift_view
@@ -141,10 +138,41 @@ in_turn s level count bs c spread k starts h = go spread
     few : length (map lift_view c.views) ≤ count
     few = let e = map_len lift_view c.views in let l = h.few in omega (arith, e, l)
 
-    go : (o : Option SpreadRule) → IsIn s level count bs (in_map o k starts c)
-    go None = record { child = lift 1 h.child; child_is = ap lift_child h.child_is; views = views; few = few }
-    go (Some Cyclic) = record { child = _; child_is = refl; views = views; few = few }
-    go (Some Blocked) = record { child = _; child_is = refl; views = views; few = few }
+    lifted : (o : Option Num) → level_in (lift_child o) now ≡ level_in o now
+    lifted None = refl
+    lifted (Some x) = refl
+
+    go : (o : Option SpreadRule) → (is_some o ≡ true → now ≡ level) → IsIn s level now count bs (in_map o k starts c)
+    go None e = record { next = lifted c.child ∙ h.next; views = views; few = few }
+    go (Some Cyclic) e = record { next = ap suc (e refl); views = views; few = few }
+    go (Some Blocked) e = record { next = ap suc (e refl); views = views; few = few }
+
+-- ---- rows
+
+row_at : {A : Type 0} (P : A → Type 0) (xs : List A) → EachOf P xs → (j : ℕ) (x : A) → slice_get xs j ≡ Some x → P x
+row_at P [] h j x e = absurd (cc e)
+row_at P (y ∷ xs) h zero x e = let is : y ≡ x = cc e in subst P is h.0
+row_at P (y ∷ xs) h (suc j) x e = row_at P xs h.1 j x e
+
+-- where there is a row there is a first one
+first_row : (xs : List CallInstance) (j : ℕ) (x : CallInstance) → slice_get xs j ≡ Some x
+    → (y : CallInstance) × (slice_get xs 0 ≡ Some y)
+first_row [] j x e = absurd (cc e)
+first_row (y ∷ xs) j x e = (y, refl)
+
+same_row : {x y : CallInstance} → Some x ≡ Some y → x ≡ y
+same_row e = cc e
+
+-- it is the next number, or one behind it
+next_or_more : (m n : ℕ) → m < n → (n ≡ suc m) ⊎ (suc m < n)
+next_or_more m zero l = absurd (omega (arith, l))
+next_or_more zero (suc zero) l = inl refl
+next_or_more zero (suc (suc n)) l = inr (omega arith)
+next_or_more (suc m) (suc n) l = by (next_or_more m n (omega (arith, l)))
+  where
+    by : (n ≡ suc m) ⊎ (suc m < n) → (suc n ≡ suc (suc m)) ⊎ (suc (suc m) < suc n)
+    by (inl e) = inl (ap suc e)
+    by (inr g) = inr (omega (arith, g))
 
 module _ (s : Setting) (bodies : ℕ → FormBody) (homes : ℕ → Homes) (level : ℕ → ℕ)
     (leveled : AreLeveled s bodies homes level) (roomy : AreRoomy s bodies homes) (near : HomesAreNear bodies homes)
@@ -158,10 +186,16 @@ module _ (s : Setting) (bodies : ℕ → FormBody) (homes : ℕ → Homes) (leve
   abbrev pub Up : ℕ → List ℕ → Term → Type 0
   Up at bs x = Rises s P Q at bs x
 
+  -- the arguments that leave loops round a row's call are in scope
+  abbrev IsKept : List ℕ → CallInstance → Type 0
+  IsKept bs r = (i b loops : ℕ) → i < length r.args → get_or (homes r.form).params i InPlace ≡ Held b loops
+      → Contains bs b
+
   -- what is asked of a row of a call from a form of this level
-  record RowIs (lower : Bool) (at : ℕ) (r : CallInstance) : Type 0 where
+  record RowIs (lower : Bool) (at : ℕ) (bs : List ℕ) (r : CallInstance) : Type 0 where
     level_is : level r.form ≡ below lower at
     close : (k : ℕ) → k < length r.args → IsNear lower (get_or (homes r.form).params k InPlace)
+    kept : IsKept bs r
     few : length r.args ≤ length (take (length (homes r.form).params) (bodies r.form).arrays)
 
   abbrev NearRow : Bool → CallInstance → Type 0
@@ -170,50 +204,65 @@ module _ (s : Setting) (bodies : ℕ → FormBody) (homes : ℕ → Homes) (leve
   abbrev NearTable : Table → Type 0
   NearTable t = Every (NearRow t.lower) t.times
 
-  rows_are : (lower : Bool) (at : ℕ) (outer : List Shape) (times : List CallInstance)
-      → AreLevel level at (calls_in_rows lower times) → Every (NearRow lower) times → RowsFit bodies homes outer times
-      → Every (RowIs lower at) times
-  rows_are lower at outer [] deep close fits = tt
-  rows_are lower at outer (r ∷ times) deep close fits = (
-    record { level_is = deep.0; close = close.0; few = let e = each_len fits.0 in omega (arith, e) },
-    rows_are lower at outer times deep.1 close.1 fits.1,
+  rows_are : (lower : Bool) (at : ℕ) (bs : List ℕ) (outer : List Shape) (times : List CallInstance)
+      → AreLevel level at (calls_in_rows lower times) → Every (NearRow lower) times → Every (IsKept bs) times
+      → RowsFit bodies homes outer times → Every (RowIs lower at bs) times
+  rows_are lower at bs outer [] deep close kept fits = tt
+  rows_are lower at bs outer (r ∷ times) deep close kept fits = (
+    record {
+      level_is = deep.0;
+      close = close.0;
+      kept = kept.0;
+      few = let e = each_len fits.0 in omega (arith, e);
+    },
+    rows_are lower at bs outer times deep.1 close.1 kept.1 fits.1,
   )
+
+  row_fits : (outer : List Shape) (times : List CallInstance) → RowsFit bodies homes outer times → (j : ℕ)
+      (r : CallInstance) → slice_get times j ≡ Some r
+      → length r.args ≡ length (take (length (homes r.form).params) (bodies r.form).arrays)
+  row_fits outer [] fits j r e = absurd (cc e)
+  row_fits outer (q ∷ times) fits zero r e =
+      subst (λ (x : CallInstance). length x.args ≡ length (take (length (homes x.form).params) (bodies x.form).arrays))
+      (same_row e) (each_len fits.0)
+  row_fits outer (q ∷ times) fits (suc j) r e = row_fits outer times fits.1 j r e
 
   rows_left : (outer : List Shape) (xs ys : List CallInstance) → RowsFit bodies homes outer (xs ++ ys)
       → RowsFit bodies homes outer xs
   rows_left outer [] ys h = tt
   rows_left outer (x ∷ xs) ys h = (h.0, rows_left outer xs ys h.1)
 
+  held_left : (xs ys : List Round) → EachOf (AreHeldRows homes) (xs ++ ys) → EachOf (AreHeldRows homes) xs
+  held_left [] ys h = tt
+  held_left (x ∷ xs) ys h = (h.0, held_left xs ys h.1)
+
+  held_right : (xs ys : List Round) → EachOf (AreHeldRows homes) (xs ++ ys) → EachOf (AreHeldRows homes) ys
+  held_right [] ys h = h
+  held_right (x ∷ xs) ys h = held_right xs ys h.1
+
   rows_right : (outer : List Shape) (xs ys : List CallInstance) → RowsFit bodies homes outer (xs ++ ys)
       → RowsFit bodies homes outer ys
   rows_right outer [] ys h = h
   rows_right outer (x ∷ xs) ys h = rows_right outer xs ys h.1
 
-  unheld : (o : Option (Chain Num)) → leaving_chain homes o ≡ []
-  unheld None = refl
-  unheld (Some h) = go (slice_get h.instances 0)
-    where
-      go : (r : Option CallInstance) → leaving_row homes h.loops r ≡ []
-      go None = refl
-      go (Some r) = none_leave (homes r.form).params (near.simple r.form) h.loops 0 r.args
-
   -- so it is of the callees' terms
   abbrev AllUp : (ℕ → Context → Term) → Type 0
-  AllUp made = (f : ℕ) (c : Context) (bs : List ℕ) → IsIn s (level f) (length (bodies f).arrays) bs c
+  AllUp made = (f : ℕ) (c : Context) (bs : List ℕ) → IsIn s (level f) (level f) (length (bodies f).arrays) bs c
       → Up (level f) bs (made f c)
 
   module _ (made : ℕ → Context → Term) (callees : AllUp made) where
     arm_up : (params : List Home) (op : Option RedOp) (lower : Bool) (times : List CallInstance) (c : Context)
-        (at count : ℕ) (bs : List ℕ) (arm : CallInstance) → ((j : ℕ) → IsSimple (get_or params j InPlace))
+        (at now count : ℕ) (bs : List ℕ) (arm : CallInstance) → ((j : ℕ) → IsSingle (get_or params j InPlace))
+        → ((j b n : ℕ) → j < length arm.args → get_or params j InPlace ≡ Held b n → Contains bs b)
         → ((j : ℕ) → IsOf s (below lower at) (get_or params j InPlace))
         → ((k : ℕ) → k < length arm.args → IsNear lower (get_or params k InPlace)) → level arm.form ≡ below lower at
         → length arm.args ≤ length (take (length (homes arm.form).params) (bodies arm.form).arrays)
-        → IsIn s at count bs c
-        → Up at bs (arm_term bodies homes made params op lower c times arm)
-    arm_up params op lower times c at count bs arm simple of close deep few h =
-        rise_within s P Q at bs (call_child lower c) new _
+        → level_in (call_child lower c) now ≡ below lower at → IsIn s at now count bs c
+        → Up now bs (arm_term bodies homes made params op lower c times arm)
+    arm_up params op lower times c at now count bs arm single kept of close deep few enter h =
+        rise_within s P Q now bs (call_child lower c) new _
         (subst (λ (l : ℕ). Up l outside (term.Seq (term.Par (map bring_term ms) ∷ callee ∷ term.Par (map back_term ms)
-        ∷ []))) (sym (inner lower))
+        ∷ []))) (sym enter)
         (rise_seq s P Q to outside _ (
           rise_par s P Q to outside _
               (moves_up s bodies forms P to outside bring_term (bring_up s bodies forms P to outside) ms moved),
@@ -224,7 +273,7 @@ module _ (s : Setting) (bodies : ℕ → FormBody) (homes : ℕ → Homes) (leve
                       (clears_up s bodies forms P to inside rest (homes arm.form).locals whole locals (among_left _ _)),
                   (
                     subst (λ (l : ℕ). Up l inside (made arm.form (in_callee c ms ks))) deep
-                        (callees arm.form (in_callee c ms ks) inside (subst (λ (l : ℕ). IsIn s l
+                        (callees arm.form (in_callee c ms ks) inside (subst (λ (l : ℕ). IsIn s l l
                         (length (bodies arm.form).arrays) inside (in_callee c ms ks)) (sym deep) there)),
                     tt,
                   ),
@@ -268,18 +317,14 @@ module _ (s : Setting) (bodies : ℕ → FormBody) (homes : ℕ → Homes) (leve
         locals : LocalsOf s to (homes arm.form).locals
         locals = subst (λ (l : ℕ). LocalsOf s l (homes arm.form).locals) deep (leveled.locals arm.form)
 
-        inner : (l : Bool) → level_in (call_child l c) at ≡ below l at
-        inner false = refl
-        inner true = ap (λ (o : Option Num). level_in o at) h.child_is
-
         moved : Every (IsMoved s to outside) ms
         moved = moves_here s lower at bs outside (among_right new bs) op (bodies arm.form).arrays params c times
-            (roomy.whole arm.form) simple of h.views 0 arm.args (λ j l. close j (omega (arith, l))) (among_left new bs)
+            (roomy.whole arm.form) single of h.views 0 arm.args (λ j l. close j (omega (arith, l)))
+            (λ j b n l e. among_right new bs b (kept j b n (omega (arith, l)) e)) (among_left new bs)
 
-        there : IsIn s to (length (bodies arm.form).arrays) inside (in_callee c ms ks)
+        there : IsIn s to to (length (bodies arm.form).arrays) inside (in_callee c ms ks)
         there = record {
-          child = n.Const (pos 0);
-          child_is = refl;
+          next = refl;
           views = every_append (IsHere s to inside) (map (λ m. m.own) ms) (map local_view ks)
               (every_map (IsHere s to inside) (IsMoved s to outside) (λ m. m.own)
               (λ m g. record {
@@ -298,38 +343,167 @@ module _ (s : Setting) (bodies : ℕ → FormBody) (homes : ℕ → Homes) (leve
         }
 
     module _ (at count : ℕ) (outer : List Shape) where
-      arms_up : (op : Option RedOp) (lower : Bool) (times : List CallInstance) (c : Context) (bs : List ℕ)
-          → IsIn s at count bs c → (qs : List CallInstance) → Every (RowIs lower at) qs
-          → AllRise s P Q at bs (map (arm_of_form bodies homes made op lower c times) qs)
-      arms_up op lower times c bs h [] g = tt
-      arms_up op lower times c bs h (q ∷ qs) g = (
-        arm_up (homes q.form).params op lower times c at count bs q (near.simple q.form)
+      arms_up : (op : Option RedOp) (lower : Bool) (times : List CallInstance) (c : Context) (now : ℕ) (bs : List ℕ)
+          → level_in (call_child lower c) now ≡ below lower at → IsIn s at now count bs c → (qs : List CallInstance)
+          → Every (RowIs lower at bs) qs
+          → AllRise s P Q now bs (map (arm_of_form bodies homes made op lower c times) qs)
+      arms_up op lower times c now bs enter h [] g = tt
+      arms_up op lower times c now bs enter h (q ∷ qs) g = (
+        arm_up (homes q.form).params op lower times c at now count bs q (near.single q.form) g.0.kept
             (subst (λ (l : ℕ). (j : ℕ) → IsOf s l (get_or (homes q.form).params j InPlace)) g.0.level_is
             (home_of s (level q.form) (homes q.form).params (leveled.params q.form)))
-            g.0.close g.0.level_is g.0.few h,
-        arms_up op lower times c bs h qs g.1,
+            g.0.close g.0.level_is g.0.few enter h,
+        arms_up op lower times c now bs enter h qs g.1,
       )
 
-      rows_up : (op : Option RedOp) (lower : Bool) (times : List CallInstance) (c : Context) (bs : List ℕ)
-          → Every (RowIs lower at) times → IsIn s at count bs c
-          → Up at bs (rows_term bodies homes made op lower c times)
-      rows_up op lower times c bs rows h =
-          rise_case s P Q at bs (n.Pick (numbers (picks (arms_of times) times)) c.ordinal) _ (
-            rise_skip s P Q at bs,
-            arms_up op lower times c bs h (arms_of times) (arms_every (RowIs lower at) times rows),
+      rows_up : (op : Option RedOp) (lower : Bool) (times : List CallInstance) (c : Context) (now : ℕ) (bs : List ℕ)
+          → Every (RowIs lower at bs) times → level_in (call_child lower c) now ≡ below lower at
+          → IsIn s at now count bs c → Up now bs (rows_term bodies homes made op lower c times)
+      rows_up op lower times c now bs rows enter h =
+          rise_case s P Q now bs (n.Pick (numbers (picks (arms_of times) times)) c.ordinal) _ (
+            rise_skip s P Q now bs,
+            arms_up op lower times c now bs enter h (arms_of times) (arms_every (RowIs lower at bs) times rows),
           )
+
+      -- Where a statement is no loop of a call, no loop round it is left and the form's level is in force. Else so many
+      -- more loops stand round it, and the arguments that leave these are in scope.
+      abbrev Around : Option (Chain Num) → (loops now : ℕ) → List ℕ → Type 0
+      Around None k now bs = now ≡ at
+      Around (Some h) k now bs = (r : CallInstance) → slice_get h.instances 0 ≡ Some r → (i b n : ℕ) → i < length r.args
+          → get_or (homes r.form).params i InPlace ≡ Held b n → h.loops < n → n ≤ h.loops + k → Contains bs b
+
+      around_none : (h : Option (Chain Num)) (now : ℕ) (bs : List ℕ) → now ≡ at → Around h 0 now bs
+      around_none None now bs e = e
+      around_none (Some h) now bs e = λ r f i b n l home less most. absurd (omega (arith, less, most))
+
+      -- its call leads to the next level
+      abbrev IsFirst : Option (Chain Num) → Type 0
+      IsFirst None = Unit {0}
+      IsFirst (Some h) = (r : CallInstance) → slice_get h.instances 0 ≡ Some r → level r.form ≡ suc at
+
+      -- ---- calls
+
+      none_kept : (times : List CallInstance) (bs : List ℕ)
+          → EachOf (IsHeldRow homes (record { loops = 0; rows = times })) times → Every (IsKept bs) times
+      none_kept times bs held = every_by (IsKept bs) times (λ j r e i b n l home.
+          let q = row_at (IsHeldRow homes (record { loops = 0; rows = times })) times held j r e in
+          let some = q.some i b n home in
+          let most = q.round i b n home in absurd (omega (arith, some, most)))
+
+      all_kept : (k now : ℕ) (times : List CallInstance) (bs : List ℕ) → RowsFit bodies homes outer times
+          → EachOf (IsHeldRow homes (record { loops = k; rows = times })) times
+          → Around (call_chain true times) k now bs → Every (IsKept bs) times
+      all_kept k now times bs fits held around = every_by (IsKept bs) times (λ j r e i b n l home.
+          let q = row_at (IsHeldRow homes (record { loops = k; rows = times })) times held j r e in
+          let f = first_row times j r e in
+          let same : f.0.form ≡ r.form = q.one i b n home 0 f.0 f.1 in
+          let many = row_fits outer times fits j r e in
+          let first = row_fits outer times fits 0 f.0 f.1 in
+          let both = ap (λ (x : ℕ). length (take (length (homes x).params) (bodies x).arrays)) same in
+          let most = q.round i b n home in
+          around f.0 f.1 i b n (omega (arith, l, many, first, both))
+          (ap (λ (x : ℕ). get_or (homes x).params i InPlace) same ∙ home) (q.some i b n home) (omega (arith, most)))
+
+      first_is : (times : List CallInstance) → AreLevel level at (calls_in_rows true times) → (r : CallInstance)
+          → slice_get times 0 ≡ Some r → level r.form ≡ suc at
+      first_is [] deep r e = absurd (cc e)
+      first_is (q ∷ times) deep r e = subst (λ (x : CallInstance). level x.form ≡ suc at) (same_row e) deep.0
+
+      -- ---- a loop that arguments leave
+
+      -- it: the loop in any context
+      module _ (u : Chain Num) (deep : IsFirst (Some u)) (k now : ℕ) (bs : List ℕ) (c : Context)
+          (h : IsIn s at now count bs c)
+          (around : (r : CallInstance) → slice_get u.instances 0 ≡ Some r → (i b n : ℕ) → i < length r.args
+          → get_or (homes r.form).params i InPlace ≡ Held b n → suc u.loops < n → n ≤ suc u.loops + k → Contains bs b)
+          (number : Num) (inside : Bool) (loop : Bool → Context → Term)
+          (it : (i : Bool) (d : Context) (force : ℕ) (cs : List ℕ) → IsIn s at force count cs d
+          → Around (Some u) (suc k) force cs → Up force cs (loop i d)) where
+        held_up : (r : CallInstance) → slice_get u.instances 0 ≡ Some r → (ps : List (ℕ × Argument))
+            → Every (Leaves (suc u.loops) (homes r.form).params) ps
+            → Around (Some u) (suc k) now (leaving_buffers (homes r.form).params ps ++ bs)
+            → Up now bs (hold_term (bodies r.form).arrays (homes r.form).params u.instances number ps inside c loop)
+        held_up r e [] leave there = it inside c now bs h there
+        held_up r e (p ∷ ps) leave there =
+            rise_within s P Q now bs c.child new _
+            (subst (λ (l : ℕ). Up l cs (term.Seq (term.Par (map hold_in_term ms) ∷ loop true (at_child_already c)
+            ∷ term.Par (map hold_out_term ms) ∷ []))) (sym h.next) (rise_seq s P Q (suc at) cs _ (
+              rise_par s P Q (suc at) cs _
+                  (moves_up s bodies forms P (suc at) cs hold_in_term (hold_in_up s bodies forms P (suc at) cs) ms moved),
+              (
+                it true (at_child_already c) (suc at) cs inner there,
+                (
+                  rise_par s P Q (suc at) cs _
+                      (moves_up s bodies forms P (suc at) cs hold_out_term (hold_out_up s bodies forms P (suc at) cs) ms moved),
+                  tt,
+                ),
+              ),
+            )))
+          where
+            hs : List Home
+            hs = (homes r.form).params
+
+            new : List ℕ
+            new = leaving_buffers hs (p ∷ ps)
+
+            cs : List ℕ
+            cs = new ++ bs
+
+            ms : List Move
+            ms = held_moves (bodies r.form).arrays hs c.views u.instances number (p ∷ ps)
+
+            moved : Every (IsMoved s (suc at) cs) ms
+            moved = held_here (suc u.loops) hs s at (suc at) bs cs (among_right new bs) (bodies r.form).arrays
+                u.instances number c.views (roomy.whole r.form)
+                (subst (λ (l : ℕ). (j : ℕ) → IsOf s l (get_or hs j InPlace)) (deep r e)
+                (home_of s (level r.form) hs (leveled.params r.form)))
+                h.views (p ∷ ps) leave (among_left new bs)
+
+            inner : IsIn s at (suc at) count cs (at_child_already c)
+            inner = record {
+              next = refl;
+              views = every_less (IsHere s at bs) (IsHere s at cs)
+                  (λ v g. record { scope = among_right new bs v.slot.buffer g.scope; level_is = g.level_is }) c.views
+                  h.views;
+              few = h.few;
+            }
+
+        chain_up : (o : Option CallInstance) → slice_get u.instances 0 ≡ o
+            → Up now bs (hold_term (bodies (row_form o)).arrays (homes (row_form o)).params u.instances number
+            (leaving_row homes (suc u.loops) o) inside c loop)
+        chain_up None e = it inside c now bs h (λ r f. absurd (let z = sym e ∙ f in cc z))
+        chain_up (Some r) e =
+            let hs = (homes r.form).params in
+            let ps = leaving_args (suc u.loops) hs 0 r.args in
+            let new = leaving_buffers hs ps in
+            held_up r e ps (left_leave (suc u.loops) hs 0 r.args) (λ q f i b n l home less most.
+            let is : q ≡ r = same_row (sym f ∙ e) in
+            let at_r = subst (λ (x : CallInstance). (i < length x.args)
+            × (get_or (homes x.form).params i InPlace ≡ Held b n)) is (l, home) in
+            let here : 0 + i ≡ i = omega arith in
+            ⊎_elim (λ same. among_left new bs b (left_there (suc u.loops) hs 0 r.args i b n at_r.0
+            (ap (λ (x : ℕ). get_or hs x InPlace) here ∙ at_r.1) same))
+            (λ later. among_right new bs b (around q f i b n l home later (omega (arith, most))))
+            (next_or_more u.loops n less))
 
       module _ (rule : SpreadRule) where
         abbrev built : Statement → TermPart
         built = statement_term bodies homes made rule
 
-        abbrev Agrees : Statement → Type 0
-        Agrees x = (op : Option RedOp) (c : Context) (inside : Bool) (bs : List ℕ) (red : Option Reduction)
-            → AreLevel level at (calls_in x) → Every NearTable (tables_of x red)
-            → RowsFit bodies homes outer (reached_in x) → IsIn s at count bs c → Up at bs ((built x).build op inside c)
+        record GoodAs (x : TermPart) (tables : Option Reduction → List Table) (calls : List (Bool × ℕ))
+            (rows : List CallInstance) (rounds : ℕ → List Round) : Type 0 where
+          up : (op : Option RedOp) (c : Context) (inside : Bool) (now : ℕ) (bs : List ℕ) (red : Option Reduction)
+              (k : ℕ)
+              → AreLevel level at calls → Every NearTable (tables red) → RowsFit bodies homes outer rows
+              → EachOf (AreHeldRows homes) (rounds k) → IsIn s at now count bs c → Around x.chain k now bs
+              → Up now bs (x.build op inside c)
+          first : AreLevel level at calls → IsFirst x.chain
+
+        abbrev Good : Statement → Type 0
+        Good x = GoodAs (built x) (tables_of x) (calls_in x) (reached_in x) (rounds_in x)
 
         abbrev Known : Type 0
-        Known = (x : Statement) × Agrees x
+        Known = (x : Statement) × Good x
 
         abbrev begun : List Known → List Statement
         begun = map (λ q. q.0)
@@ -337,80 +511,170 @@ module _ (s : Setting) (bodies : ℕ → FormBody) (homes : ℕ → Homes) (leve
         abbrev all_built_of : List Known → List TermPart
         all_built_of xs = map built (begun xs)
 
-        all_up : (xs : List Known) (op : Option RedOp) (c : Context) (inside : Bool) (bs : List ℕ)
+        -- statements round which no loop stands that arguments leave
+        all_up : (xs : List Known) (op : Option RedOp) (c : Context) (inside : Bool) (now : ℕ) (bs : List ℕ)
             (red : Option Reduction)
             → AreLevel level at (all_calls (map calls_in (begun xs)))
             → Every NearTable (all_tables (map tables_of (begun xs)) red)
-            → RowsFit bodies homes outer (joined_rows (map reached_in (begun xs))) → IsIn s at count bs c
-            → AllRise s P Q at bs (all_terms (all_built_of xs) op inside c)
-        all_up [] op c inside bs red deep close fits h = tt
-        all_up (x ∷ xs) op c inside bs red deep close fits h = (
-          x.1 op c inside bs red (level_left level at (calls_in x.0) (all_calls (map calls_in (begun xs))) deep)
+            → RowsFit bodies homes outer (joined_rows (map reached_in (begun xs)))
+            → EachOf (AreHeldRows homes) (all_rounds (map rounds_in (begun xs))) → IsIn s at now count bs c → now ≡ at
+            → AllRise s P Q now bs (all_terms (all_built_of xs) op inside c)
+        all_up [] op c inside now bs red deep close fits held h e = tt
+        all_up (x ∷ xs) op c inside now bs red deep close fits held h e = (
+          x.1.up op c inside now bs red 0
+              (level_left level at (calls_in x.0) (all_calls (map calls_in (begun xs))) deep)
               (every_left NearTable (tables_of x.0 red) (all_tables (map tables_of (begun xs)) red) close)
-              (rows_left outer (reached_in x.0) (joined_rows (map reached_in (begun xs))) fits) h,
-          all_up xs op c inside bs red (level_right level at (calls_in x.0) (all_calls (map calls_in (begun xs))) deep)
+              (rows_left outer (reached_in x.0) (joined_rows (map reached_in (begun xs))) fits)
+              (held_left (rounds_in x.0 0) (all_rounds (map rounds_in (begun xs))) held) h
+              (around_none (built x.0).chain now bs e),
+          all_up xs op c inside now bs red
+              (level_right level at (calls_in x.0) (all_calls (map calls_in (begun xs))) deep)
               (every_right NearTable (tables_of x.0 red) (all_tables (map tables_of (begun xs)) red) close)
-              (rows_right outer (reached_in x.0) (joined_rows (map reached_in (begun xs))) fits) h,
+              (rows_right outer (reached_in x.0) (joined_rows (map reached_in (begun xs))) fits)
+              (held_right (rounds_in x.0 0) (all_rounds (map rounds_in (begun xs))) held) h e,
         )
 
+        abbrev map_built : Option (Chain Num) → LoopKind → (counts starts : List ℕ) → List TermPart → TermPart
+        map_built h m counts starts parts = record {
+          lower = any_lower parts;
+          same = any_same parts;
+          chain = h;
+          build = λ op inside c. map_hold bodies homes made h inside c (loop_term rule m counts starts parts);
+        }
+
         -- a map in the context in which it stands
-        map_up : (m : LoopKind) (counts starts : List ℕ) (xs : List Known) (c : Context) (inside : Bool) (bs : List ℕ)
-            → AreLevel level at (all_calls (map calls_in (begun xs)))
-            → Every NearTable (all_tables (map tables_of (begun xs)) (red_of m))
-            → RowsFit bodies homes outer (joined_rows (map reached_in (begun xs))) → IsIn s at count bs c
-            → Up at bs (loop_term rule m counts starts (all_built_of xs) inside c)
-        map_up m counts starts xs c inside bs deep close fits h =
-            go (spread_of rule m inside (any_lower (all_built_of xs)) (any_same (all_built_of xs)))
+        map_up : (m : LoopKind) (counts starts : List ℕ) (parts : List TermPart) (c : Context) (inside : Bool) (now : ℕ)
+            (bs : List ℕ) → now ≡ at → IsIn s at now count bs c
+            → ((i : Bool) (d : Context) → IsIn s at now count bs d → AllRise s P Q now bs
+            (all_terms parts (op_of m) i d))
+            → Up now bs (loop_term rule m counts starts parts inside c)
+        map_up m counts starts parts c inside now bs e h each =
+            go (spread_of rule m inside (any_lower parts) (any_same parts))
           where
             k : Num
             k = count_num counts c
 
             body_up : (spread : Option SpreadRule)
-                → Up at bs (term.Seq (all_terms (all_built_of xs) (op_of m) (inside || is_some spread)
-                (in_map spread k starts c)))
-            body_up spread = rise_seq s P Q at bs _
-                (all_up xs (op_of m) (in_map spread k starts c) (inside || is_some spread) bs (red_of m) deep close fits
-                (in_turn s at count bs c spread k starts h))
+                → Up now bs (term.Seq (all_terms parts (op_of m) (inside || is_some spread) (in_map spread k starts c)))
+            body_up spread = rise_seq s P Q now bs _ (each (inside || is_some spread) (in_map spread k starts c)
+                (in_turn s at now count bs c spread k starts (λ z. e) h))
 
             go : (spread : Option SpreadRule)
-                → Up at bs (map_term spread k
-                (term.Seq (all_terms (all_built_of xs) (op_of m) (inside || is_some spread)
-                (in_map spread k starts c))))
-            go None = rise_loop s P Q at bs k _ (body_up None)
-            go (Some r) = rise_spread s P Q at bs k r _ (body_up (Some r))
+                → Up now bs (map_term spread k
+                (term.Seq (all_terms parts (op_of m) (inside || is_some spread) (in_map spread k starts c))))
+            go None = rise_loop s P Q now bs k _ (body_up None)
+            go (Some r) = rise_spread s P Q now bs k r _ (body_up (Some r))
 
-        step : (y : Statement-F Known) → Agrees (roll-Statement (map-Statement Known Statement (λ q. q.0) y))
-        step (Statement-F.Call lower times) = subst Agrees (sym (b.rolls-Call lower times))
-            (λ op c inside bs red deep close fits h.
-            let near_rows = subst (λ (f : Option Reduction → List Table). Every NearTable (f red))
-            (tables_call lower times) close in
-            subst (λ (p : TermPart). Up at bs (p.build op inside c))
-            (sym (built_call bodies homes made rule lower times))
-            (rows_up op lower times c bs
-            (rows_are lower at outer times (subst (AreLevel level at) (calls_call lower times) deep) near_rows.0
-            (subst (RowsFit bodies homes outer) (reached_call lower times) fits)) h))
+        -- nothing leaves a map in which more stands than one call
+        alone : (m : LoopKind) (counts starts : List ℕ) (xs : List Known) (o : Option (Chain Num)) → o ≡ None
+            → (f : ℕ → List Round) → ((k : ℕ) → f k ≡ all_rounds (map rounds_in (begun xs)))
+            → GoodAs (map_built o m counts starts (all_built_of xs))
+            (λ red. all_tables (map tables_of (begun xs)) (red_of m)) (all_calls (map calls_in (begun xs)))
+            (joined_rows (map reached_in (begun xs))) f
+        alone m counts starts xs o e f same =
+            subst (λ (z : Option (Chain Num)). GoodAs (map_built z m counts starts (all_built_of xs))
+            (λ red. all_tables (map tables_of (begun xs)) (red_of m)) (all_calls (map calls_in (begun xs)))
+            (joined_rows (map reached_in (begun xs))) f) (sym e) (record {
+              up = λ op c inside now bs red k deep close fits held h is.
+                  map_up m counts starts (all_built_of xs) c inside now bs is h
+                  (λ i d g. all_up xs (op_of m) d i now bs (red_of m) deep close fits
+                  (subst (EachOf (AreHeldRows homes)) (same k) held) g is);
+              first = λ deep. tt;
+            })
+
+        -- a plain loop in which one statement stands
+        one_up : (counts starts : List ℕ) (p : TermPart) (tables : Option Reduction → List Table)
+            (calls : List (Bool × ℕ)) (rows : List CallInstance) (f : ℕ → List Round) → GoodAs p tables calls rows f
+            → (o : Option (Chain Num)) → p.chain ≡ o
+            → GoodAs (map_built (one_more first_num starts o) loop_kind.Sequential counts starts (p ∷ []))
+            (λ red. tables None ++ []) (calls ++ []) (rows ++ []) (λ k. f (suc k))
+        one_up counts starts p tables calls rows f g None e = record {
+          up = λ op c inside now bs red k deep close fits held h is.
+              map_up loop_kind.Sequential counts starts (p ∷ []) c inside now bs is h (λ i d w. (
+                g.up None d i now bs None (suc k) (level_left level at calls [] deep)
+                    (every_left NearTable (tables None) [] close) (rows_left outer rows [] fits) held w
+                    (subst (λ (z : Option (Chain Num)). Around z (suc k) now bs) (sym e) is),
+                tt,
+              ));
+          first = λ deep. tt;
+        }
+        one_up counts starts p tables calls rows f g (Some u) e = record {
+          up = λ op c inside now bs red k deep close fits held h is.
+              chain_up u (subst IsFirst e (g.first (level_left level at calls [] deep))) k now bs c h is
+              (u.first (first_num starts c.ordinal)) inside
+              (loop_term rule loop_kind.Sequential counts starts (p ∷ [])) (λ i d force cs w there.
+              rise_loop s P Q force cs (count_num counts d) _ (rise_seq s P Q force cs _ (
+                g.up None (in_map None (count_num counts d) starts d) (i || false) force cs None (suc k)
+                    (level_left level at calls [] deep) (every_left NearTable (tables None) [] close)
+                    (rows_left outer rows [] fits) held
+                    (in_turn s at force count cs d None (count_num counts d) starts (λ z. absurd (cc z)) w)
+                    (subst (λ (z : Option (Chain Num)). Around z (suc k) force cs) (sym e) there),
+                tt,
+              ))) (slice_get u.instances 0) refl;
+          first = λ deep. subst IsFirst e (g.first (level_left level at calls [] deep));
+        }
+
+        map_good : (m : LoopKind) (counts starts : List ℕ) (xs : List Known)
+            → GoodAs (map_built (chain_of first_num m starts (chains (all_built_of xs))) m counts starts
+            (all_built_of xs)) (λ red. all_tables (map tables_of (begun xs)) (red_of m))
+            (all_calls (map calls_in (begun xs))) (joined_rows (map reached_in (begun xs)))
+            (map_rounds m (map rounds_in (begun xs)))
+        map_good loop_kind.Sequential counts starts []
+            = alone loop_kind.Sequential counts starts [] _ refl _ (λ k. refl)
+        map_good loop_kind.Sequential counts starts (x ∷ [])
+            = one_up counts starts (built x.0) (tables_of x.0) (calls_in x.0) (reached_in x.0) (rounds_in x.0) x.1
+            (built x.0).chain refl
+        map_good loop_kind.Sequential counts starts (x ∷ y ∷ xs)
+            = alone loop_kind.Sequential counts starts (x ∷ y ∷ xs) _ refl _ (λ k. refl)
+        map_good loop_kind.Parallel counts starts xs = alone loop_kind.Parallel counts starts xs _ refl _ (λ k. refl)
+        map_good (loop_kind.Reduction r) counts starts xs
+            = alone (loop_kind.Reduction r) counts starts xs _ refl _ (λ k. refl)
+
+        call_good : (lower : Bool) (times : List CallInstance)
+            → GoodAs (term_step bodies homes made rule (Statement-F.Call lower times))
+            (tables_step (Statement-F.Call lower times)) (calls_in_rows lower times) times
+            (round_step (Statement-F.Call lower times))
+        call_good true times = record {
+          up = λ op c inside now bs red k deep close fits held h around.
+              rows_up op true times c now bs
+              (rows_are true at bs outer times deep close.0 (all_kept k now times bs fits held.0 around) fits) h.next h;
+          first = λ deep. first_is times deep;
+        }
+        call_good false times = record {
+          up = λ op c inside now bs red k deep close fits held h is.
+              rows_up op false times c now bs
+              (rows_are false at bs outer times deep close.0 (none_kept times bs held.0) fits) is h;
+          first = λ deep. tt;
+        }
+
+        -- by the equations of a statement's parts
+        as_known : (x y : TermPart) (t u : Option Reduction → List Table) (c d : List (Bool × ℕ))
+            (q r : List CallInstance) (f g : ℕ → List Round) → x ≡ y → t ≡ u → c ≡ d → q ≡ r → f ≡ g
+            → GoodAs y u d r g → GoodAs x t c q f
+        as_known x y t u c d q r f g a b e i j h =
+            subst (λ (z : TermPart). GoodAs z t c q f) (sym a)
+            (subst (λ (z : Option Reduction → List Table). GoodAs y z c q f) (sym b)
+            (subst (λ (z : List (Bool × ℕ)). GoodAs y u z q f) (sym e)
+            (subst (λ (z : List CallInstance). GoodAs y u d z f) (sym i)
+            (subst (GoodAs y u d r) (sym j) h))))
+
+        step : (y : Statement-F Known) → Good (roll-Statement (map-Statement Known Statement (λ q. q.0) y))
+        step (Statement-F.Call lower times) = subst Good (sym (b.rolls-Call lower times))
+            (as_known _ _ _ _ _ _ _ _ _ _ (built_call bodies homes made rule lower times) (tables_call lower times)
+            (calls_call lower times) (reached_call lower times) (rounds_call lower times) (call_good lower times))
         step (Statement-F.Map place m counts starts xs)
-            = subst Agrees (sym (b.rolls-Map place m counts starts (begun xs)))
-            (λ op c inside bs red deep close fits h.
-            let chain = chain_of first_num m starts (chains (all_built_of xs)) in
-            subst (λ (p : TermPart). Up at bs (p.build op inside c))
-            (sym (built_map bodies homes made rule place m counts starts (begun xs)))
-            (subst (λ (ps : List (ℕ × Argument)). Up at bs
-            (hold_term (bodies (chain_form chain)).arrays (homes (chain_form chain)).params (chain_times chain)
-            (chain_num chain c.ordinal) ps inside c (loop_term rule m counts starts (all_built_of xs))))
-            (sym (unheld chain))
-            (map_up m counts starts xs c inside bs
-            (subst (AreLevel level at) (calls_map place m counts starts (begun xs)) deep)
-            (subst (λ (f : Option Reduction → List Table). Every NearTable (f red))
-            (tables_map place m counts starts (begun xs)) close)
-            (subst (RowsFit bodies homes outer) (reached_map place m counts starts (begun xs)) fits) h)))
+            = subst Good (sym (b.rolls-Map place m counts starts (begun xs)))
+            (as_known _ _ _ _ _ _ _ _ _ _ (built_map bodies homes made rule place m counts starts (begun xs))
+            (tables_map place m counts starts (begun xs)) (calls_map place m counts starts (begun xs))
+            (reached_map place m counts starts (begun xs)) (rounds_map place m counts starts (begun xs))
+            (map_good m counts starts xs))
 
-        agrees : (x : Statement) → Agrees x
-        agrees = ind-Statement Agrees (λ x y is. subst (λ z. Agrees (roll-Statement z)) is (step y))
+        knows : (x : Statement) → Good x
+        knows = ind-Statement Good (λ x y is. subst (λ z. Good (roll-Statement z)) is (step y))
 
         abbrev known : List Statement → List Known
         known [] = []
-        known (x ∷ xs) = (x, agrees x) ∷ known xs
+        known (x ∷ xs) = (x, knows x) ∷ known xs
 
         known_are : (xs : List Statement) → begun (known xs) ≡ xs
         known_are [] = refl
@@ -422,14 +686,16 @@ module _ (s : Setting) (bodies : ℕ → FormBody) (homes : ℕ → Homes) (leve
 
         list_up : (list : List Statement) (c : Context) (bs : List ℕ) → AreLevel level at (calls_in_all list)
             → Every NearTable (tables_in list None) → RowsFit bodies homes outer (joined_rows (map reached_in list))
-            → IsIn s at count bs c → Up at bs (term.Seq (all_terms (map built list) None false c))
-        list_up list c bs deep close fits h = rise_seq s P Q at bs _
+            → EachOf (AreHeldRows homes) (all_rounds (map rounds_in list)) → IsIn s at at count bs c
+            → Up at bs (term.Seq (all_terms (map built list) None false c))
+        list_up list c bs deep close fits held h = rise_seq s P Q at bs _
             (subst (λ (xs : List Statement). AreLevel level at (calls_in_all xs)
             → Every NearTable (all_tables (map tables_of xs) None)
             → RowsFit bodies homes outer (joined_rows (map reached_in xs))
+            → EachOf (AreHeldRows homes) (all_rounds (map rounds_in xs))
             → AllRise s P Q at bs (all_terms (map built xs) None false c)) (known_are list)
-            (λ d t r. all_up (known list) None c false bs None
-            (subst (AreLevel level at) (calls_joined (begun (known list))) d) t r h) deep close fits)
+            (λ d t r q. all_up (known list) None c false at bs None
+            (subst (AreLevel level at) (calls_joined (begun (known list))) d) t r q h refl) deep close fits held)
 
     near_list : (f : ℕ) (list : List Statement) → (bodies f).body ≡ body.Inner list
         → Every NearTable (tables_in list None)
@@ -438,11 +704,12 @@ module _ (s : Setting) (bodies : ℕ → FormBody) (homes : ℕ → Homes) (leve
 
     body_up : (f : ℕ) (x : Body) → (bodies f).body ≡ x → (c : Context) (bs : List ℕ)
         → AreLevel level (level f) (calls_of x) → RowsFit bodies homes (bodies f).arrays (reached_of x)
-        → IsIn s (level f) (length (bodies f).arrays) bs c → Up (level f) bs (body_term bodies homes made (homes f) x c)
-    body_up f (body.Inner list) e c bs deep fits h =
+        → EachOf (AreHeldRows homes) (rounds_of x) → IsIn s (level f) (level f) (length (bodies f).arrays) bs c
+        → Up (level f) bs (body_term bodies homes made (homes f) x c)
+    body_up f (body.Inner list) e c bs deep fits held h =
         list_up (level f) (length (bodies f).arrays) (bodies f).arrays (homes f).rule list c bs deep
-        (near_list f list e) fits h
-    body_up f (body.Leaf code) e c bs deep fits h =
+        (near_list f list e) fits held h
+    body_up f (body.Leaf code) e c bs deep fits held h =
         rise_act s P Q (level f) bs (action.Leaf (homes f).code c.views c.path) (λ env is p. (
           p,
           (
@@ -456,7 +723,7 @@ module _ (s : Setting) (bodies : ℕ → FormBody) (homes : ℕ → Homes) (leve
   forms_up : (d : ℕ) → AllUp (term_of bodies homes d)
   forms_up zero f c bs h = rise_skip s P Q (level f) bs
   forms_up (suc d) f c bs h = body_up (term_of bodies homes d) (forms_up d) f (bodies f).body refl c bs
-      (leveled.calls f) (roomy.rows f) h
+      (leveled.calls f) (roomy.rows f) (near.held f) h
 
   -- ---- the entry
 
@@ -483,11 +750,11 @@ module _ (s : Setting) (bodies : ℕ → FormBody) (homes : ℕ → Homes) (leve
       → Up 0 (map buffer_or (homes 0).params) (entry_term bodies homes d args)
   entry_up first root d args outer fits =
       arm_up (term_of bodies homes d) (forms_up d) [] None false (entry_row args ∷ [])
-      (entry_context (bodies 0) (homes 0)) 0 (length (entry_views (bodies 0).arrays (homes 0).params))
+      (entry_context (bodies 0) (homes 0)) 0 0 (length (entry_views (bodies 0).arrays (homes 0).params))
       (map buffer_or (homes 0).params) (entry_row args)
-      (λ j. tt) (λ j. tt) (λ k l. refl) first (let e = each_len fits in omega (arith, e)) (record {
-        child = n.Const (pos 0);
-        child_is = refl;
+      (λ j. tt) (λ j b n l e. absurd (cc e)) (λ j. tt) (λ k l. refl) first
+      (let e = each_len fits in omega (arith, e)) refl (record {
+        next = refl;
         views = entry_here (bodies 0).arrays (homes 0).params (map buffer_or (homes 0).params)
             (subst (λ (l : ℕ). AreOf s l (homes 0).params) first (leveled.params 0)) root (λ x g. g);
         few = omega arith;

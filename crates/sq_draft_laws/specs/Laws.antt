@@ -19,10 +19,10 @@ use Rattle.sq_term_fit.specs.Fits.{Bounds, AreBounds, IsMachine, TabledBody, Are
 use Rattle.sq_term_fit.specs.Rooms.{RowFits, AreRoomy, EntryFits}
 use Rattle.sq_plan_laws.specs.Entry.{plan_tree, IsPlan}
 use Rattle.sq_plan_laws.specs.Room.{IsRoomy}
-use Rattle.sq_plan_room.specs.Buffers.{IsSimple}
+use Rattle.sq_rooms.specs.Held.{AreHeldInside}
 use Rattle.sq_forms_fit.specs.Rows.{FormsFit}
 use Rattle.sq_forms_fit.specs.Entry.{entry_shapes}
-use Rattle.sq_draft_laws.specs.Scope.{InScope, HomesAreNear}
+use Rattle.sq_draft_laws.specs.Scope.{InScope, IsSingle, HomesAreNear}
 use Rattle.sq_draft_laws.specs.Paths.{PathsFit, LeavesAreSmall}
 
 -- What the entry's actions name is in scope, with the entry's buffers in scope round it.
@@ -40,7 +40,8 @@ SlotsAreInScope = (s : Setting) (most : Bounds) → AreBounds most → (last nod
 abbrev pub FormsAreNear : Type 0
 FormsAreNear = (leaves : Leaves Cause) (bodies : ℕ → FormBody) (homes : ℕ → Homes) (mays : ℕ → ℕ → Bool)
     → FormsFit leaves bodies homes mays
-    → ((f i : ℕ) → IsSimple (get_or (homes f).params i InPlace)) → HomesAreNear bodies homes
+    → ((f i : ℕ) → IsSingle (get_or (homes f).params i InPlace)) → AreHeldInside bodies homes
+    → HomesAreNear bodies homes
 
 -- ---- paths
 

@@ -7,11 +7,11 @@ use Rattle.sq_term.specs.Terms.{homes_in}
 use Rattle.sq_homes.specs.declared.choice.Choice.{Choice}
 use Rattle.sq_homes.specs.Drafts.{IsDraftOf, homes_of}
 use Rattle.sq_forms_fit.specs.Homes.{LeavesStand}
-use Rattle.sq_homes_laws.specs.Simple.{Walked, AreSimple}
+use Rattle.sq_homes_laws.specs.Simple.{Walked}
 
 -- Each form that is a leaf has its code under the number that its homes give: on bytes the code does what the leaf
 -- means, and its arrays are those of the form.
 abbrev pub LeavesOfDraftsStand : Type 0
-LeavesOfDraftsStand = (r : Resolved) → Walked r → (choices : List Choice) → AreSimple r choices → (d : Draft)
+LeavesOfDraftsStand = (r : Resolved) → Walked r → (choices : List Choice) → (d : Draft)
     → IsDraftOf r choices d
     → LeavesStand r.typed.now r.mapping.now r.found.entries (leaves_of d) (homes_in (homes_of r choices))

@@ -16,11 +16,11 @@ use Rattle.sq_placed.specs.declared.home.Home.TheVariants.{InPlace}
 use Rattle.sq_placed.specs.declared.home.Homes.{Homes}
 use Rattle.sq_placed.specs.Placed.{PlacedArg, PlacedLocal, PlacedCall, arguments}
 use Rattle.sq_placed.specs.Tables.{no_shape, placed_args, placed_locals, placed_call}
-use Rattle.sq_cells.specs.Lowered.{stays, held}
+use Rattle.sq_cells.specs.Lowered.{in_place}
 use Rattle.sq_placed_bytes.specs.Calling.{place_of, shapes_of, PassedFits, ArgsFit}
-use Rattle.sq_placed_bytes.specs.OnBytes.{which_of}
+use Rattle.sq_placed_bytes.specs.OnBytes.{which_of, which_by}
 use Rattle.sq_placed_bytes.specs.Fitting.{CallIs, whole}
-use Rattle.sq_placed_bytes.specs.Keeping.{CallKeeps, may_by, may_of}
+use Rattle.sq_placed_bytes.specs.Keeping.{may_by, may_of}
 use Rattle.sq_ir.specs.Events.{Leaves}
 use Rattle.sq_cells.specs.Tree.{Cause}
 use Rattle.sq_spec_laws.specs.TableRows.{Table}
@@ -28,11 +28,40 @@ use Rattle.sq_cells.specs.Work.{Buffer}
 use Rattle.sq_placed.specs.Trees.{is_moved}
 use Rattle.sq_placed.specs.declared.home.Home.TheVariants as home
 use Rattle.sq_plan_laws.specs.Seated.{IsOwned, IsNear, CallSits}
-use Rattle.sq_forms_fit.specs.Rows.{operator_of, reduced_flags, RowFits}
+use Rattle.sq_forms_fit.specs.Rows.{operator_of, without_block, RowKeeps, RowFits}
 use Rattle.sq_forms_fit.specs.Facts.{ReducedFacts, RowFacts, FactsFit}
 use Rattle.sq_placed_bytes.proofs.Lists.{same_some, there_below}
 use Rattle.sq_placed_bytes.proofs.Gathered.{lengths_whole}
-use Rattle.sq_forms_fit.proofs.Rows.{first_true, which_passed}
+
+-- ---- the position of what is reduced into
+
+abbrev pub reduced_flags : List Argument → List Bool
+reduced_flags args = map (λ a. a.is_reduced) args
+
+abbrev pub first_true : List Bool → ℕ
+first_true [] = 0
+first_true (true ∷ rest) = 0
+first_true (false ∷ rest) = suc (first_true rest)
+
+pub which_passed : (op : RedOp) (shapes : List Shape) (homes : List Home) (i : ℕ) (args : List Argument)
+    → which_of (placed_args (Some op) shapes homes i args) ≡ first_true (reduced_flags args)
+which_passed op shapes homes i [] = refl
+which_passed op shapes homes i (a ∷ args) = go a.is_reduced (which_passed op shapes homes (suc i) args)
+  where
+    go : (r : Bool) → which_of (placed_args (Some op) shapes homes (suc i) args) ≡ first_true (reduced_flags args)
+        → which_by (if r then Some op else None) (which_of (placed_args (Some op) shapes homes (suc i) args))
+        ≡ first_true (r ∷ reduced_flags args)
+    go true e = refl
+    go false e = ap suc e
+
+-- arguments that differ in their blocks alone have the same flags
+pub flags_alike : (xs ys : List Argument) → map without_block xs ≡ map without_block ys → reduced_flags xs
+    ≡ reduced_flags ys
+flags_alike xs ys e = flags_of xs ∙ (ap (λ (l : List Argument). reduced_flags l) e ∙ sym (flags_of ys))
+  where
+    flags_of : (zs : List Argument) → reduced_flags zs ≡ reduced_flags (map without_block zs)
+    flags_of [] = refl
+    flags_of (z ∷ zs) = ap (λ (l : List Bool). z.is_reduced ∷ l) (flags_of zs)
 
 -- ---- the arguments as they are passed
 
@@ -65,13 +94,20 @@ passed_there op shapes homes i (x ∷ args) zero a e = let here : i ≡ i + 0
 passed_there op shapes homes i (x ∷ args) (suc k) a e = let next : suc i + k ≡ i + suc k
     = omega arith in passed_there op shapes homes (suc i) args k a e ∙ ap (λ j. Some (passed op shapes homes j a)) next
 
+pub passed_home : (op : Option RedOp) (shapes : List Shape) (homes : List Home) (args : List Argument) (k : ℕ)
+    (p : PlacedArg) → slice_get (placed_args op shapes homes 0 args) k ≡ Some p → get_or homes k InPlace ≡ p.home
+passed_home op shapes homes args k p e =
+    let h = passed_at op shapes homes 0 args k p e in
+    let z : k ≡ 0 + k = omega arith in
+    ap (λ j. get_or homes j InPlace) z ∙ sym (ap (λ (q : PlacedArg). q.home) h.2)
+
 pub passed_none : (op : Option RedOp) (shapes : List Shape) (homes : List Home) (i : ℕ) (args : List Argument) (k : ℕ)
     → slice_get args k ≡ None → slice_get (placed_args op shapes homes i args) k ≡ None
 passed_none op shapes homes i [] k e = refl
 passed_none op shapes homes i (x ∷ args) zero e = cc
 passed_none op shapes homes i (x ∷ args) (suc k) e = passed_none op shapes homes (suc i) args k e
 
-plain_args : (op : Option RedOp) (shapes : List Shape) (homes : List Home) (i : ℕ) (args : List Argument)
+pub plain_args : (op : Option RedOp) (shapes : List Shape) (homes : List Home) (i : ℕ) (args : List Argument)
     → arguments (placed_args op shapes homes i args) ≡ args
 plain_args op shapes homes i [] = refl
 plain_args op shapes homes i (a ∷ args) = ap (λ (l : List Argument). a ∷ l) (plain_args op shapes homes (suc i) args)
@@ -235,21 +271,25 @@ module _ (leaves : Leaves Cause) (bodies : ℕ → FormBody) (homes : ℕ → Ho
   by_flag true o h = refl
   by_flag false o h = absurd (h refl)
 
-  keeps : CallKeeps c (mays k)
+  none_reduced : (x : Option Reduction) → x ≡ None → ReducedFacts outer x r.args → (i : ℕ) (a : Argument)
+      → slice_get r.args i ≡ Some a → a.is_reduced ≡ false
+  none_reduced None e f i a g = f i a g
+  none_reduced (Some s) e f i a g = cc
+
+  keeps : RowKeeps t.red c (mays k)
   keeps = record {
-    base = record {
-      apart = λ i p e st. let h = arg_at i p e in
-          subst (λ (l : List Argument). Apart l i) (sym args_are)
-          (facts.apart i (subst (λ (q : PlacedArg). stays (place_of q.home) ≡ true) h.2 st)
-          (there_below r.args i h.0 h.1));
-      permitted = λ i p e w. let h = arg_at i p e in ap (λ (q : PlacedArg). mays k q.argument.array) h.2
-          ∙ facts.permitted i h.0 h.1 (subst (λ (q : PlacedArg). is_written q.argument.mode ≡ true) h.2 w);
-      sum_home = λ i p e ne. let h = arg_at i p e in
-          ap (λ (q : PlacedArg). place_of q.home) h.2
-          ∙ facts.sum_home i h.0 h.1 (by_flag h.0.is_reduced op
-          (λ z. ne (ap (λ (q : PlacedArg). q.gathers) h.2 ∙ z)));
-    };
-    not_held = λ i p e. let h = arg_at i p e in ap (λ (q : PlacedArg). held (place_of q.home)) h.2 ∙ facts.not_held i;
+    apart = λ i p e st. let h = arg_at i p e in
+        subst (λ (l : List Argument). Apart l i) (sym args_are)
+        (facts.apart i (subst (λ (q : PlacedArg). in_place (place_of q.home) ≡ true) h.2 st)
+        (there_below r.args i h.0 h.1));
+    permitted = λ i p e w. let h = arg_at i p e in ap (λ (q : PlacedArg). mays k q.argument.array) h.2
+        ∙ facts.permitted i h.0 h.1 (subst (λ (q : PlacedArg). is_written q.argument.mode ≡ true) h.2 w);
+    sum_home = λ i p e ne. let h = arg_at i p e in
+        ap (λ (q : PlacedArg). place_of q.home) h.2
+        ∙ facts.sum_home i h.0 h.1 (by_flag h.0.is_reduced op
+        (λ z. ne (ap (λ (q : PlacedArg). q.gathers) h.2 ∙ z)));
+    plain = λ none i p e. let h = arg_at i p e in
+        ap (λ (q : PlacedArg). q.argument.is_reduced) h.2 ∙ none_reduced t.red none facts.reduced i h.0 h.1;
   }
 
   shapes : shapes_of c ≡ inner
@@ -281,7 +321,7 @@ module _ (leaves : Leaves Cause) (bodies : ℕ → FormBody) (homes : ℕ → Ho
   owned_by (Some x) h f = sum_moved h (f (λ z. cc))
 
   owned : (i : ℕ) (p : PlacedArg) → slice_get c.args i ≡ Some p → IsOwned p.gathers p.home
-  owned i p e = owned_by p.gathers p.home (keeps.base.sum_home i p e)
+  owned i p e = owned_by p.gathers p.home (keeps.sum_home i p e)
 
   near : (i : ℕ) (p : PlacedArg) → slice_get c.args i ≡ Some p → IsNear t.lower p.home
   near i p e = let h = arg_at i p e in subst (λ (q : PlacedArg). IsNear t.lower q.home) (sym h.2)

@@ -2,9 +2,15 @@ pub mod Shapes
 pub mod Sized
 pub mod RowsHold
 pub mod Whole
+pub mod Loops
+pub mod Rounds
+pub mod Carried
+pub mod Nested
 pub mod Rows
 pub mod Facts
 pub mod Follows
 pub mod LeafCalls
 pub mod Plans
 pub mod Written
+pub mod Unheld
+pub mod ExampleHeld

@@ -31,7 +31,8 @@ use Rattle.sq_placed_bytes.proofs.Gathered.{lengths_whole}
 use Rattle.sq_plan_laws.specs.Seated.{CallSits, IsNear, IsOwned, Sits, at_node}
 use Rattle.sq_plan_laws.specs.Entry.{form_at, IsPlan}
 use Rattle.sq_forms_fit.specs.Rows.{FormsFit, IsFit}
-use Rattle.sq_forms_fit.proofs.Rows.{tables_fit, keeping_more}
+use Rattle.sq_forms_fit.proofs.Nested.{keeping_more}
+use Rattle.sq_forms_fit.proofs.Rows.{tables_fit}
 use Rattle.sq_forms_fit.proofs.Facts.{passed, passed_at, passed_there, passed_none, passed_shapes, shape_at}
 use Rattle.sq_forms_fit.proofs.Facts.{kept_shapes, drop_length, kept_at, drop_at}
 use Rattle.sq_forms_fit.specs.Entry.{EntryFacts, entry_shapes, anything, EntriesSit, EntriesArePlans}

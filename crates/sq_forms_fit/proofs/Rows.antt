@@ -1,12 +1,10 @@
 -- What is placed of tables fits, where the tables do.
-use Rattle.std.proofs.Common.{◌≡◌, ℕ, zero, suc, ◌+◌, ◌<◌, Bool, true, false, ◌&&◌, ◌||◌, is_some, List, [], ◌∷◌, ◌++◌}
-use Rattle.std.proofs.Common.{map, get_or, refl, sym, ap, ◌∙◌, subst, arith, ⊎_elim}
+use Rattle.std.proofs.Common.{◌≡◌, ℕ, zero, suc, ◌+◌, ◌<◌, ◌≤◌, Bool, true, false, ◌||◌, is_some, List, [], ◌∷◌}
+use Rattle.std.proofs.Common.{◌++◌, map, get_or, refl, sym, ap, ap₂, ◌∙◌, subst, arith}
 use Rattle.std.specs.Prelude.{Option, Some, None, slice_get, if◌then◌else◌}
-use Rattle.sq_num.specs.declared.RedOp.{RedOp}
 use Rattle.sq_text.specs.declared.place.Place.{Place}
 use Rattle.sq_text.specs.declared.spread.SpreadRule.{SpreadRule}
 use Rattle.sq_leaf.specs.declared.shape.Shape.{Shape}
-use Rattle.sq_blocks.specs.declared.argument.Argument.{Argument}
 use Rattle.sq_work.specs.declared.reduction.Reduction.{Reduction}
 use Rattle.sq_spec.specs.declared.statement.LoopKind.{LoopKind}
 use Rattle.sq_spec.specs.declared.statement.LoopKind.TheVariants as loop_kind
@@ -21,30 +19,43 @@ use Rattle.sq_spec.specs.declared.body.FormBody.{FormBody}
 use Rattle.sq_placed.specs.declared.home.Home.{Home}
 use Rattle.sq_placed.specs.declared.home.Home.TheVariants as home
 use Rattle.sq_placed.specs.declared.home.Home.TheVariants.{InPlace}
-use Rattle.sq_cells.specs.Lowered.{held}
-use Rattle.sq_placed_bytes.specs.Calling.{place_of}
 use Rattle.sq_placed.specs.declared.home.Homes.{Homes}
-use Rattle.sq_placed.specs.Placed.{Placed, PlacedArg, PlacedCall, Nothing, Then, Each, AtOnce, Gathers, Call, Hold}
-use Rattle.sq_placed.specs.Placed.{Piped, Leaf}
-use Rattle.sq_placed.specs.Tables.{placed_args, placed_call, op_of, spread_of, map_placed, Chain, one_more, chain_of}
-use Rattle.sq_placed.specs.Tables.{call_chain, first_of, leaves_loop, leaving_args, leaving_row, leaving_chain}
-use Rattle.sq_placed.specs.Tables.{hold_placed, held_arg, chains, chain_form, chain_row, holds, map_held, PlacedPart}
-use Rattle.sq_placed.specs.Tables.{any_lower, any_same, all_placed, row_placed, statement_placed, body_placed}
-use Rattle.sq_placed.specs.Tables.{placed_of}
+use Rattle.sq_placed.specs.Placed.{Placed, PlacedArg, Nothing, Then}
+use Rattle.sq_placed.specs.Placed.{Call}
+use Rattle.sq_placed.specs.Tables.{placed_call, op_of, spread_of, map_placed, Chain, one_more, chain_of}
+use Rattle.sq_placed.specs.Tables.{call_chain, first_of}
+use Rattle.sq_placed.specs.Tables.{chains, map_held, PlacedPart}
+use Rattle.sq_placed.specs.Tables.{any_lower, any_same, all_placed, row_placed, placed_step, statement_placed}
+use Rattle.sq_placed.specs.Tables.{body_placed, placed_of}
 use Rattle.sq_placed.proofs.Opened.{part_call, part_map}
-use Rattle.sq_cells.proofs.Access.{end_or_below}
-use Rattle.sq_placed_bytes.specs.OnBytes.{Codings, which_of, which_by}
-use Rattle.sq_placed_bytes.specs.Fitting.{IsOne, NoLeaf, Fitting}
-use Rattle.sq_placed_bytes.specs.Keeping.{CallBase, CallIn, may_of, Keep, Keeping}
-use Rattle.sq_ir.specs.Events.{Leaves}
 use Rattle.sq_cells.specs.Tree.{Cause}
+use Rattle.sq_placed_bytes.specs.OnBytes.{Codings, which_of}
+use Rattle.sq_placed_bytes.specs.Fitting.{IsOne, Fitting}
+use Rattle.sq_placed_bytes.specs.Keeping.{Keeping}
+use Rattle.sq_placed_bytes.specs.LeafLaws.{codes_of}
+use Rattle.sq_ir.specs.Events.{Leaves}
+use Rattle.sq_spec.specs.Statements.{over}
 use Rattle.sq_spec_laws.specs.TableRows.{Table, red_of, all_tables, tables_step, tables_of, tables_in}
 use Rattle.sq_spec_laws.specs.Ones.{Kind, all_ones, one_call, body_ones, kind_step, kind_of}
 use Rattle.sq_spec_laws.specs.Filled.{all_below, all_filled, filled_step, filled}
-use Rattle.sq_placed_bytes.specs.LeafLaws.{codes_of}
 use Rattle.sq_plan_laws.specs.Seated.{Sits}
-use Rattle.sq_forms_fit.specs.Rows.{operator_of, reduced_flags, RowFits, TableFits, ListFits, BodyFits, FormsFit}
+use Rattle.sq_rooms.specs.Orders.{EachOf, Round, all_rounds, map_rounds, round_step, rounds_in}
+use Rattle.sq_rooms.specs.Held.{IsHeldRow, AreHeldRows}
+use Rattle.sq_forms_fit.specs.Held as held
+use Rattle.sq_forms_fit.specs.Held.{Begun, begun_step, begun, StandsApart, LoopHolds, loops_of}
+use Rattle.sq_forms_fit.specs.Rows.{operator_of, TableFits, ListFits, BodyFits, FormsFit}
 use Rattle.sq_forms_fit.specs.Rows.{IsFit, TablesFit}
+use Rattle.sq_forms_fit.proofs.Loops.{left_true, right_true, below_true, some_of, each_left, each_right}
+use Rattle.sq_forms_fit.proofs.Loops.{each_at, each_from, each_map, each_turn, begun_call, begun_map, Nest, a_call}
+use Rattle.sq_forms_fit.proofs.Loops.{a_loop, as_statement, nest_fold, nest_is, chain, chain_is, calls}
+use Rattle.sq_forms_fit.proofs.Loops.{nest_of, InRows, calls_there, nest_filled}
+use Rattle.sq_forms_fit.proofs.Loops.{LoopsHold, loops_hold}
+use Rattle.sq_forms_fit.proofs.Rounds.{tables_call, tables_map, rounds_call, rounds_map}
+use Rattle.sq_forms_fit.proofs.Facts.{first_true, reduced_flags, which_passed, flags_alike}
+use Rattle.sq_forms_fit.proofs.Carried.{Beyond, row_args, home_there}
+use Rattle.sq_forms_fit.proofs.Carried.{carries_none}
+use Rattle.sq_forms_fit.proofs.Nested as nested
+use Rattle.sq_forms_fit.proofs.Nested.{lower_table}
 
 -- ---- equations of folds
 
@@ -68,50 +79,7 @@ full_map : (p : Place) (m : LoopKind) (counts starts : List ℕ) (xs : List Stat
 full_map p m counts starts xs = ap filled (sym (b.rolls-Map p m counts starts xs))
     ∙ fold-roll-Statement (ℕ → Bool) filled_step (Statement-F.Map p m counts starts xs)
 
-tables_call : (lower : Bool) (times : List CallInstance) → tables_of (b.Call lower times)
-    ≡ tables_step (Statement-F.Call lower times)
-tables_call lower times = ap tables_of (sym (b.rolls-Call lower times))
-    ∙ fold-roll-Statement (Option Reduction → List Table) tables_step (Statement-F.Call lower times)
-
-tables_map : (p : Place) (m : LoopKind) (counts starts : List ℕ) (xs : List Statement)
-    → tables_of (b.Map p m counts starts xs) ≡ tables_step (Statement-F.Map p m counts starts (map tables_of xs))
-tables_map p m counts starts xs = ap tables_of (sym (b.rolls-Map p m counts starts xs))
-    ∙ fold-roll-Statement (Option Reduction → List Table) tables_step (Statement-F.Map p m counts starts xs)
-
 -- ---- tests over lists
-
-left_true : (x y : Bool) → (x && y) ≡ true → x ≡ true
-left_true true y e = refl
-left_true false y e = cc
-
-right_true : (x y : Bool) → (x && y) ≡ true → y ≡ true
-right_true true y e = e
-right_true false y e = cc
-
-below_true : (n : ℕ) (f : ℕ → Bool) (t : ℕ) → all_below n f ≡ true → t < n → f t ≡ true
-below_true zero f t e lt = absurd (omega (arith, lt))
-below_true (suc n) f t e lt = ⊎_elim (λ s. subst (λ i. f i ≡ true) (sym s) (left_true (f n) (all_below n f) e))
-    (λ l. below_true n f t (right_true (f n) (all_below n f) e) l) (end_or_below t n lt)
-
-some_of : {A : Type 0} (o : Option A) → is_some o ≡ true → (x : A) × (o ≡ Some x)
-some_of None e = cc
-some_of (Some x) e = (x, refl)
-
-abbrev AllIn : {A : Type 0} → (A → Type 0) → List A → Type 0
-AllIn P [] = Unit {0}
-AllIn P (x ∷ xs) = P x × AllIn P xs
-
-all_left : {A : Type 0} (P : A → Type 0) (xs ys : List A) → AllIn P (xs ++ ys) → AllIn P xs
-all_left P [] ys h = tt
-all_left P (x ∷ xs) ys h = (h.0, all_left P xs ys h.1)
-
-all_right : {A : Type 0} (P : A → Type 0) (xs ys : List A) → AllIn P (xs ++ ys) → AllIn P ys
-all_right P [] ys h = h
-all_right P (x ∷ xs) ys h = all_right P xs ys h.1
-
-all_from : {A : Type 0} (P : A → Type 0) (xs : List A) → ((i : ℕ) (x : A) → slice_get xs i ≡ Some x → P x) → AllIn P xs
-all_from P [] h = tt
-all_from P (x ∷ xs) h = (h 0 x refl, all_from P xs (λ i y e. h (suc i) y e))
 
 or_false : (x : Bool) → (x || false) ≡ x
 or_false true = refl
@@ -135,109 +103,7 @@ call_shape_step (Statement-F.Map place m counts starts xs)
 call_shape : (x : Statement) → CallShape x
 call_shape = ind-Statement CallShape (λ x y is. subst (λ z. CallShape (roll-Statement z)) is (call_shape_step y))
 
--- ---- the position of what is reduced into
-
-abbrev pub first_true : List Bool → ℕ
-first_true [] = 0
-first_true (true ∷ rest) = 0
-first_true (false ∷ rest) = suc (first_true rest)
-
-pub which_passed : (op : RedOp) (shapes : List Shape) (homes : List Home) (i : ℕ) (args : List Argument)
-    → which_of (placed_args (Some op) shapes homes i args) ≡ first_true (reduced_flags args)
-which_passed op shapes homes i [] = refl
-which_passed op shapes homes i (a ∷ args) = go a.is_reduced (which_passed op shapes homes (suc i) args)
-  where
-    go : (r : Bool) → which_of (placed_args (Some op) shapes homes (suc i) args) ≡ first_true (reduced_flags args)
-        → which_by (if r then Some op else None) (which_of (placed_args (Some op) shapes homes (suc i) args))
-        ≡ first_true (r ∷ reduced_flags args)
-    go true e = refl
-    go false e = ap suc e
-
--- ---- fewer arrays may be written
-
-base_more : (c : PlacedCall) (may more : ℕ → Bool) → ((i : ℕ) → may i ≡ true → more i ≡ true) → CallBase c may
-    → CallBase c more
-base_more c may more f k = record
-    { apart = k.apart; permitted = λ i p e w. f p.argument.array (k.permitted i p e w); sum_home = k.sum_home }
-
-keeps_more : (nest : Bool) (c : PlacedCall) (H : List PlacedArg) (may more : ℕ → Bool)
-    → ((i : ℕ) → may i ≡ true → more i ≡ true) → CallIn nest c may H → CallIn nest c more H
-keeps_more false c H may more f k = record { base = base_more c may more f k.base; not_held = k.not_held }
-keeps_more true c H may more f k = record { base = base_more c may more f k.base; lower = k.lower; held_in = k.held_in }
-
-pub keep_more : (p : Placed) (nest : Bool) (H : List PlacedArg) (may more : ℕ → Bool)
-    → ((i : ℕ) → may i ≡ true → more i ≡ true) → Keep p nest H may → Keep p nest H more
-keep_more Nothing nest H may more f k = k
-keep_more (Then x y) nest H may more f k = (keep_more x nest H may more f k.0, keep_more y nest H may more f k.1)
-keep_more (Each n w) nest H may more f k = λ t lt. keep_more (w t) nest H may more f (k t lt)
-keep_more (AtOnce place spread n w) nest H may more f k = (k.0, λ t lt. keep_more (w t) false [] may more f (k.1 t lt))
-keep_more (Gathers r place spread n w) nest H may more f k
-    = (k.0, λ t lt. keep_more (w t) false [] may more f (k.1 t lt))
-keep_more (Call c w) nest H may more f k = (keeps_more nest c H may more f k.0, k.1)
-keep_more (Hold args w) nest H may more f k = (k.0, keep_more w true (args ++ H) may more f k.1)
-keep_more (Piped spread n calls w) false H may more f k
-    = ((k.0.0, λ t lt. let h = k.0.1 t lt in (h.0, keeps_more false (calls t) [] may more f h.1)), k.1)
-keep_more (Piped None n calls w) true H may more f k
-    = (
-      record {
-        each = λ t lt. keeps_more true (calls t) H may more f (k.0.each t lt);
-        moved = k.0.moved;
-        same
-            = k.0.same;
-        loop = k.0.loop;
-      },
-      k.1,
-    )
-keep_more (Piped (Some q) n calls w) true H may more f k = absurd k.0
-keep_more (Leaf number leaf shapes) nest H may more f k = (k.0, λ i e. f i (k.1 i e))
-
-pub keeping_more : (p : Placed) (may more : ℕ → Bool) → ((i : ℕ) → may i ≡ true → more i ≡ true) → Keeping p may
-    → Keeping p more
-keeping_more p may more f k = keep_more p false [] may more f k
-
--- ---- nothing leaves a loop
-
--- a home that isn't held leaves no loop
-no_loop : (loops : ℕ) (h : Home) → held (place_of h) ≡ false → leaves_loop loops h ≡ false
-no_loop loops home.InPlace e = refl
-no_loop loops (home.Own b) e = refl
-no_loop loops (home.Held b n) e = cc
-no_loop loops (home.Twin b c) e = refl
-
--- the arguments of a row, from the i-th on, whose homes aren't held
-none_leaving : (loops : ℕ) (op : Option RedOp) (shapes : List Shape) (hs : List Home) (i : ℕ) (args : List Argument)
-    → ((j : ℕ) (p : PlacedArg) → slice_get (placed_args op shapes hs i args) j ≡ Some p → held (place_of p.home)
-    ≡ false)
-    → leaving_args loops hs i args ≡ []
-none_leaving loops op shapes hs i [] h = refl
-none_leaving loops op shapes hs i (a ∷ args) h =
-    ap (λ x. if x then (i, a) ∷ leaving_args loops hs (suc i) args else leaving_args loops hs (suc i) args)
-    (no_loop loops (get_or hs i InPlace) (h 0 _ refl))
-    ∙ none_leaving loops op shapes hs (suc i) args (λ j p e. h (suc j) p e)
-
 module _ (leaves : Leaves Cause) (bodies : ℕ → FormBody) (homes : ℕ → Homes) (mays : ℕ → ℕ → Bool) where
-  -- the call of which a statement is a loop: nothing leaves its loops, however many they are
-  abbrev Stays : Option (Chain ℕ) → Type 0
-  Stays None = Unit {0}
-  Stays (Some h) = (n : ℕ) → leaving_row homes n (slice_get h.instances 0) ≡ []
-
-  stays_chain : (h : Option (Chain ℕ)) → Stays h → leaving_chain homes h ≡ []
-  stays_chain None s = refl
-  stays_chain (Some h) s = s h.loops
-
-  stays_more : (starts : List ℕ) (h : Option (Chain ℕ)) → Stays h → Stays (one_more first_of starts h)
-  stays_more starts None s = tt
-  stays_more starts (Some h) s = s
-
-  stays_row : (k : ℕ) (t : Table) → TableFits leaves bodies homes mays k t → (n : ℕ)
-      → leaving_row homes n (slice_get t.times 0) ≡ []
-  stays_row k t h n = go (slice_get t.times 0) refl
-    where
-      go : (o : Option CallInstance) → slice_get t.times 0 ≡ o → leaving_row homes n o ≡ []
-      go None e = refl
-      go (Some r) e = none_leaving n (operator_of t.red) (bodies r.form).arrays (homes r.form).params 0 r.args
-          (h.rows 0 r e).keeps.not_held
-
   -- ---- statements
 
   module _ (callee : ℕ → Placed) (fit : (f : ℕ) → IsFit leaves bodies homes mays f (callee f)) (k : ℕ)
@@ -254,84 +120,196 @@ module _ (leaves : Leaves Cause) (bodies : ℕ → FormBody) (homes : ℕ → Ho
     abbrev codes : Codings
     codes = codes_of leaves
 
+    -- outside of loops that arguments leave
     abbrev Good : Placed → Option Reduction → Type 0
-    Good p red = Fitting codes p red ss × Keeping p may × NoLeaf p × Sits leaves p ss
+    Good p red = nested.Good leaves bodies homes mays callee fit k rule p red false []
 
-    abbrev Tabled : Statement → Option Reduction → Type 0
-    Tabled x red = AllIn (TableFits leaves bodies homes mays k) (tables_of x red)
+    -- what is asked of a statement that is begun for the j-th time in so many loops; of a call in them more is known
+    record Asked (x : Statement) (red : Option Reduction) (n j : ℕ) : Type 0 where
+      tables : EachOf (TableFits leaves bodies homes mays k) (tables_of x red)
+      alone : is_some (begun x).chain ≡ true → n ≡ 0
+      rounds : EachOf (AreHeldRows homes) (rounds_in x n)
+      ones : (kind_of x).ones ≡ true
+      full : filled x j ≡ true
+      loops : EachOf (LoopHolds homes) ((begun x).loops j)
 
-    -- a call with its row
-    row_good : (t : Table) (r : CallInstance) → RowFits leaves bodies homes mays k t r
-        → Good (Call (placed_call bodies homes (operator_of t.red) t.lower r) (callee r.form)) t.red
-    row_good t r h = (
-      (h.is, subst (λ (l : List Shape). Fitting codes (callee r.form) None l) (sym h.shapes) (fit r.form).fitting),
-      (
-        h.keeps,
-        keeping_more (callee r.form) (mays r.form)
-            (may_of (placed_call bodies homes (operator_of t.red) t.lower r)) h.may (fit r.form).keeping,
-      ),
-      tt,
-      (h.sits, subst (λ (l : List Shape). Sits leaves (callee r.form) l) (sym h.shapes) (fit r.form).sits),
-    )
-
-    -- what it is when it is begun for the j-th time, and what leaves the loops of which it is one
     IsGood : Statement → Type 0
-    IsGood x = (red : Option Reduction) → Tabled x red
-        → Stays (part x).chain
-        × ((inside : Bool) (j : ℕ) → (kind_of x).ones ≡ true → filled x j ≡ true
-        → Good ((part x).placed (operator_of red) inside j) red)
+    IsGood x = (red : Option Reduction) (n j : ℕ) (inside : Bool) → Asked x red n j
+        → Good ((part x).placed (operator_of red) inside j) red
 
     abbrev Known : Type 0
     Known = (x : Statement) × IsGood x
 
-    abbrev begun : List Known → List Statement
-    begun = map (λ q. q.0)
+    abbrev begun_all : List Known → List Statement
+    begun_all = map (λ q. q.0)
 
-    call_good : (lower : Bool) (times : List CallInstance) (red : Option Reduction) (j : ℕ)
-        → TableFits leaves bodies homes mays k (record { red = red; lower = lower; times = times })
-        → is_some (slice_get times j) ≡ true
-        → Good (row_placed bodies homes callee (operator_of red) lower (slice_get times j)) red
-    call_good lower times red j h e =
-        let r = some_of (slice_get times j) e in
-        subst (λ o. Good (row_placed bodies homes callee (operator_of red) lower o) red) (sym r.1)
-        (row_good (record { red = red; lower = lower; times = times }) r.0 (h.rows j r.0 r.1))
+    -- ---- a call
 
-    list_good : (xs : List Known) (red : Option Reduction) (inside : Bool) (j : ℕ)
-        → AllIn (TableFits leaves bodies homes mays k) (all_tables (map tables_of (begun xs)) red)
-        → all_ones (map kind_of (begun xs)) ≡ true → all_filled (map filled (begun xs)) j ≡ true
-        → Good (all_placed (map part (begun xs)) (operator_of red) inside j) red
+    call_good : (lower : Bool) (times : List CallInstance) → IsGood (b.Call lower times)
     unfolding IsGood
-    list_good [] red inside j h e f = (tt, tt, tt, tt)
-    list_good (x ∷ xs) red inside j h e f =
-        let first = (x.1 red (all_left _ (tables_of x.0 red) (all_tables (map tables_of (begun xs)) red) h)).1 inside j
-        (left_true (kind_of x.0).ones (all_ones (map kind_of (begun xs))) e)
-        (left_true (filled x.0 j) (all_filled (map filled (begun xs)) j) f) in
-        let rest = list_good xs red inside j
-        (all_right _ (tables_of x.0 red) (all_tables (map tables_of (begun xs)) red) h)
-        (right_true (kind_of x.0).ones (all_ones (map kind_of (begun xs))) e)
-        (right_true (filled x.0 j) (all_filled (map filled (begun xs)) j) f) in
+    call_good lower times red n j inside h =
+        let t : Table = record { red = red; lower = lower; times = times } in
+        let table : TableFits leaves bodies homes mays k t
+        = (subst (λ (g : Option Reduction → List Table). EachOf (TableFits leaves bodies homes mays k) (g red))
+        (tables_call lower times) h.tables).0 in
+        let held : EachOf (IsHeldRow homes (record { loops = if lower then n else 0; rows = times })) times
+        = (subst (λ (g : ℕ → List Round). EachOf (AreHeldRows homes) (g n)) (rounds_call lower times) h.rounds).0 in
+        let r = some_of (slice_get times j) (ap (λ (g : ℕ → Bool). g j) (sym (full_call lower times)) ∙ h.full) in
+        let row = each_at (IsHeldRow homes (record { loops = if lower then n else 0; rows = times })) times j r.0 held
+        r.1 in
+        subst (λ (p : PlacedPart). Good (p.placed (operator_of red) inside j) red)
+        (sym (part_call bodies homes callee rule lower times))
+        (subst (λ o. Good (row_placed bodies homes callee (operator_of red) lower o) red) (sym r.1)
+        (nested.free_good leaves bodies homes mays callee fit k rule t r.0 (table.rows j r.0 r.1)
+        (λ i u m e. none lower (ap (λ (z : Begun). is_some z.chain) (begun_call lower times)) h.alone
+        (row.some i u m e) (row.round i u m e))))
+      where
+        none : (low : Bool) → is_some (begun (b.Call lower times)).chain ≡ is_some (call_chain {X = ℕ} low times)
+            → (is_some (begun (b.Call lower times)).chain ≡ true → n ≡ 0) → {m : ℕ} → 0 < m
+            → m ≤ (if low then n else 0) → ⊥
+        none true e alone some few = let zero_loops = alone e in omega (arith, some, few, zero_loops)
+        none false e alone some few = omega (arith, some, few)
+
+    -- ---- a call in loops
+
+    nest_tables : (c : Nest) → nest_fold (Option Reduction → List Table) tables_step c None
+        ≡ lower_table (chain c).instances ∷ []
+    nest_tables (a_call rows) = refl
+    nest_tables (a_loop place counts starts c) = ap (λ (l : List Table). l ++ []) (nest_tables c)
+
+    nest_rounds : (c : Nest) (n : ℕ) → nest_fold (ℕ → List Round) round_step c n
+        ≡ record { loops = n + (chain c).loops; rows = (chain c).instances } ∷ []
+    nest_rounds (a_call rows) n = let z : n ≡ n + 0 = omega arith in
+        ap (λ (m : ℕ). record { loops = m; rows = rows } ∷ []) z
+    nest_rounds (a_loop place counts starts c) n =
+        let z : suc n + (chain c).loops ≡ n + suc (chain c).loops = omega arith in
+        nest_rounds c (suc n) ∙ ap (λ (m : ℕ). record { loops = m; rows = (chain c).instances } ∷ []) z
+
+    nest_is_good : (c : Nest) → IsGood (as_statement c)
+    unfolding IsGood
+    nest_is_good (a_call rows) red n j inside h = call_good true rows red n j inside h
+    nest_is_good (a_loop place counts starts c) red n j inside h =
+        subst (λ (p : PlacedPart). Good (p.placed (operator_of red) inside j) red)
+        (sym (nest_is PlacedPart (placed_step bodies homes callee rule) (a_loop place counts starts c)))
+        (nested.loop_good leaves bodies homes mays callee fit k rule place counts starts c (chain whole).loops rows
+        (nested.nest_good leaves bodies homes mays callee fit k rule c (chain whole).loops rows) inside j full hold
+        false [] refl (carries_none bodies homes (chain whole).loops (calls whole j) none) (operator_of red) red)
+      where
+        whole : Nest
+        whole = a_loop place counts starts c
+
+        outermost : n ≡ 0
+        outermost = h.alone (ap (λ (z : Begun). is_some z.chain) (nest_is Begun begun_step (a_loop place counts starts c))
+            ∙ ap is_some (chain_is (a_loop place counts starts c)))
+
+        rows : nested.Rows leaves bodies homes mays callee fit k rule (suc (chain c).loops) (chain c).instances
+        rows = record {
+          table = (subst (EachOf (TableFits leaves bodies homes mays k))
+              (ap (λ (g : Option Reduction → List Table). g red)
+              (nest_is (Option Reduction → List Table) tables_step (a_loop place counts starts c))
+              ∙ ap (λ (l : List Table). l ++ []) (nest_tables c)) h.tables).0;
+          held = subst (λ (m : ℕ). EachOf (IsHeldRow homes (record { loops = m; rows = (chain c).instances }))
+              (chain c).instances) (let z = outermost in omega (arith, z))
+              (subst (EachOf (AreHeldRows homes))
+              (ap (λ (g : ℕ → List Round). g n) (nest_is (ℕ → List Round) round_step (a_loop place counts starts c))
+              ∙ nest_rounds (a_loop place counts starts c) n) h.rounds).0;
+        }
+
+        full : nest_filled (a_loop place counts starts c) j ≡ true
+        full = ap (λ (g : ℕ → Bool). g j) (sym (nest_is (ℕ → Bool) filled_step (a_loop place counts starts c))) ∙ h.full
+
+        hold : LoopsHold homes (a_loop place counts starts c) j
+        hold = loops_hold homes (a_loop place counts starts c) j
+            (subst (λ (z : Begun). EachOf (LoopHolds homes) (z.loops j))
+            (nest_is Begun begun_step (a_loop place counts starts c)) h.loops)
+
+        -- no argument leaves more loops than there are
+        none : EachOf (λ r. (i : ℕ) (p : PlacedArg) → slice_get (row_args bodies homes r) i ≡ Some p
+            → Beyond (suc (chain c).loops) p.home → ⊥) (calls (a_loop place counts starts c) j)
+        none = each_map (InRows (chain c).instances) _ (calls (a_loop place counts starts c) j)
+            (λ r at i p e x. by r at i p e p.home refl x) (calls_there (a_loop place counts starts c) j)
+          where
+            by : (r : CallInstance) → InRows (chain c).instances r → (i : ℕ) (p : PlacedArg)
+                → slice_get (row_args bodies homes r) i ≡ Some p
+                → (z : Home) → p.home ≡ z → Beyond (suc (chain c).loops) z → ⊥
+            by r at i p e home.InPlace is x = x
+            by r at i p e (home.Own u) is x = x
+            by r at i p e (home.Held u m) is x =
+                let row = each_at _ (chain c).instances at.0 r rows.held at.1 in
+                let few = row.round i u m (home_there bodies homes r i p e ∙ is) in
+                omega (arith, few, x)
+            by r at i p e (home.Twin u v) is x = x
+
+    -- ---- statements one after another
+
+    abbrev AllAsked : List Statement → Option Reduction → (n j : ℕ) → Type 0
+    AllAsked [] red n j = Unit {0}
+    AllAsked (x ∷ xs) red n j = Asked x red n j × AllAsked xs red n j
+
+    list_good : (xs : List Known) (red : Option Reduction) (inside : Bool) (n j : ℕ) → AllAsked (begun_all xs) red n j
+        → Good (all_placed (map part (begun_all xs)) (operator_of red) inside j) red
+    unfolding IsGood
+    list_good [] red inside n j h = (tt, tt, tt, tt)
+    list_good (x ∷ xs) red inside n j h =
+        let first = x.1 red n j inside h.0 in
+        let rest = list_good xs red inside n j h.1 in
         ((first.0, rest.0), (first.1, rest.1), (first.2, rest.2), (first.3, rest.3))
+
+    -- with so many loops round each
+    abbrev AllRounds : List Statement → ℕ → Type 0
+    AllRounds [] n = Unit {0}
+    AllRounds (x ∷ xs) n = (is_some (begun x).chain ≡ true → n ≡ 0) × EachOf (AreHeldRows homes) (rounds_in x n)
+        × AllRounds xs n
+
+    no_rounds : (xs : List Statement) → EachOf (AreHeldRows homes) (all_rounds (map rounds_in xs)) → AllRounds xs 0
+    no_rounds [] h = tt
+    no_rounds (x ∷ xs) h = (
+      λ e. refl,
+      each_left (AreHeldRows homes) (rounds_in x 0) (all_rounds (map rounds_in xs)) h,
+      no_rounds xs (each_right (AreHeldRows homes) (rounds_in x 0) (all_rounds (map rounds_in xs)) h),
+    )
+
+    all_asked : (xs : List Statement) (red : Option Reduction) (n j : ℕ)
+        → EachOf (TableFits leaves bodies homes mays k) (all_tables (map tables_of xs) red)
+        → AllRounds xs n
+        → all_ones (map kind_of xs) ≡ true → all_filled (map filled xs) j ≡ true
+        → EachOf (LoopHolds homes) (held.all_loops (map begun xs) j) → AllAsked xs red n j
+    all_asked [] red n j h r e f l = tt
+    all_asked (x ∷ xs) red n j h r e f l = (
+      record {
+        tables = each_left _ (tables_of x red) (all_tables (map tables_of xs) red) h;
+        alone = r.0;
+        rounds = r.1;
+        ones = left_true (kind_of x).ones (all_ones (map kind_of xs)) e;
+        full = left_true (filled x j) (all_filled (map filled xs) j) f;
+        loops = each_left _ ((begun x).loops j) (held.all_loops (map begun xs) j) l;
+      },
+      all_asked xs red n j (each_right _ (tables_of x red) (all_tables (map tables_of xs) red) h) r.2
+          (right_true (kind_of x).ones (all_ones (map kind_of xs)) e)
+          (right_true (filled x j) (all_filled (map filled xs) j) f)
+          (each_right _ ((begun x).loops j) (held.all_loops (map begun xs) j) l),
+    )
 
     -- the one call of a `mapreduce`
     abbrev Sum : Reduction → List Statement → (inside : Bool) → (start : ℕ) → ℕ → Placed
     Sum r xs inside start t = all_placed (map part xs) (Some r.op) inside (start + t)
 
     one_good : (r : Reduction) (xs : List Statement) (inside : Bool) (start n : ℕ)
-        → AllIn (TableFits leaves bodies homes mays k) (all_tables (map tables_of xs) (Some r))
-        → one_call (map kind_of xs) ≡ true
+        → EachOf (TableFits leaves bodies homes mays k) (all_tables (map tables_of xs) (Some r))
+        → one_call (map kind_of xs) ≡ true → AllRounds xs 0
         → ((t : ℕ) → t < n → all_filled (map filled xs) (start + t) ≡ true)
         → ((which : ℕ) × ((t : ℕ) → t < n → (one : IsOne (Sum r xs inside start t)) × (which_of one.called.args ≡ which)
         × Fitting codes (Sum r xs inside start t) (Some r) ss))
         × ((t : ℕ) → t < n → Keeping (Sum r xs inside start t) may)
         × ((lower : Bool) × ((t : ℕ) → t < n → (one : IsOne (Sum r xs inside start t)) × (one.called.lower ≡ lower)
         × Sits leaves (Sum r xs inside start t) ss))
-    one_good r [] inside start n h e f = cc
-    one_good r (x ∷ y ∷ xs) inside start n h e f = cc
-    one_good r (x ∷ []) inside start n h e f =
+    one_good r [] inside start n h e k f = cc
+    one_good r (x ∷ y ∷ xs) inside start n h e k f = cc
+    one_good r (x ∷ []) inside start n h e deep f =
         let c = call_shape x e in
-        let tables : AllIn (TableFits leaves bodies homes mays k) (tables_of x (Some r))
-        = all_left _ (tables_of x (Some r)) [] h in
-        by c.0 c.1 c.2 (subst (λ (g : Option Reduction → List Table). AllIn (TableFits leaves bodies homes mays k)
+        let tables : EachOf (TableFits leaves bodies homes mays k) (tables_of x (Some r))
+        = each_left _ (tables_of x (Some r)) [] h in
+        by c.0 c.1 c.2 (subst (λ (g : Option Reduction → List Table). EachOf (TableFits leaves bodies homes mays k)
         (g (Some r))) (ap tables_of c.2 ∙ tables_call c.0 c.1) tables).0
       where
         by : (lower : Bool) (times : List CallInstance) → x ≡ b.Call lower times
@@ -346,6 +324,14 @@ module _ (leaves : Leaves Cause) (bodies : ℕ → FormBody) (homes : ℕ → Ho
             position : Option CallInstance → ℕ
             position None = 0
             position (Some q) = first_true (reduced_flags q.args)
+
+            rows_held : EachOf (IsHeldRow homes (record { loops = if lower then 0 else 0; rows = times })) times
+            rows_held = (subst (λ (g : ℕ → List Round). EachOf (AreHeldRows homes) (g 0))
+                (ap rounds_in is ∙ rounds_call lower times) deep.1).0
+
+            few : (low : Bool) (m : ℕ) → 0 < m → m ≤ (if low then 0 else 0) → ⊥
+            few true m a c = omega (arith, a, c)
+            few false m a c = omega (arith, a, c)
 
             row : (t : ℕ) → t < n → (q : CallInstance) × (slice_get times (start + t) ≡ Some q)
             row t lt = some_of (slice_get times (start + t))
@@ -362,14 +348,20 @@ module _ (leaves : Leaves Cause) (bodies : ℕ → FormBody) (homes : ℕ → Ho
 
             good : (t : ℕ) (q : CallInstance) → slice_get times (start + t) ≡ Some q
                 → Good (Call (placed_call bodies homes (Some r.op) lower q) (callee q.form)) (Some r)
-            good t q e = row_good (record { red = Some r; lower = lower; times = times }) q (h.rows (start + t) q e)
+            good t q e =
+                let row = each_at (IsHeldRow homes (record { loops = if lower then 0 else 0; rows = times })) times
+                (start + t) q rows_held e in
+                nested.free_good leaves bodies homes mays callee fit k rule
+                (record { red = Some r; lower = lower; times = times }) q
+                (h.rows (start + t) q e) (λ i u m g. few lower m (row.some i u m g) (row.round i u m g))
 
             which_is : (t : ℕ) (lt : t < n) (q : CallInstance) → slice_get times (start + t) ≡ Some q
                 → which_of (placed_call bodies homes (Some r.op) lower q).args ≡ position (slice_get times (start + 0))
             which_is t lt q e =
                 let z = row 0 (omega (arith, lt)) in
                 which_passed r.op (bodies q.form).arrays (homes q.form).params 0 q.args
-                ∙ (ap first_true (h.same (start + t) (start + 0) q z.0 e z.1) ∙ ap position (sym z.1))
+                ∙ (ap first_true (flags_alike q.args z.0.args (h.same (start + t) (start + 0) q z.0 e z.1))
+                ∙ ap position (sym z.1))
 
             one : (t : ℕ) → t < n → (one : IsOne (Sum r (x ∷ []) inside start t))
                 × (which_of one.called.args ≡ position (slice_get times (start + 0)))
@@ -404,91 +396,145 @@ module _ (leaves : Leaves Cause) (bodies : ℕ → FormBody) (homes : ℕ → Ho
                   subst (λ p. Sits leaves p ss) (sym (placed_is t q.0 q.1)) ((good t q.0 q.1).3, tt),
                 )
 
+    abbrev MapRounds : LoopKind → List Statement → (n : ℕ) → Type 0
+    MapRounds loop_kind.Sequential xs n = AllRounds xs n
+    MapRounds loop_kind.Parallel xs n = AllRounds xs n
+    MapRounds (loop_kind.Reduction r) xs n = AllRounds xs 0
+
+    -- a map that isn't a loop round a lower call alone
     map_good : (m : LoopKind) (place : Place) (spread : Option SpreadRule) (xs : List Known) (red : Option Reduction)
-        (inside : Bool) (start n : ℕ) → AllIn (TableFits leaves bodies homes mays k)
-        (all_tables (map tables_of (begun xs)) (red_of m)) → body_ones m (map kind_of (begun xs)) ≡ true
-        → ((t : ℕ) → t < n → all_filled (map filled (begun xs)) (start + t) ≡ true)
-        → Good (map_placed m place spread n (λ t. all_placed (map part (begun xs)) (op_of m) inside (start + t))) red
-    map_good loop_kind.Sequential place spread xs red inside start n h e f = (
-      λ t lt. (list_good xs None inside (start + t) h e (f t lt)).0,
-      λ t lt. (list_good xs None inside (start + t) h e (f t lt)).1,
-      λ t lt. (list_good xs None inside (start + t) h e (f t lt)).2,
-      λ t lt. (list_good xs None inside (start + t) h e (f t lt)).3,
+        (inside : Bool) (d start n : ℕ) → EachOf (TableFits leaves bodies homes mays k)
+        (all_tables (map tables_of (begun_all xs)) (red_of m)) → body_ones m (map kind_of (begun_all xs)) ≡ true
+        → MapRounds m (begun_all xs) d
+        → ((t : ℕ) → t < n → all_filled (map filled (begun_all xs)) (start + t) ≡ true)
+        → ((t : ℕ) → t < n → EachOf (LoopHolds homes) (held.all_loops (map begun (begun_all xs)) (start + t)))
+        → Good (map_placed m place spread n (λ t. all_placed (map part (begun_all xs)) (op_of m) inside (start + t))) red
+    map_good loop_kind.Sequential place spread xs red inside d start n h e r f l = (
+      λ t lt. (go t lt).0,
+      λ t lt. (go t lt).1,
+      λ t lt. (go t lt).2,
+      λ t lt. (go t lt).3,
     )
-    map_good loop_kind.Parallel place spread xs red inside start n h e f = (
-      λ t lt. let g = list_good xs None inside (start + t) h e (f t lt) in (g.2, g.0),
-      (tt, λ t lt. (list_good xs None inside (start + t) h e (f t lt)).1),
-      λ t lt. (list_good xs None inside (start + t) h e (f t lt)).2,
-      λ t lt. (list_good xs None inside (start + t) h e (f t lt)).3,
+      where
+        go : (t : ℕ) → t < n → Good (all_placed (map part (begun_all xs)) None inside (start + t)) None
+        go t lt = list_good xs None inside d (start + t)
+            (all_asked (begun_all xs) None d (start + t) h r e (f t lt) (l t lt))
+    map_good loop_kind.Parallel place spread xs red inside d start n h e r f l = (
+      λ t lt. let g = go t lt in (g.2, g.0),
+      (tt, λ t lt. (go t lt).1),
+      λ t lt. (go t lt).2,
+      λ t lt. (go t lt).3,
     )
-    map_good (loop_kind.Reduction r) place spread xs red inside start n h e f =
-        let g = one_good r (begun xs) inside start n h e f in (g.0, (tt, g.1), tt, g.2)
+      where
+        go : (t : ℕ) → t < n → Good (all_placed (map part (begun_all xs)) None inside (start + t)) None
+        go t lt = list_good xs None inside d (start + t)
+            (all_asked (begun_all xs) None d (start + t) h r e (f t lt) (l t lt))
+    map_good (loop_kind.Reduction q) place spread xs red inside d start n h e r f l =
+        let g = one_good q (begun_all xs) inside start n h e r f in (g.0, (tt, g.1), tt, g.2)
 
     -- a loop that nothing leaves is the loop alone
-    loop_is : (h : Option (Chain ℕ)) → Stays h → (j : ℕ) (inside : Bool) (loop : Bool → Placed)
-        → map_held bodies homes callee h j inside loop ≡ loop inside
-    loop_is h s j inside loop =
-        ap (λ l. hold_placed l (held_arg (bodies (chain_form h)) (homes (chain_form h)) (chain_row h j))
-        (loop (inside || holds l))) (stays_chain h s)
-        ∙ ap loop (or_false inside)
+    loop_is : (o : Option (Chain ℕ)) → o ≡ None → (j : ℕ) (inside : Bool) (loop : Bool → Placed)
+        → map_held bodies homes callee o j inside loop ≡ loop inside
+    loop_is o e j inside loop = ap (λ o. map_held bodies homes callee o j inside loop) e ∙ ap loop (or_false inside)
 
-    chain_stays : (m : LoopKind) (starts : List ℕ) (xs : List Known)
-        → AllIn (TableFits leaves bodies homes mays k) (all_tables (map tables_of (begun xs)) (red_of m))
-        → Stays (chain_of first_of m starts (chains (map part (begun xs))))
+    -- ---- the calls of statements, as they are placed
+
+    abbrev SameChain : Statement → Type 0
+    SameChain x = (part x).chain ≡ (begun x).chain
+
+    abbrev Chained : Type 0
+    Chained = (x : Statement) × SameChain x
+
+    chains_same : (xs : List Chained)
+        → chains (map part (map (λ q. q.0) xs)) ≡ held.chains (map begun (map (λ q. q.0) xs))
+    chains_same [] = refl
+    chains_same (x ∷ xs) = ap₂ (λ (o : Option (Chain ℕ)) (l : List (Option (Chain ℕ))). o ∷ l) x.1 (chains_same xs)
+
+    chain_step : (y : Statement-F Chained) → SameChain (roll-Statement (map-Statement Chained Statement (λ p. p.0) y))
+    chain_step (Statement-F.Call lower times) = subst SameChain (sym (b.rolls-Call lower times))
+        (ap (λ (p : PlacedPart). p.chain) (part_call bodies homes callee rule lower times)
+        ∙ sym (ap (λ (z : Begun). z.chain) (begun_call lower times)))
+    chain_step (Statement-F.Map place m counts starts xs)
+        = subst SameChain (sym (b.rolls-Map place m counts starts (map (λ q. q.0) xs)))
+        (ap (λ (p : PlacedPart). p.chain) (part_map bodies homes callee rule place m counts starts (map (λ q. q.0) xs))
+        ∙ (ap (chain_of first_of m starts) (chains_same xs)
+        ∙ sym (ap (λ (z : Begun). z.chain) (begun_map place m counts starts (map (λ q. q.0) xs)))))
+
+    chain_same : (x : Statement) → SameChain x
+    chain_same = ind-Statement SameChain (λ x y is. subst (λ z. SameChain (roll-Statement z)) is (chain_step y))
+
+    -- ---- all statements
+
+    part_rounds : (m : LoopKind) (starts : List ℕ) (xs : List Statement) (n : ℕ)
+        → chain_of first_of m starts (held.chains (map begun xs)) ≡ None
+        → EachOf (AreHeldRows homes) (map_rounds m (map rounds_in xs) n) → (d : ℕ) × MapRounds m xs d
+    part_rounds loop_kind.Sequential starts [] n e h = (0, tt)
+    part_rounds loop_kind.Sequential starts (x ∷ []) n e h = (suc n, (λ f. none (begun x).chain e f, h, tt))
+      where
+        none : (o : Option (Chain ℕ)) → one_more first_of starts o ≡ None → is_some o ≡ true → suc n ≡ 0
+        none None g f = cc
+        none (Some c) g f = cc
+    part_rounds loop_kind.Sequential starts (x ∷ y ∷ xs) n e h = (0, no_rounds (x ∷ y ∷ xs) h)
+    part_rounds loop_kind.Parallel starts xs n e h = (0, no_rounds xs h)
+    part_rounds (loop_kind.Reduction r) starts xs n e h = (0, no_rounds xs h)
+
+    map_plain : (place : Place) (m : LoopKind) (counts starts : List ℕ) (xs : List Known)
+        → (begun (b.Map place m counts starts (begun_all xs))).chain ≡ None
+        → IsGood (b.Map place m counts starts (begun_all xs))
     unfolding IsGood
-    chain_stays loop_kind.Sequential starts [] h = tt
-    chain_stays loop_kind.Sequential starts (x ∷ []) h
-        = stays_more starts (part x.0).chain (x.1 None (all_left _ (tables_of x.0 None) [] h)).0
-    chain_stays loop_kind.Sequential starts (x ∷ y ∷ xs) h = tt
-    chain_stays loop_kind.Parallel starts xs h = tt
-    chain_stays (loop_kind.Reduction r) starts xs h = tt
+    map_plain place m counts starts xs none red n j inside h =
+        let x = b.Map place m counts starts (begun_all xs) in
+        let parts = map part (begun_all xs) in
+        let spread = spread_of rule m inside (any_lower parts) (any_same parts) in
+        let loop : Bool → Placed = λ within_it.
+        map_placed m place (spread_of rule m within_it (any_lower parts) (any_same parts)) (get_or counts j 0)
+        (λ t. all_placed parts (op_of m)
+        (within_it || is_some (spread_of rule m within_it (any_lower parts) (any_same parts)))
+        (get_or starts j 0 + t)) in
+        let chain_none : chain_of first_of m starts (chains parts) ≡ None
+        = sym (ap (λ (p : PlacedPart). p.chain) (part_map bodies homes callee rule place m counts starts (begun_all xs)))
+        ∙ (chain_same x ∙ none) in
+        let own_none : chain_of first_of m starts (held.chains (map begun (begun_all xs))) ≡ None
+        = sym (ap (λ (z : Begun). z.chain) (begun_map place m counts starts (begun_all xs))) ∙ none in
+        let tables : EachOf (TableFits leaves bodies homes mays k) (all_tables (map tables_of (begun_all xs)) (red_of m))
+        = subst (λ (g : Option Reduction → List Table). EachOf (TableFits leaves bodies homes mays k) (g red))
+        (tables_map place m counts starts (begun_all xs)) h.tables in
+        let deep = part_rounds m starts (begun_all xs) n own_none
+        (subst (λ (g : ℕ → List Round). EachOf (AreHeldRows homes) (g n))
+        (rounds_map place m counts starts (begun_all xs)) h.rounds) in
+        let full : all_below (get_or counts j 0) (λ t. all_filled (map filled (begun_all xs)) (get_or starts j 0 + t))
+        ≡ true = ap (λ (g : ℕ → Bool). g j) (sym (full_map place m counts starts (begun_all xs))) ∙ h.full in
+        let begins = λ (t : ℕ). held.all_loops (map begun (begun_all xs)) (get_or starts j 0 + t) in
+        let loops : EachOf (LoopHolds homes) (over 0 (get_or counts j 0) begins)
+        = subst (λ o. EachOf (LoopHolds homes) (held.loop_list o (get_or counts j 0)
+        (over 0 (get_or counts j 0) (λ t. held.all_calls (map begun (begun_all xs)) (get_or starts j 0 + t)))
+        ++ over 0 (get_or counts j 0) begins)) own_none
+        (subst (λ (z : Begun). EachOf (LoopHolds homes) (z.loops j)) (begun_map place m counts starts (begun_all xs))
+        h.loops) in
+        subst (λ (p : PlacedPart). Good (p.placed (operator_of red) inside j) red)
+        (sym (part_map bodies homes callee rule place m counts starts (begun_all xs)))
+        (subst (λ (p : Placed). Good p red)
+        (sym (loop_is (chain_of first_of m starts (chains parts)) chain_none j inside loop))
+        (map_good m place spread xs red (inside || is_some spread) deep.0 (get_or starts j 0) (get_or counts j 0) tables
+        (ap (λ (z : Kind). z.ones) (sym (kind_map place m counts starts (begun_all xs))) ∙ h.ones) deep.1
+        (λ t lt. below_true (get_or counts j 0) (λ t. all_filled (map filled (begun_all xs)) (get_or starts j 0 + t))
+        t full lt)
+        (λ t lt. each_turn (LoopHolds homes) (get_or counts j 0) begins loops t lt)))
 
-    call_stays : (lower : Bool) (times : List CallInstance) (red : Option Reduction)
-        → TableFits leaves bodies homes mays k (record { red = red; lower = lower; times = times })
-        → Stays (call_chain lower times)
-    call_stays true times red h = λ n. stays_row k (record { red = red; lower = true; times = times }) h n
-    call_stays false times red h = tt
+    -- a loop round a lower call alone, or another map
+    any_map : (place : Place) (m : LoopKind) (counts starts : List ℕ) (xs : List Known) (o : Option (Chain ℕ))
+        → (begun (b.Map place m counts starts (begun_all xs))).chain ≡ o
+        → IsGood (b.Map place m counts starts (begun_all xs))
+    any_map place m counts starts xs None e = map_plain place m counts starts xs e
+    any_map place m counts starts xs (Some h) e =
+        let c = nest_of (b.Map place m counts starts (begun_all xs)) h e in
+        subst IsGood (sym c.1) (nest_is_good c.0)
 
     good_step : (y : Statement-F Known) → IsGood (roll-Statement (map-Statement Known Statement (λ p. p.0) y))
-    unfolding IsGood
-    good_step (Statement-F.Call lower times) = subst IsGood (sym (b.rolls-Call lower times)) (λ red h.
-        let t : TableFits leaves bodies homes mays k (record { red = red; lower = lower; times = times })
-        = (subst (λ (g : Option Reduction → List Table). AllIn (TableFits leaves bodies homes mays k) (g red))
-        (tables_call lower times) h).0 in (
-          subst (λ (p : PlacedPart). Stays p.chain) (sym (part_call bodies homes callee rule lower times))
-              (call_stays lower times red t),
-          λ inside j e f.
-              subst (λ (p : PlacedPart). Good (p.placed (operator_of red) inside j) red)
-              (sym (part_call bodies homes callee rule lower times))
-              (call_good lower times red j t (ap (λ (g : ℕ → Bool). g j) (sym (full_call lower times)) ∙ f)),
-        ))
-    good_step (Statement-F.Map place m counts starts xs)
-        = subst IsGood (sym (b.rolls-Map place m counts starts (begun xs))) (λ red h.
-        let parts = map part (begun xs) in
-        let t : AllIn (TableFits leaves bodies homes mays k) (all_tables (map tables_of (begun xs)) (red_of m))
-        = subst (λ (g : Option Reduction → List Table). AllIn (TableFits leaves bodies homes mays k) (g red))
-        (tables_map place m counts starts (begun xs)) h in
-        let s : Stays (chain_of first_of m starts (chains parts)) = chain_stays m starts xs t in (
-          subst (λ (p : PlacedPart). Stays p.chain)
-              (sym (part_map bodies homes callee rule place m counts starts (begun xs))) s,
-          λ inside j e f.
-              let spread = spread_of rule m inside (any_lower parts) (any_same parts) in
-              let loop : Bool → Placed = λ within_it.
-              map_placed m place (spread_of rule m within_it (any_lower parts) (any_same parts)) (get_or counts j 0)
-              (λ t. all_placed parts (op_of m)
-              (within_it || is_some (spread_of rule m within_it (any_lower parts) (any_same parts)))
-              (get_or starts j 0 + t)) in
-              let full : all_below (get_or counts j 0) (λ t. all_filled (map filled (begun xs)) (get_or starts j 0 + t))
-              ≡ true = ap (λ (g : ℕ → Bool). g j) (sym (full_map place m counts starts (begun xs))) ∙ f in
-              subst (λ (p : PlacedPart). Good (p.placed (operator_of red) inside j) red)
-              (sym (part_map bodies homes callee rule place m counts starts (begun xs)))
-              (subst (λ (p : Placed). Good p red)
-              (sym (loop_is (chain_of first_of m starts (chains parts)) s j inside loop))
-              (map_good m place spread xs red (inside || is_some spread) (get_or starts j 0) (get_or counts j 0) t
-              (ap (λ (z : Kind). z.ones) (sym (kind_map place m counts starts (begun xs))) ∙ e)
-              (λ t lt. below_true (get_or counts j 0) (λ t. all_filled (map filled (begun xs)) (get_or starts j 0 + t))
-              t full lt))),
-        ))
+    good_step (Statement-F.Call lower times) = subst IsGood (sym (b.rolls-Call lower times)) (call_good lower times)
+    good_step (Statement-F.Map place m counts starts xs) =
+        subst IsGood (sym (b.rolls-Map place m counts starts (begun_all xs)))
+        (any_map place m counts starts xs (begun (b.Map place m counts starts (begun_all xs))).chain refl)
 
     statement_good : (x : Statement) → IsGood x
     statement_good = ind-Statement IsGood (λ x y is. subst (λ z. IsGood (roll-Statement z)) is (good_step y))
@@ -497,7 +543,7 @@ module _ (leaves : Leaves Cause) (bodies : ℕ → FormBody) (homes : ℕ → Ho
     known [] = []
     known (x ∷ xs) = (x, statement_good x) ∷ known xs
 
-    unknown : (list : List Statement) → begun (known list) ≡ list
+    unknown : (list : List Statement) → begun_all (known list) ≡ list
     unfolding known
     unknown [] = refl
     unknown (x ∷ xs) = ap (λ (l : List Statement). x ∷ l) (unknown xs)
@@ -505,10 +551,10 @@ module _ (leaves : Leaves Cause) (bodies : ℕ → FormBody) (homes : ℕ → Ho
     statements_good : (list : List Statement) → ListFits leaves bodies homes mays k list
         → Good (all_placed (map part list) None false 0) None
     statements_good list h =
-        subst (λ (l : List Statement). AllIn (TableFits leaves bodies homes mays k) (all_tables (map tables_of l) None)
-        → all_ones (map kind_of l) ≡ true → all_filled (map filled l) 0 ≡ true
-        → Good (all_placed (map part l) None false 0) None) (unknown list)
-        (list_good (known list) None false 0) (all_from _ (tables_in list None) h.tables) h.ones h.full
+        subst (λ (l : List Statement). AllAsked l None 0 0 → Good (all_placed (map part l) None false 0) None)
+        (unknown list) (λ a. list_good (known list) None false 0 0 a)
+        (all_asked list None 0 0 (each_from _ (tables_in list None) h.tables) (no_rounds list h.rounds) h.ones h.full
+        h.loops)
 
   body_fit : (callee : ℕ → Placed) → ((f : ℕ) → IsFit leaves bodies homes mays f (callee f)) → (k : ℕ) (x : Body)
       → BodyFits leaves bodies homes mays k x

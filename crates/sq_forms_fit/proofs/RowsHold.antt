@@ -1,7 +1,7 @@
 -- The facts of each row of a form's tables.
 use Rattle.std.proofs.Common.{◌≡◌, ℕ, zero, suc, ◌<◌, Bool, true, false, List, [], ◌∷◌, ◌++◌, length, map}
-use Rattle.std.proofs.Common.{get_or, Option, Some, None, Ok, refl, sym, ap, ◌∙◌, subst, arith}
-use Rattle.std.specs.Prelude.{slice_get, nat_lt, ◌==◌, ◌&&◌, not, if◌then◌else◌}
+use Rattle.std.proofs.Common.{◌+◌, get_or, Option, Some, None, Ok, refl, sym, ap, ◌∙◌, subst, arith}
+use Rattle.std.specs.Prelude.{slice_get, nat_lt, ◌==◌, ◌&&◌, not, if◌then◌else◌, Err, Result, ℤ}
 use Rattle.std.specs.Map.{lookup}
 use Rattle.std.proofs.lemmas.Bool.Decides.{nat_tests}
 use Rattle.sq_text.specs.Names.{Bytes, same_name}
@@ -12,6 +12,8 @@ use Rattle.sq_ast.specs.declared.program.Body.TheVariants.{Inner}
 use Rattle.sq_ast.specs.declared.program.Param.{Param}
 use Rattle.sq_ast.specs.declared.program.Program.{Program}
 use Rattle.sq_ast.specs.declared.program.Variant.{Variant}
+use Rattle.sq_ast.specs.declared.expr.ArgUse.{ArgUse, out-ArgUse}
+use Rattle.sq_ast.specs.declared.expr.Expr.{Expr}
 use Rattle.sq_ast.specs.declared.stmt.Call.{Call}
 use Rattle.sq_ast.specs.declared.stmt.Stmt.{Stmt}
 use Rattle.sq_machfile.specs.declared.level.Level.{Level}
@@ -21,12 +23,19 @@ use Rattle.sq_mapfile.specs.Sound.{Sound}
 use Rattle.sq_types.specs.Sound.{is_sound}
 use Rattle.sq_leaf.specs.declared.shape.Shape.{Shape}
 use Rattle.sq_blocks.specs.Insides.{AreSpansIn}
-use Rattle.sq_blocks.specs.Spans.{with_front, wholes}
+use Rattle.sq_blocks.specs.Names.{Numbers}
+use Rattle.sq_blocks.specs.Spans.{with_front, wholes, block as block_spans}
+use Rattle.sq_blocks.specs.declared.fault.ConstFault.{ConstFault}
 use Rattle.sq_blocks.specs.Arguments.{lengths}
 use Rattle.sq_blocks.specs.declared.argument.Argument.{Argument}
 use Rattle.sq_work.specs.declared.reduction.Reduction.{Reduction}
 use Rattle.sq_forms.specs.declared.form.Found.{Found}
-use Rattle.sq_forms.specs.Args.{is_reduced}
+use Rattle.sq_forms.specs.declared.args.Block.{Block}
+use Rattle.sq_forms.specs.declared.known.Array.{Array}
+use Rattle.sq_forms.specs.declared.known.Blocks.{Blocks}
+use Rattle.sq_forms.specs.Faults.{Value, and_then}
+use Rattle.sq_forms.specs.Args.{Names, of_array as array_block, of_block, all_of_array, block_of, block_in, block_or_fault, block_by, block}
+use Rattle.sq_forms.specs.Args.{worths, mode_of, is_reduced}
 use Rattle.sq_forms.specs.Calls.{flags, extents_of, is_apart}
 use Rattle.sq_forms.specs.Decls.{Scope}
 use Rattle.sq_forms.specs.Resolving.{Resolving, resolution, frame_in, entry_params}
@@ -55,12 +64,13 @@ use Rattle.sq_placed.specs.declared.home.Home.{Home}
 use Rattle.sq_placed.specs.declared.home.Home.TheVariants as home
 use Rattle.sq_placed.specs.declared.home.Homes.{Homes}
 use Rattle.sq_cells.specs.Work.{Buffer}
-use Rattle.sq_cells.specs.Lowered.{stays, held}
+use Rattle.sq_cells.specs.Lowered.{in_place}
 use Rattle.sq_placed_bytes.specs.Coordinates.{Fits}
 use Rattle.sq_placed_bytes.specs.Calling.{place_of}
 use Rattle.sq_placed_bytes.specs.Fitting.{whole}
 use Rattle.sq_plan_laws.specs.Seated.{IsNear}
 use Rattle.sq_forms_fit.specs.Facts.{ArgFacts, SumFacts, ReducedFacts, RowFacts, home_at}
+use Rattle.sq_forms_fit.specs.Rows.{without_block}
 use Rattle.sq_forms_fit.specs.Homes.{params_at, may_write, mays_of, bodies_of, AreHomes, HomesFit}
 use Rattle.sq_forms_fit.proofs.Sized.{form_shapes_sized}
 use Rattle.sq_forms_fit.proofs.Shapes.{elems_are, dims_are, mapped_at, at_mapped, param_shape}
@@ -117,17 +127,17 @@ there_below [] i h = absurd (omega (arith, h))
 there_below (x ∷ xs) zero h = (x, refl)
 there_below (x ∷ xs) (suc i) h = there_below xs i (omega (arith, h))
 
--- what stays where the caller has it, and isn't held, is in place
-in_place_by : (h : Home) → held (place_of h) ≡ false → stays (place_of h) ≡ true → h ≡ home.InPlace
-in_place_by home.InPlace a b = refl
-in_place_by (home.Own n) a b = cc
-in_place_by (home.Held n l) a b = cc
-in_place_by (home.Twin n m) a b = cc
+in_place_by : (h : Home) → in_place (place_of h) ≡ true → h ≡ home.InPlace
+in_place_by home.InPlace a = refl
+in_place_by (home.Own n) a = cc
+in_place_by (home.Held n l) a = cc
+in_place_by (home.Twin n m) a = cc
 
-buffer_by : (h : Home) → held (place_of h) ≡ false → (h ≡ home.InPlace → ⊥) → place_of h ≡ Buffer
+-- what isn't in place and leaves no loop has a buffer
+buffer_by : (h : Home) → ((n l : ℕ) → h ≡ home.Held n l → ⊥) → (h ≡ home.InPlace → ⊥) → place_of h ≡ Buffer
 buffer_by home.InPlace a b = absurd (b refl)
 buffer_by (home.Own n) a b = refl
-buffer_by (home.Held n l) a b = cc
+buffer_by (home.Held n l) a b = absurd (a n l refl)
 buffer_by (home.Twin n m) a b = refl
 
 near_by : (lower : Bool) (h : Home) → (h ≡ home.InPlace → lower ≡ false) → IsNear lower h
@@ -158,6 +168,97 @@ may_param (q ∷ ps) (suc i) p h = may_param ps i p h
 
 not_lower : (n m : ℕ) → (n == m) ≡ true → (n == suc m) ≡ false
 not_lower n m h = grind (arith, nat_tests)
+
+-- ---- arguments, their blocks left aside
+
+abbrev blocks_number : Option Blocks → ℕ
+blocks_number None = 0
+blocks_number (Some x) = x.array
+
+-- the array of an argument with these indices
+abbrev array_of : Names → ArgUse → List Expr → ℕ
+array_of names a [] = array_number (lookup (same_name (out-ArgUse a).name) names.arrays)
+array_of names a (e ∷ es) = blocks_number (lookup (same_name (out-ArgUse a).name) names.blocks)
+
+abbrev found_block : Block → Value Block
+found_block x = Ok x
+
+block_same : (x y : Block) → found_block x ≡ found_block y → x ≡ y
+block_same x y e = cc e
+
+whole_array_of : (a : ArgUse) (o : Option Array) (x : Block) → block_or_fault a (all_of_array o) ≡ found_block x
+    → x.array ≡ array_number o
+whole_array_of a None x e = absurd (cc e)
+whole_array_of a (Some y) x e = go (wholes y.extents) e
+  where
+    go : (r : Option (List Span)) → block_or_fault a (array_block y.number r) ≡ found_block x → x.array ≡ y.number
+    go None f = absurd (cc f)
+    go (Some rect) f = ap (λ (z : Block). z.array) (sym (block_same (record { array = y.number; rect = rect }) x f))
+
+block_array_of : (a : ArgUse) (index : List ℤ) (o : Option Blocks) (x : Block)
+    → block_or_fault a (block_of index o) ≡ found_block x → x.array ≡ blocks_number o
+block_array_of a index None x e = absurd (cc e)
+block_array_of a index (Some y) x e = go (block_spans y.chop index) e
+  where
+    go : (r : Result (List Span) ConstFault) → block_or_fault a (of_block y.array r) ≡ found_block x → x.array ≡ y.array
+    go (Err f) g = absurd (cc g)
+    go (Ok rect) g = ap (λ (z : Block). z.array) (sym (block_same (record { array = y.array; rect = rect }) x g))
+
+array_by : (names : Names) (numbers : Numbers) (a : ArgUse) (es : List Expr) (x : Block)
+    → block_by names numbers a es ≡ found_block x → x.array ≡ array_of names a es
+array_by names numbers a [] x e = whole_array_of a (lookup (same_name (out-ArgUse a).name) names.arrays) x e
+array_by names numbers a (i ∷ es) x e = go (worths (i ∷ es) numbers names.lists) e
+  where
+    go : (v : Value (List ℤ))
+        → and_then v (λ index. block_or_fault a (block_in names (out-ArgUse a).name index)) ≡ found_block x
+        → x.array ≡ blocks_number (lookup (same_name (out-ArgUse a).name) names.blocks)
+    go (Ok index) f = block_array_of a index (lookup (same_name (out-ArgUse a).name) names.blocks) x f
+    go (Err f) g = absurd (cc g)
+
+abbrev passed_okay : Argument → Value Argument
+passed_okay x = Ok x
+
+-- what is the same of an argument each time that its call is reached
+abbrev head_of : Names → Option Bytes → Option Param → ArgUse → Argument
+head_of names reduced param a = record {
+  mode = mode_of param;
+  is_reduced = is_reduced reduced a;
+  array = array_of names a (out-ArgUse a).index;
+  rect = [];
+}
+
+abbrev heads_of : Names → Option Bytes → List Param → ℕ → List ArgUse → List Argument
+heads_of names reduced params i [] = []
+heads_of names reduced params i (a ∷ list) = head_of names reduced (slice_get params i) a
+    ∷ heads_of names reduced params (i + 1) list
+
+head_is : (names : Names) (numbers : Numbers) (reduced : Option Bytes) (param : Option Param) (a : ArgUse) (x : Argument)
+    (v : Value Block) → block names numbers a ≡ v
+    → and_then v (λ y. passed_okay (record { mode = mode_of param; is_reduced = is_reduced reduced a; array = y.array; rect = y.rect })) ≡ Ok x
+    → without_block x ≡ head_of names reduced param a
+head_is names numbers reduced param a x (Ok y) e h =
+    let made : Argument = record { mode = mode_of param; is_reduced = is_reduced reduced a; array = y.array; rect = y.rect }
+    in
+    let is : made ≡ x = cc h in
+    ap without_block (sym is)
+    ∙ ap (λ (n : ℕ). record { mode = mode_of param; is_reduced = is_reduced reduced a; array = n; rect = [] })
+    (array_by names numbers a (out-ArgUse a).index y e)
+head_is names numbers reduced param a x (Err f) e h = absurd (cc h)
+
+heads_are : (names : Names) (numbers : Numbers) (reduced : Option Bytes) (params : List Param) (i : ℕ)
+    (list : List ArgUse) (xs : List Argument) → AreExamined names numbers reduced params i list xs
+    → map without_block xs ≡ heads_of names reduced params i list
+heads_are names numbers reduced params i [] [] h = refl
+heads_are names numbers reduced params i [] (x ∷ xs) h = absurd h
+heads_are names numbers reduced params i (a ∷ list) [] h = absurd h
+heads_are names numbers reduced params i (a ∷ list) (x ∷ xs) h =
+    let first = head_is names numbers reduced (slice_get params i) a x (block names numbers a) refl h.0 in
+    let rest = heads_are names numbers reduced params (i + 1) list xs h.1 in
+    (λ d. first d ∷ rest d)
+
+abbrev heads_by : Names → Option Bytes → Option Callee → List ArgUse → List Argument
+heads_by names reduced None list = []
+heads_by names reduced (Some c) list = heads_of names reduced c.params 0 list
 
 -- ---- the forms of a program
 
@@ -322,7 +423,7 @@ module _ (program : Program) (levels : List Level) (mapping : Mapping) (sound : 
               ∙ at_mapped (λ (s : Shape). s.elem) (shapes_of vk fk sk) a.array m.of m.there;
         }
 
-    arg_facts : (j : ℕ) (a : Argument) → slice_get q.args j ≡ Some a
+    pub arg_facts : (j : ℕ) (a : Argument) → slice_get q.args j ≡ Some a
         → ArgFacts (bodies k).arrays (bodies q.form).arrays j a
     arg_facts j a e =
         let at = arg_of j a e in
@@ -365,12 +466,24 @@ module _ (program : Program) (levels : List Level) (mapping : Mapping) (sound : 
     serves : callee_of (frame k form there run) pair.1.task ≡ Some its
     serves = ap (λ (c : Call). callee_of (frame k form there run) c.task) (sym h.stmt) ∙ h.reached.serves
 
-    examined : (name : Bytes) → pair.0 ≡ Some name
-        → AreExamined sk.names h.reached.numbers (Some name) its.params 0 pair.1.args xs
-    examined name e =
-        subst (λ (o : Option Bytes). AreExamined sk.names h.reached.numbers o its.params 0 pair.1.args xs) (h.sum ∙ e)
+    each_examined : AreExamined sk.names h.reached.numbers pair.0 its.params 0 pair.1.args xs
+    each_examined =
+        subst (λ (o : Option Bytes). AreExamined sk.names h.reached.numbers o its.params 0 pair.1.args xs) h.sum
         (subst (λ (c : Call). AreExamined sk.names h.reached.numbers h.reached.site.reduced its.params 0 c.args xs)
         h.stmt h.reached.examined)
+
+    examined : (name : Bytes) → pair.0 ≡ Some name
+        → AreExamined sk.names h.reached.numbers (Some name) its.params 0 pair.1.args xs
+    examined name e = subst (λ (o : Option Bytes). AreExamined sk.names h.reached.numbers o its.params 0 pair.1.args xs)
+        e each_examined
+
+    -- the arguments of each row are those of the text, their blocks left aside
+    pub row_heads : map without_block q.args
+        ≡ heads_by sk.names pair.0 (callee_of (frame k form there run) pair.1.task) pair.1.args
+    row_heads =
+        ap (map without_block) h.args
+        ∙ (heads_are sk.names h.reached.numbers pair.0 its.params 0 pair.1.args xs each_examined
+        ∙ ap (λ o. heads_by sk.names pair.0 o pair.1.args) (sym serves))
 
     named_at : (name : Bytes) → pair.0 ≡ Some name → slice_get (summed_in list None) i ≡ Some (Some name, pair.1)
     named_at name e = pair_at ∙ ap (λ o. Some (o, pair.1)) e
@@ -452,18 +565,11 @@ module _ (program : Program) (levels : List Level) (mapping : Mapping) (sound : 
     have_homes = subst (λ m. AreHomes callee.1 (bodies m).arrays (homes m)) (sym h.form)
         (homes_fit n callee callee_there)
 
-    many_args : length q.args ≡ length params
+    pub many_args : length q.args ≡ length params
     many_args =
         ap length h.args
         ∙ (sym (map_long (λ (y : Argument). lengths y.rect) xs)
         ∙ (ap length (sym callee_extents) ∙ sym have_homes.params))
-
-    none_held : (j : ℕ) → held (place_of (home_at (homes q.form) j)) ≡ false
-    none_held j = go (slice_get params j) refl
-      where
-        go : (o : Option Home) → slice_get params j ≡ o → held (place_of (home_at (homes q.form) j)) ≡ false
-        go None e = ap (λ z. held (place_of z)) (past_or params j home.InPlace e)
-        go (Some y) e = ap (λ z. held (place_of z)) (there_or params j y home.InPlace e) ∙ have_homes.stay j y e
 
     flagged : (j : ℕ) → j < length q.args → home_at (homes q.form) j ≡ home.InPlace
         → slice_get (flags (its.level == run.fits.instance.level) xs) j ≡ Some true
@@ -489,8 +595,16 @@ module _ (program : Program) (levels : List Level) (mapping : Mapping) (sound : 
         (flag_at (its.level == run.fits.instance.level) xs 0 xs j j y.0 (omega arith) (flagged j lt ip) y.1)).0 in
         h.level ∙ not_lower its.level run.fits.instance.level same
 
-    pub row_facts : RowFacts bodies homes mays k t q
-    row_facts = record {
+    -- what is reduced into is so in a `mapreduce`
+    reduces : (j : ℕ) (a : Argument) → slice_get q.args j ≡ Some a → a.is_reduced ≡ true → t.red ≡ None → ⊥
+    reduces j a e red none =
+        let f = subst (λ o. ReducedFacts (bodies k).arrays o q.args) none (reduced_facts t.red pair.0 refl sum) in
+        let no : true ≡ false = sym red ∙ f j a e in absurd (cc no)
+
+    -- where no argument of a `mapreduce`'s call leaves a loop
+    pub row_facts : ((t.red ≡ None → ⊥) → (j n l : ℕ) → home_at (homes q.form) j ≡ home.Held n l → ⊥)
+        → RowFacts bodies homes mays k t q
+    row_facts stay = record {
       args = arg_facts;
       alias = no_alias;
       reduced = reduced_facts t.red pair.0 refl sum;
@@ -498,9 +612,9 @@ module _ (program : Program) (levels : List Level) (mapping : Mapping) (sound : 
       modes = modes;
       many = many_args;
       locals = have_homes.locals;
-      apart = λ j st lt. apart_in j lt (in_place_by (home_at (homes q.form) j) (none_held j) st);
-      sum_home = λ j a e red. buffer_by (home_at (homes q.form) j) (none_held j) (not_reduced j a e red);
-      not_held = none_held;
+      apart = λ j st lt. apart_in j lt (in_place_by (home_at (homes q.form) j) st);
+      sum_home = λ j a e red. buffer_by (home_at (homes q.form) j) (λ n l. stay (reduces j a e red) j n l)
+          (not_reduced j a e red);
       near = λ j lt. near_by t.lower (home_at (homes q.form) j) (not_lower_in j lt);
       dims = λ m sh e. (form_shapes_sized program levels mapping sound read r through n callee callee_there callee_runs
           m sh (ap (λ z. slice_get z m) (sym inner_is) ∙ e)).dims;

@@ -26,6 +26,7 @@ use Rattle.sq_form_laws.proofs.FitHold.{of_program, forms_run}
 use Rattle.sq_spec.specs.declared.body.Body.{Body}
 use Rattle.sq_spec.specs.declared.body.Body.TheVariants as body
 use Rattle.sq_spec.specs.declared.body.FormBody.{FormBody}
+use Rattle.sq_spec.specs.declared.statement.Statement.{Statement}
 use Rattle.sq_spec.specs.Bodies.{no_body, found_body, what_runs}
 use Rattle.sq_spec.specs.Statements.{tables, elems_of}
 use Rattle.sq_spec_laws.specs.TableRows.{Table, tables_in}
@@ -36,11 +37,15 @@ use Rattle.sq_placed.specs.declared.home.Homes.{Homes}
 use Rattle.sq_cells.specs.Tree.{Cause}
 use Rattle.sq_forms_fit.specs.Rows.{TableFits, ListFits, LeafFits, BodyFits, FormsFit}
 use Rattle.sq_forms_fit.proofs.Facts.{facts_fit}
+use Rattle.sq_rooms.specs.Orders.{EachOf, rounds_of}
+use Rattle.sq_rooms.specs.Held.{AreHeldRows}
+use Rattle.sq_forms_fit.specs.Held.{HoldsFit, LoopHolds, loops_of}
 use Rattle.sq_forms_fit.specs.Homes.{may_write, mays_of, bodies_of, HomesFit, LeavesStand}
 use Rattle.sq_forms_fit.specs.Laws.{ProgramsFit, ArraysAreSized}
 use Rattle.sq_forms_fit.specs.Sizes.{IsSized}
 use Rattle.sq_forms_fit.proofs.Sized.{form_shapes_sized}
-use Rattle.sq_forms_fit.proofs.RowsHold.{arrays_are, Runs, runs, body_is, mays_are, row_facts, row_flags}
+use Rattle.sq_forms_fit.proofs.RowsHold.{arrays_are, Runs, runs, body_is, mays_are, row_facts, row_heads}
+use Rattle.sq_forms_fit.proofs.Rounds.{reduced_stay}
 
 -- ---- a formed variant
 
@@ -80,6 +85,7 @@ module _ (program : Program) (levels : List Level) (mapping : Mapping) (formed :
     (sound : is_sound program ≡ true)
     (read : Sound program levels mapping) (r : Resolving) (through : resolution program.tasks mapping ≡ Ok r)
     (leaves : Leaves Cause) (homes : ℕ → Homes) (homes_fit : HomesFit program mapping r.found homes)
+    (holds : HoldsFit (bodies_of program mapping r.found) homes)
     (leaves_stand : LeavesStand program mapping r.found leaves homes) where
   abbrev bodies : ℕ → FormBody
   bodies = bodies_of program mapping r.found
@@ -92,41 +98,47 @@ module _ (program : Program) (levels : List Level) (mapping : Mapping) (formed :
 
   module _ (k : ℕ) (form : Key × Found) (there : slice_get r.found k ≡ Some form)
       (run : Runs program levels mapping sound read r through k form) where
-    table_fits : (list : List Stmt) (inner : run.fits.variant.body ≡ text.Inner list) (i : ℕ) (t : Table)
-        → slice_get (tables_in (tables r.found (frame_in program.tasks mapping.instances run.fits.instance k form.1)
-        run.ran.scope.names (elems_of run.fits.variant run.ran.scope) run.ran.scope.numbers list) None) i ≡ Some t
-        → TableFits leaves bodies homes mays k t
-    table_fits list inner i t at =
+    -- the statements of its text
+    abbrev of_text : List Stmt → List Statement
+    of_text list = tables r.found (frame_in program.tasks mapping.instances run.fits.instance k form.1)
+        run.ran.scope.names (elems_of run.fits.variant run.ran.scope) run.ran.scope.numbers list
+
+    table_fits : (list : List Stmt) (inner : run.fits.variant.body ≡ text.Inner list)
+        → EachOf (AreHeldRows homes) (rounds_of (body.Inner (of_text list))) → (i : ℕ) (t : Table)
+        → slice_get (tables_in (of_text list) None) i ≡ Some t → TableFits leaves bodies homes mays k t
+    table_fits list inner rounds i t at =
         let o = rows_are_reached program.tasks mapping r through k form run.fits.instance run.fits.variant
         run.fits.begun there run.fits.there run.fits.runs run.fits.binds run.ran list inner i t at in
         record {
           rows = λ j q e. facts_fit leaves bodies homes mays k t q
               (row_facts program levels mapping sound read r through formed homes homes_fit k form there run list inner
-              i t o.pair o.there o.reached.sum q (o.reached.rows j q e));
+              i t o.pair o.there o.reached.sum q (o.reached.rows j q e)
+              (λ red. reduced_stay homes (of_text list) rounds i t at red j q e));
           same = λ j l q p e g.
-              row_flags program levels mapping sound read r through formed homes homes_fit k form there run list inner i
+              row_heads program levels mapping sound read r through formed homes homes_fit k form there run list inner i
               t o.pair o.there o.reached.sum q (o.reached.rows j q e)
-              ∙ sym (row_flags program levels mapping sound read r through formed homes homes_fit k form there run list
+              ∙ sym (row_heads program levels mapping sound read r through formed homes homes_fit k form there run list
               inner i t o.pair o.there o.reached.sum p (o.reached.rows l p g));
         }
 
     list_fits : (list : List Stmt) → run.fits.variant.body ≡ text.Inner list
-        → ListFits leaves bodies homes mays k
-        (tables r.found (frame_in program.tasks mapping.instances run.fits.instance k form.1) run.ran.scope.names
-        (elems_of run.fits.variant run.ran.scope) run.ran.scope.numbers list)
-    list_fits list inner =
+        → (bodies k).body ≡ body.Inner (of_text list) → ListFits leaves bodies homes mays k (of_text list)
+    list_fits list inner is =
+        let rounds = subst (λ (x : Body). EachOf (AreHeldRows homes) (rounds_of x)) is (holds.rounds k) in
         let o = of_program program.tasks run.fits.instance.task run.fits.instance.kind run.fits.variant run.fits.runs in
         let formed_body = subst (λ (z : Text). is_formed_body run.fits.variant.kind z ≡ true) inner
         (body_formed run.fits.variant (all_there is_formed_variant program.tasks formed o.index run.fits.variant
         o.there)) in
         record {
-          tables = table_fits list inner;
+          tables = table_fits list inner rounds;
           ones = reductions_are_of_one r.found (frame_in program.tasks mapping.instances run.fits.instance k form.1)
               run.ran.scope.names (elems_of run.fits.variant run.ran.scope) run.ran.scope.numbers list
               (formed_inner run.fits.variant.kind list formed_body);
           full = tables_are_full program levels mapping read form.1.instance run.fits.instance run.fits.variant
               run.fits.there run.fits.runs list inner r.found k form.1 run.ran.scope.names
               (elems_of run.fits.variant run.ran.scope) run.ran.scope.numbers;
+          rounds = rounds;
+          loops = subst (λ (x : Body). EachOf (LoopHolds homes) (loops_of x)) is (holds.loops k);
         }
 
     leaf_fits : (leaf : LeafSource) → leaf.variant ≡ run.fits.variant → (bodies k).body ≡ body.Leaf leaf
@@ -147,7 +159,7 @@ module _ (program : Program) (levels : List Level) (mapping : Mapping) (formed :
         → Fits k (what_runs r.found (frame_in program.tasks mapping.instances run.fits.instance k form.1)
         run.fits.variant b run.ran.scope)
     unfolding Fits
-    body_fits (text.Inner list) e is = list_fits list e
+    body_fits (text.Inner list) e is = list_fits list e is
     body_fits (text.Leaf list) e is
         = leaf_fits (record { variant = run.fits.variant; numbers = run.ran.scope.numbers }) refl is
 
@@ -158,7 +170,7 @@ module _ (program : Program) (levels : List Level) (mapping : Mapping) (formed :
 
   nothing_fits : (k : ℕ) → Fits k no_body.body
   unfolding Fits
-  nothing_fits k = record { tables = λ i t e. absurd (cc e); ones = refl; full = refl }
+  nothing_fits k = record { tables = λ i t e. absurd (cc e); ones = refl; full = refl; rounds = tt; loops = tt }
 
   each_fits : (k : ℕ) (o : Option (Key × Found)) → slice_get r.found k ≡ o → Fits k (bodies k).body
   each_fits k None e = subst (Fits k) (sym (ap (λ x. (found_body r.found program.tasks mapping.instances k x).body) e))
@@ -170,8 +182,8 @@ module _ (program : Program) (levels : List Level) (mapping : Mapping) (formed :
   forms_fit k = each_fits k (slice_get r.found k) refl
 
 pub programs_fit : ProgramsFit
-programs_fit program levels mapping formed sound read r through leaves homes homes_fit leaves_stand
-    = forms_fit program levels mapping formed sound read r through leaves homes homes_fit leaves_stand
+programs_fit program levels mapping formed sound read r through leaves homes homes_fit holds leaves_stand
+    = forms_fit program levels mapping formed sound read r through leaves homes homes_fit holds leaves_stand
 
 pub arrays_are_sized : ArraysAreSized
 arrays_are_sized program levels mapping sound read r through k n sh e = go (slice_get r.found k) refl

@@ -14,7 +14,7 @@ use Rattle.sq_placed.specs.declared.home.Home.{Home}
 use Rattle.sq_placed.specs.declared.home.Home.TheVariants.{InPlace}
 use Rattle.sq_placed.specs.declared.home.Homes.{Homes}
 use Rattle.sq_cells.specs.Work.{Buffer}
-use Rattle.sq_cells.specs.Lowered.{stays, held}
+use Rattle.sq_cells.specs.Lowered.{in_place}
 use Rattle.sq_placed_bytes.specs.Coordinates.{Fits}
 use Rattle.sq_placed_bytes.specs.Calling.{place_of}
 use Rattle.sq_placed_bytes.specs.Fitting.{whole}
@@ -70,10 +70,9 @@ pub record RowFacts (bodies : ℕ → FormBody) (homes : ℕ → Homes) (mays : 
   pub many : length r.args ≡ length (homes r.form).params
   pub locals : length (bodies r.form).arrays ≡ length (homes r.form).params + length (homes r.form).locals
   -- the homes
-  pub apart : (i : ℕ) → stays (place_of (home_at (homes r.form) i)) ≡ true → i < length r.args → Apart r.args i
+  pub apart : (i : ℕ) → in_place (place_of (home_at (homes r.form) i)) ≡ true → i < length r.args → Apart r.args i
   pub sum_home : (i : ℕ) (a : Argument) → slice_get r.args i ≡ Some a → a.is_reduced ≡ true
       → place_of (home_at (homes r.form) i) ≡ Buffer
-  pub not_held : (i : ℕ) → held (place_of (home_at (homes r.form) i)) ≡ false
   -- in the caller's array only a call at the same level has a parameter
   pub near : (i : ℕ) → i < length r.args → IsNear t.lower (home_at (homes r.form) i)
   pub dims : (i : ℕ) (sh : Shape) → slice_get (bodies r.form).arrays i ≡ Some sh → HasDims sh.extents

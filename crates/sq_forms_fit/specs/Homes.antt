@@ -1,5 +1,5 @@
 -- Which arrays of a form may be written, and what is asked of where the arrays of forms stand.
-use Rattle.std.specs.Prelude.{◌≡◌, ℕ, zero, suc, ◌+◌, Bool, true, false, List, [], ◌∷◌, length, Option, Some, None}
+use Rattle.std.specs.Prelude.{◌≡◌, ℕ, zero, suc, ◌+◌, Bool, true, List, [], ◌∷◌, length, Option, Some, None}
 use Rattle.std.specs.Prelude.{slice_get}
 use Rattle.sq_ast.specs.Modes.{is_written}
 use Rattle.sq_ast.specs.declared.program.Param.{Param}
@@ -16,12 +16,9 @@ use Rattle.sq_forms.specs.Resolving.{entry_params}
 use Rattle.sq_spec.specs.declared.body.Body.TheVariants as body
 use Rattle.sq_spec.specs.declared.body.FormBody.{FormBody}
 use Rattle.sq_spec.specs.Bodies.{body_of}
-use Rattle.sq_placed.specs.declared.home.Home.{Home}
 use Rattle.sq_placed.specs.declared.home.Home.TheVariants.{InPlace}
 use Rattle.sq_placed.specs.declared.home.Homes.{Homes}
 use Rattle.sq_cells.specs.Tree.{Cause}
-use Rattle.sq_cells.specs.Lowered.{held}
-use Rattle.sq_placed_bytes.specs.Calling.{place_of}
 use Rattle.sq_placed_bytes.specs.Fitting.{LeafCoded}
 use Rattle.sq_placed_bytes.specs.LeafLaws.{codes_of}
 use Rattle.sq_plan_laws.specs.Seated.{LeafSits}
@@ -45,13 +42,12 @@ mays_of variants instances forms k = may_write (params_at variants instances (sl
 
 -- ---- homes
 
--- The homes of a form's arrays: one for each parameter, of which none leaves a loop, and in the caller's array only
--- where the form was found with that; and a buffer for each local.
+-- The homes of a form's arrays: one for each parameter, in the caller's array only where the form was found with that;
+-- and a buffer for each local.
 pub record AreHomes (f : Found) (arrays : List Shape) (h : Homes) : Type 0 where
   pub params : length h.params ≡ length f.extents
   pub locals : length arrays ≡ length h.params + length h.locals
   pub in_place : (i : ℕ) → slice_get h.params i ≡ Some InPlace → slice_get f.in_place i ≡ Some true
-  pub stay : (i : ℕ) (x : Home) → slice_get h.params i ≡ Some x → held (place_of x) ≡ false
 
 module _ (program : Program) (mapping : Mapping) (forms : Forms) where
   abbrev pub bodies_of : ℕ → FormBody

@@ -4,6 +4,7 @@
 
 ghost use Rattle.sq_forms_fit.specs.Rows.{TablesFit};
 ghost use Rattle.sq_forms_fit.specs.Facts.{FactsFit};
+ghost use Rattle.sq_forms_fit.specs.Held.{UnheldFits};
 ghost use Rattle.sq_forms_fit.specs.Laws.{ProgramsFit, ArraysAreSized};
 ghost use Rattle.sq_forms_fit.specs.Entry.{EntriesFollow, EntriesSit, EntriesArePlans};
 ghost use Rattle.sq_forms_fit.specs.LeafCalls.{CallsAreOfTables};
@@ -19,8 +20,13 @@ pub fn tables_fit()
     ensures { TablesFit }
 {}
 
+/// Where no argument leaves a loop, nothing is asked of loops.
+pub fn unheld_fits()
+    ensures { UnheldFits }
+{}
+
 /// Of a program without a fault, under a mapping that was read with it, the tables of all forms fit, wherever their
-/// arrays stand.
+/// arrays stand, if the arguments that leave loops may do so.
 pub fn programs_fit()
     ensures { ProgramsFit }
 {}

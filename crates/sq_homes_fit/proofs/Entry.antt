@@ -1,37 +1,43 @@
 -- The entry is called with its arrays, whole, and each has a buffer.
-use Rattle.std.proofs.Common.{◌≡◌, ℕ, zero, suc, ◌+◌, Bool, true, false, List, [], ◌∷◌, length}
+use Rattle.std.proofs.Common.{◌≡◌, ℕ, zero, suc, ◌+◌, true, false, List, [], ◌∷◌, length}
 use Rattle.std.proofs.Common.{get_or, Option, Some, refl, sym, ap, ◌∙◌, subst, arith}
 use Rattle.std.specs.Prelude.{slice_get}
-use Rattle.std.proofs.lemmas.Option.{slice_get_within, slice_get-get_or}
+use Rattle.std.proofs.lemmas.Option.{slice_get_within, slice_get-get_or, get_or_from_slice_get}
 use Rattle.sq_ast.specs.Modes.{is_written}
 use Rattle.sq_ast.specs.declared.program.Param.{Param}
 use Rattle.sq_leaf.specs.declared.shape.Shape.{Shape}
 use Rattle.sq_blocks.specs.declared.argument.Argument.{Argument}
 use Rattle.sq_forms.specs.declared.form.Found.{Found}
 use Rattle.sq_forms.specs.declared.form.Form.{Form}
-use Rattle.sq_forms.specs.Resolving.{entry_params, entry_form, none_in_place}
+use Rattle.sq_forms.specs.Resolving.{entry_params, entry_form, with_locals}
+use Rattle.sq_forms.specs.Resolving as resolving_of
 use Rattle.sq_forms.specs.Steps.{Key}
 use Rattle.sq_form_laws.specs.Served.{FormRuns}
+use Rattle.sq_form_laws.proofs.FitHold.{some_same}
 use Rattle.sq_spec.specs.declared.body.FormBody.{FormBody}
 use Rattle.sq_spec.specs.declared.resolved.Resolved.{Resolved}
 use Rattle.sq_spec.specs.Entry.{IsEntry}
 use Rattle.sq_spec.specs.Works.{entry_arguments, extents_at, whole}
 use Rattle.sq_spec.proofs.EntryHolds.{entry_is_first}
 use Rattle.sq_placed.specs.declared.home.Home.{Home}
-use Rattle.sq_placed.specs.declared.home.Home.TheVariants.{Own}
+use Rattle.sq_placed.specs.declared.home.Home.TheVariants.{InPlace}
 use Rattle.sq_placed.specs.declared.home.Homes.{Homes}
 use Rattle.sq_forms_fit.specs.Entry.{IsWhole, EntryFacts}
 use Rattle.sq_term.specs.Terms.{body_in, homes_in}
+use Rattle.sq_term_fit.specs.Leaves.{loops_left}
 use Rattle.sq_forms_fit.specs.Homes.{params_at, may_write, mays_of}
 use Rattle.sq_forms_fit.proofs.RowsHold.{arrays_are, params_are, mays_are}
 use Rattle.sq_forms_fit.proofs.Shapes.{param_shape}
 use Rattle.sq_homes.specs.declared.choice.Choice.{Choice}
-use Rattle.sq_homes.specs.Drafts.{bodies_of, homes_of, args_of, extents_by, instance_at, rule_by}
-use Rattle.sq_homes_laws.specs.Simple.{Walked, AreSimple}
+use Rattle.sq_homes.specs.Drafts.{bodies_of, homes_of, args_of, extents_by, choice_in}
+use Rattle.sq_homes_laws.specs.Simple.{Walked, AreHoisted}
 use Rattle.sq_homes_fit.specs.Homes.{EntriesAreWhole, HasOwn, EntriesHaveBuffers}
 use Rattle.sq_homes_fit.proofs.Forms.{tasks, instances, resolving, body_at, run_of, sized, bodies_are}
-use Rattle.sq_homes_fit.proofs.Forms.{IsDrafted, drafted}
-use Rattle.sq_homes_fit.proofs.Fitting.{own_or, number_of, home_is, homes_fit, param_is}
+use Rattle.sq_homes_fit.proofs.Forms.{body_there}
+use Rattle.sq_homes_fit.proofs.Fitting.{homes_fit}
+use Rattle.sq_homes_fit.proofs.Numbers.{first_of}
+use Rattle.sq_homes_fit.proofs.Hoisted.{IsForm, is_form, param_is}
+use Rattle.sq_homes_fit.proofs.Places.{own_number, HomeIs, stays, owns, leaves, home_by}
 
 -- ---- the arguments of the entry
 
@@ -77,14 +83,10 @@ may_param [] i p h = absurd (cc h)
 may_param (q ∷ ps) zero p h = let e : q ≡ p = cc h in ap (λ (x : Param). is_written x.mode) e
 may_param (q ∷ ps) (suc i) p h = may_param ps i p h
 
-pub none_flagged : (extents : List (List ℕ)) (i : ℕ) → slice_get (none_in_place extents) i ≡ Some true → ⊥
+pub none_flagged : (extents : List (List ℕ)) (i : ℕ) → slice_get (resolving_of.none_in_place extents) i ≡ Some true → ⊥
 none_flagged [] i h = absurd (cc h)
 none_flagged (e ∷ extents) zero h = absurd (cc h)
 none_flagged (e ∷ extents) (suc i) h = none_flagged extents i h
-
-own_by : (n : ℕ) (b : Bool) → (b ≡ true → ⊥) → own_or n b ≡ Own n
-own_by n true h = absurd (h refl)
-own_by n false h = refl
 
 abbrev pub entry : (r : Resolved) → IsEntry r
 entry r = entry_is_first r
@@ -155,14 +157,14 @@ module _ (r : Resolved) (w : Walked r) where
       (entry r).found run i)
       ∙ may))
 
-  module _ (choices : List Choice) (simple : AreSimple r choices) where
-    abbrev pub homes : Homes
+  module _ (choices : List Choice) (are : AreHoisted r choices) where
+    abbrev homes : Homes
     homes = homes_in (homes_of r choices) 0
 
     facts_with : (b : ℕ → FormBody) → (b 0 ≡ body_at r 0)
         → EntryFacts b (homes_in (homes_of r choices)) (mays_of (tasks r) (instances r) r.found.entries 0) (args_of r)
     facts_with b is =
-        let h = homes_fit r w choices simple 0 (form r) (entry r).found in
+        let h = homes_fit r w choices are 0 (form r) (entry r).found in
         let arrays : (b 0).arrays ≡ (body_at r 0).arrays = ap (λ (x : FormBody). x.arrays) is in
         record {
           many = args_many ∙ sym h.params;
@@ -174,23 +176,39 @@ module _ (r : Resolved) (w : Walked r) where
           some = λ n sh e. (sized r w 0 n sh (ap (λ (xs : List Shape). slice_get xs n) (sym arrays) ∙ e)).some;
         }
 
-    entry_draft : IsDrafted r choices 0 (form r).1
-    entry_draft = drafted r w choices simple 0 (form r) (entry r).found
+    abbrev its : IsForm r choices are 0 (body_at r 0)
+    its = is_form r choices are 0 (body_at r 0) (body_there r w 0 (form r) (entry r).found)
 
-    pub entry_own : (i : ℕ) (h : Home) → slice_get homes.params i ≡ Some h → HasOwn h
-    entry_own i h e =
-        let d = entry_draft in
-        let is = param_is d.first (rule_by (instance_at r 0)) d.code (body_at r 0) d.flags i h
-        (ap (λ (x : Homes). slice_get x.params i) (sym d.homes) ∙ e) in
-        record {
-          buffer = number_of d.first d.flags i;
-          is = sym is ∙ (home_is d.first d.flags i
-              ∙ own_by (number_of d.first d.flags i) (get_or d.flags i false)
-              (λ f. none_flagged (extents r) i (d.in_place i f)));
+    abbrev c : Choice
+    c = choice_in choices 0
+
+    pub none_in_place : (i : ℕ) → get_or c.in_place i false ≡ true → ⊥
+    none_in_place i e =
+        let same : its.form ≡ with_locals (form r).1 run.ran.scope.locals = some_same _ _ (sym its.there ∙ run.ran.kept)
+        in
+        none_flagged (extents r) i
+        (ap (λ (x : Form). slice_get x.in_place i) (sym same) ∙ its.chosen.in_place i e)
+
+    own_home : (i : ℕ) (h : Home) → slice_get homes.params i ≡ Some h → HasOwn h
+    own_home i h e =
+        let p = param_is r choices are 0 (body_at r 0) its i h e in
+        by p.is (home_by c its.chosen.moved its.chosen.overlaps (first_of r choices 0) i)
+      where
+        left : loops_left h ≡ 0
+        left = ap loops_left (sym (get_or_from_slice_get homes.params i h InPlace e)) ∙ are.entry i
+
+        by : {x : Home} → x ≡ h → HomeIs c its.chosen.moved its.chosen.overlaps (first_of r choices 0) i x → HasOwn h
+        by is (stays f l) = absurd (none_in_place i f)
+        by is (owns f l) = record {
+          buffer = own_number c its.chosen.moved its.chosen.overlaps (first_of r choices 0) i;
+          is = sym is;
         }
+        by is (leaves n f l) =
+            let z : suc n ≡ 0 = ap loops_left is ∙ left in
+            absurd (omega (arith, z))
 
 pub entries_are_whole : EntriesAreWhole
-entries_are_whole r w choices simple = facts_with r w choices simple (body_in (bodies_of r)) (bodies_are r w 0)
+entries_are_whole r w choices are = facts_with r w choices are (body_in (bodies_of r)) (bodies_are r w 0)
 
 pub entries_have_buffers : EntriesHaveBuffers
-entries_have_buffers r w choices simple = entry_own r w choices simple
+entries_have_buffers r w choices are = own_home r w choices are

@@ -1,5 +1,5 @@
 -- Each iteration of a draft's spread maps has a child.
-use Rattle.std.proofs.Common.{◌≡◌, ℕ, zero, suc, ◌-◌, ◌<◌, Bool, true, false, List, length, Option}
+use Rattle.std.proofs.Common.{◌≡◌, ℕ, zero, suc, ◌-◌, ◌<◌, Bool, true, false, List, [], ◌∷◌, length, Option}
 use Rattle.std.proofs.Common.{Some, None, is_some, refl, sym, subst, arith}
 use Rattle.sq_num.specs.declared.RedOp.{RedOp}
 use Rattle.sq_text.specs.declared.place.Place.{Place}
@@ -8,6 +8,7 @@ use Rattle.sq_text.proofs.Spreads.{spreads}
 use Rattle.sq_ir.specs.Written.{Setting}
 use Rattle.sq_ir.specs.Plans.{node_at}
 use Rattle.sq_ir.specs.declared.plan.PlanNode.{PlanNode}
+use Rattle.sq_blocks.specs.declared.argument.Argument.{Argument}
 use Rattle.sq_form_laws.proofs.RanHold.{as_many_forms}
 use Rattle.sq_spec.specs.declared.statement.LoopKind.{LoopKind}
 use Rattle.sq_spec.specs.declared.statement.LoopKind.TheVariants as loop_kind
@@ -16,29 +17,29 @@ use Rattle.sq_spec.specs.declared.statement.Statement.{Statement}
 use Rattle.sq_spec.specs.declared.body.FormBody.{FormBody}
 use Rattle.sq_spec.specs.declared.resolved.Resolved.{Resolved}
 use Rattle.sq_placed.specs.declared.home.Homes.{Homes}
-use Rattle.sq_placed.specs.Placed.{Placed, Call}
-use Rattle.sq_placed.specs.Tables.{map_placed, placed_call, placed_of}
+use Rattle.sq_placed.specs.Placed.{Placed, PlacedArg, Call}
+use Rattle.sq_placed.specs.Tables.{map_placed, placed_call, placed_of, leaving_chain, held_arg, chain_form, chain_row}
+use Rattle.sq_placed.specs.Tables.{hold_placed}
 use Rattle.sq_cells.specs.Machine.{fan_of, lane, lane_of}
 use Rattle.sq_plan_laws.specs.Seated.{at_node}
+use Rattle.sq_term.specs.Terms.{body_in, homes_in}
 use Rattle.sq_term.specs.Stands.{below, calls_of, AreLevel}
 use Rattle.sq_term_fit.specs.Fits.{NodeAt, TabledBody}
 use Rattle.sq_begun.proofs.Lower.{lower_stand_above}
 use Rattle.sq_begun.proofs.Programs.{programs_are_tabled}
-use Rattle.sq_rooms.specs.Fitting.{statements}
-use Rattle.sq_rooms.specs.Lowers.{lower_in}
+use Rattle.sq_rooms.specs.Lowers.{statements, lower_in}
 use Rattle.sq_rooms.specs.Orders.{EachOf}
 use Rattle.sq_plan_room.specs.Buffers.{HaveLanes}
 use Rattle.sq_homes.specs.declared.choice.Choice.{Choice}
-use Rattle.sq_homes.specs.Drafts.{bodies_of, buffers_of}
+use Rattle.sq_homes.specs.Drafts.{bodies_of, homes_of, buffers_of}
 use Rattle.sq_homes_laws.specs.Given.{level_at}
-use Rattle.sq_homes_laws.specs.Simple.{Walked, AreSimple, AreMemories, setting_of}
+use Rattle.sq_homes_laws.specs.Simple.{Walked, AreHoisted, AreMemories, setting_of}
 use Rattle.sq_homes_laws.proofs.Descending.{calls_descend}
 use Rattle.sq_homes_laws.proofs.Programs.{bodies_are_tables}
 use Rattle.sq_homes_fit.specs.Drafts.{limits}
 use Rattle.sq_homes_fit.proofs.Levels.{have_levels, drafts_begin_at_root}
 use Rattle.sq_homes_fit.specs.Lanes.{IsDraftMachine, LanesAreThere}
 use Rattle.sq_homes_fit.proofs.Callers.{walk, RowIs, rows_are}
-use Rattle.sq_homes_fit.proofs.Numbered.{bodies, homes, homes_simple}
 use Rattle.sq_homes_fit.proofs.Machines.{machines_are_machines}
 use Rattle.sq_homes_fit.proofs.Parts.{Keeps, body_keeps}
 use Rattle.sq_homes_fit.proofs.Rounds.{each_as}
@@ -52,12 +53,12 @@ lane_below : (s : Setting) (rule : SpreadRule) (node n t : ℕ) → 0 < s.childr
 unfolding fan_of lane
 lane_below s rule node n t some l = (spreads rule n (s.children node) some).below t l
 
-module _ (r : Resolved) (w : Walked r) (choices : List Choice) (simple : AreSimple r choices) where
+module _ (r : Resolved) (w : Walked r) (choices : List Choice) (are_hoisted : AreHoisted r choices) where
   abbrev fb : ℕ → FormBody
-  fb = bodies r w choices simple
+  fb = body_in (bodies_of r)
 
   abbrev fh : ℕ → Homes
-  fh = homes r w choices simple
+  fh = homes_in (homes_of r choices)
 
   abbrev last : ℕ
   last = length r.machine.now.levels - 1
@@ -84,7 +85,7 @@ module _ (r : Resolved) (w : Walked r) (choices : List Choice) (simple : AreSimp
 
   -- the entry runs at the root
   root_level : level_at r 0 ≡ 0
-  root_level = (drafts_begin_at_root r w choices simple).entry
+  root_level = (drafts_begin_at_root r w choices are_hoisted).entry
 
   module _ (nodes : List PlanNode) (are : AreMemories r.machine.now.levels nodes) (offset : ℕ → ℕ) where
     abbrev s : Setting
@@ -137,17 +138,24 @@ module _ (r : Resolved) (w : Walked r) (choices : List Choice) (simple : AreSimp
         let there : IsAt (level_at r q.form) node = subst (λ (m : ℕ). IsAt m node) (sym l) at in
         ih q.form node there 0 (some_child q.form node there)
 
+    -- a loop that arguments leave has the lanes of the loop
+    hold_laned : (k node : ℕ) (ps : List (ℕ × Argument)) (f : (ℕ × Argument) → PlacedArg) (x : Placed)
+        → Laned k node x → Laned k node (hold_placed ps f x)
+    hold_laned k node [] f x g = g
+    hold_laned k node (p ∷ ps) f x g = g
+
     laned_keeps : (d k node : ℕ) → IsAt (level_at r k) node
         → ((f n : ℕ) → IsAt (level_at r f) n → Laned f n (placed_of fb fh d f))
         → Keeps fb fh (placed_of fb fh d) (level_at r) (level_at r k) (level_at r k < last) (RowIs r w k)
         (Laned k node)
-    laned_keeps d k node at ih = record {
-      stay = homes_simple r w choices simple;
+    laned_keeps d form node at ih = record {
       nothing = λ child ok. tt;
       both = λ x y g h child ok. (g child ok, h child ok);
-      loop = λ m place spread count x d h. loop_laned k node at m place spread count x d h;
+      loop = λ m place spread count x d h. loop_laned form node at m place spread count x d h;
+      hold = λ h k x g. hold_laned form node (leaving_chain fh h)
+          (held_arg (fb (chain_form h)) (fh (chain_form h)) (chain_row h k)) x g;
       leaf = λ code leaf shapes child ok. tt;
-      row = λ op lower q x l e. call_laned d k node at ih op lower q l e;
+      row = λ op lower q x l e. call_laned d form node at ih op lower q l e;
     }
 
     laned : (d k node : ℕ) → IsAt (level_at r k) node → Laned k node (placed_of fb fh d k)
@@ -163,4 +171,4 @@ module _ (r : Resolved) (w : Walked r) (choices : List Choice) (simple : AreSimp
         laned (length (bodies_of r)) 0 0 at 0 (some_child 0 0 at)
 
 pub lanes_are_there : LanesAreThere
-lanes_are_there r w choices simple nodes are offset = have_lanes r w choices simple nodes are offset
+lanes_are_there r w choices hoisted nodes are offset = have_lanes r w choices hoisted nodes are offset

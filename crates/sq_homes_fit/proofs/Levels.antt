@@ -9,24 +9,28 @@ use Rattle.sq_ast.specs.declared.program.Variant.{Variant}
 use Rattle.sq_mapfile.specs.declared.mapping.Instance.{Instance}
 use Rattle.sq_forms.specs.Steps.{Key}
 use Rattle.sq_forms.specs.declared.form.Found.{Found}
+use Rattle.sq_forms.specs.declared.form.Form.{Form}
+use Rattle.sq_forms.specs.Resolving.{with_locals}
 use Rattle.sq_form_laws.proofs.FitHold.{some_same, both, of_program}
 use Rattle.sq_ir.specs.Plans.{of_buffer}
 use Rattle.sq_ir.specs.declared.plan.Buffer.{Buffer}
 use Rattle.sq_spec.specs.declared.body.FormBody.{FormBody}
 use Rattle.sq_spec.specs.declared.resolved.Resolved.{Resolved}
+use Rattle.sq_placed.specs.declared.home.Home.{Home}
 use Rattle.sq_begun.specs.Programs.{HaveLevels}
 use Rattle.sq_homes.specs.declared.choice.Choice.{Choice}
 use Rattle.sq_homes.specs.Drafts.{bodies_of, buffers_from, buffer_at, choice_in, level_by}
-use Rattle.sq_homes.specs.Numbering.{standing, IsHomeIn}
+use Rattle.sq_homes.specs.Numbering.{left_by, standing, IsHomeIn}
 use Rattle.sq_homes.proofs.Numbered.{homes_are_own}
 use Rattle.sq_homes_laws.specs.Given.{level_at}
-use Rattle.sq_homes_laws.specs.Simple.{Walked, AreSimple}
+use Rattle.sq_homes_laws.specs.Simple.{Walked, AreHoisted}
 use Rattle.sq_homes_fit.specs.Levels.{LevelsAreThere, BeginsAtRoot, DraftsBeginAtRoot}
 use Rattle.sq_homes_fit.proofs.Found.{IsPlain, found_plain}
-use Rattle.sq_homes_fit.proofs.Forms.{plain, tasks, instances, resolving, body_at, many_forms, run_of, body_there}
-use Rattle.sq_homes_fit.proofs.Forms.{none_from, drafted}
-use Rattle.sq_homes_fit.proofs.Fitting.{own_or, number_of, home_is}
-use Rattle.sq_homes_fit.proofs.Entry.{entry, extents, form, none_flagged}
+use Rattle.sq_homes_fit.proofs.Forms.{tasks, instances, resolving, body_at, many_forms, run_of, body_there}
+use Rattle.sq_homes_fit.proofs.Forms.{none_from}
+use Rattle.sq_homes_fit.proofs.Hoisted.{is_form}
+use Rattle.sq_homes_fit.proofs.Places.{HomeIs, stays, owns, leaves, home_by}
+use Rattle.sq_homes_fit.proofs.Entry.{entry, extents, form, none_in_place}
 
 -- ---- a formed variant has a parameter
 
@@ -52,10 +56,6 @@ first_level : (b : Buffer → ℕ) (n : ℕ) (f : ℕ → Buffer) (xs : List ℕ
     → ((i : ℕ) → b (f i) ≡ n) → of_buffer (map f xs ++ ys) b 0 ≡ n
 first_level b n f [] ys h same = absurd (omega (arith, h))
 first_level b n f (x ∷ xs) ys h same = same x
-
-some_buffers : (n : ℕ) (b : Bool) (number : ℕ) → b ≡ false → IsHomeIn 0 n (own_or number b) → 0 < n
-some_buffers n true number e h = absurd (cc e)
-some_buffers n false number e h = let l = h.1 in omega (arith, l)
 
 buffers_begin : (r : Resolved) (choices : List Choice) (bs : List FormBody) (b : FormBody) → slice_get bs 0 ≡ Some b
     → 0 < length (standing b (choice_in choices 0)) → of_buffer (buffers_from r choices 0 bs) (λ x. x.level) 0
@@ -113,22 +113,27 @@ module _ (r : Resolved) (w : Walked r) where
       let many = run.fits.many in
       omega (arith, one, many)
 
-  module _ (choices : List Choice) (simple : AreSimple r choices) where
+  module _ (choices : List Choice) (are : AreHoisted r choices) where
     some_standing : 0 < length (standing (body_at r 0) (choice_in choices 0))
     some_standing =
-        let d = drafted r w choices simple 0 (form r) (entry r).found in
-        let less = some_extents in
-        let many = d.many in
-        let own = homes_are_own 0 (body_at r 0) (plain d.flags) 0 (omega (arith, less, many)) in
-        subst (λ (c : Choice). 0 < length (standing (body_at r 0) c)) (sym d.choice)
-        (some_buffers (length (standing (body_at r 0) (plain d.flags))) (get_or d.flags 0 false)
-        (number_of 0 d.flags 0)
-        (out (get_or d.flags 0 false) (λ f. none_flagged (extents r) 0 (d.in_place 0 f)))
-        (subst (IsHomeIn 0 (length (standing (body_at r 0) (plain d.flags)))) (home_is 0 d.flags 0) own))
+        let f = is_form r choices are 0 (body_at r 0) (body_there r w 0 (form r) (entry r).found) in
+        let c = choice_in choices 0 in
+        let run = run_of r w 0 (form r) (entry r).found in
+        let same : f.form ≡ with_locals (form r).1 run.ran.scope.locals = some_same _ _ (sym f.there ∙ run.ran.kept) in
+        let flags = f.chosen.flags ∙ ap (λ (x : Form). length x.in_place) same in
+        let plain = (plain_at 0 (form r) (entry r).found).flags in
+        let some = some_extents in
+        by (home_by c f.chosen.moved f.chosen.overlaps 0 0)
+        (homes_are_own 0 (body_at r 0) c 0 (omega (arith, flags, plain, some)))
       where
-        out : (b : Bool) → (b ≡ true → ⊥) → b ≡ false
-        out true h = absurd (h refl)
-        out false h = refl
+        by : {h : Home} → {moved : (i : ℕ) → 0 < left_by (choice_in choices 0) i
+            → get_or (choice_in choices 0).in_place i false ≡ false} → {overlaps : (choice_in choices 0).overlaps ≡ false}
+            → HomeIs (choice_in choices 0) moved overlaps 0 0 h
+            → IsHomeIn 0 (length (standing (body_at r 0) (choice_in choices 0))) h
+            → 0 < length (standing (body_at r 0) (choice_in choices 0))
+        by (stays f l) own = absurd (none_in_place r w choices are 0 f)
+        by (owns f l) own = let less = own.1 in omega (arith, less)
+        by (leaves n f l) own = let less = own.1 in omega (arith, less)
 
     begins : BeginsAtRoot r choices
     begins =
@@ -144,4 +149,4 @@ pub levels_are_there : LevelsAreThere
 levels_are_there r w k = level_there r w k (slice_get r.found.entries k) refl
 
 pub drafts_begin_at_root : DraftsBeginAtRoot
-drafts_begin_at_root r w choices simple = begins r w choices simple
+drafts_begin_at_root r w choices are = begins r w choices are

@@ -1,59 +1,93 @@
--- Each array of a form has a buffer of its own, that no call further in names.
-use Rattle.std.proofs.Common.{◌≡◌, inl, inr, ℕ, zero, suc, ◌+◌, ◌<◌, Bool, true, List, map}
-use Rattle.std.proofs.Common.{length, slice_get, get_or, Option, Some, sym, ap, subst, ◌∙◌, arith}
-use Rattle.std.specs.List.{All}
+-- Each array of a call has a buffer of its own, that nothing further in brings into scope; and so has each argument that
+-- leaves a loop.
+use Rattle.std.proofs.Common.{◌≡◌, ℕ, zero, suc, ◌+◌, ◌<◌, ◌≤◌, Bool, true, false, List, [], ◌∷◌, map}
+use Rattle.std.proofs.Common.{length, slice_get, get_or, Option, Some, None, if◌then◌else◌, refl, sym, ap, subst, ◌∙◌}
+use Rattle.std.proofs.Common.{arith}
+use Rattle.std.specs.List.{All, Contains}
+use Rattle.std.proofs.lemmas.Option.{get_or_from_slice_get, slice_get_within}
 use Rattle.sq_num.specs.declared.RedOp.{RedOp}
-use Rattle.sq_text.specs.declared.place.Place.{Place}
-use Rattle.sq_text.specs.declared.spread.SpreadRule.{SpreadRule}
 use Rattle.sq_leaf.specs.declared.shape.Shape.{Shape}
-use Rattle.sq_ir.specs.Written.{Setting}
+use Rattle.sq_blocks.specs.declared.argument.Argument.{Argument}
 use Rattle.sq_ir.specs.declared.plan.PlanNode.{PlanNode}
-use Rattle.sq_form_laws.proofs.AllHold.{within_list}
 use Rattle.sq_form_laws.proofs.AnswerHold.{forms_callers_first}
 use Rattle.sq_form_laws.proofs.RanHold.{as_many_forms}
-use Rattle.sq_spec.specs.declared.statement.LoopKind.{LoopKind}
-use Rattle.sq_spec.specs.declared.statement.LoopKind.TheVariants as loop_kind
 use Rattle.sq_spec.specs.declared.statement.CallInstance.{CallInstance}
-use Rattle.sq_spec.specs.declared.statement.Statement.{Statement}
 use Rattle.sq_spec.specs.declared.body.FormBody.{FormBody}
 use Rattle.sq_spec.specs.declared.resolved.Resolved.{Resolved}
-use Rattle.sq_placed.specs.declared.home.Home.TheVariants.{InPlace}
+use Rattle.sq_placed.specs.declared.home.Home.{Home}
+use Rattle.sq_placed.specs.declared.home.Home.TheVariants.{InPlace, Held}
 use Rattle.sq_placed.specs.declared.home.Homes.{Homes}
 use Rattle.sq_placed.specs.Placed.{Placed, PlacedArg, PlacedLocal, PlacedCall}
-use Rattle.sq_placed.specs.Tables.{no_shape, placed_args, locals_of, map_placed, placed_call, placed_of}
+use Rattle.sq_placed.specs.Tables.{no_shape, placed_args, locals_of, placed_call, leaves_loop, leaving_args}
+use Rattle.sq_placed.specs.Tables.{held_arg}
 use Rattle.sq_placed_bytes.specs.Calling.{shapes_of}
-use Rattle.sq_plan_room.specs.Buffers.{home_buffer, HasBuffer, Names, IsSimple, CallOwns, Owns}
-use Rattle.sq_term.specs.Stands.{calls_of, AreLevel}
-use Rattle.sq_rooms.specs.Fitting.{statements}
-use Rattle.sq_rooms.specs.Lowers.{lower_in}
-use Rattle.sq_rooms.specs.Orders.{EachOf}
+use Rattle.sq_placed_bytes.specs.Codes.{bytes_in}
+use Rattle.sq_placed_bytes.proofs.Lists.{same_some}
+use Rattle.sq_term.specs.Terms.{body_in, homes_in}
+use Rattle.sq_plan_room.specs.Buffers.{home_buffer, opened_buffer, HasBuffer, OpensBuffer, HoldsBuffer, Opens}
+use Rattle.sq_plan_room.specs.Buffers.{IsAmong, CallOwns, HoldOwns}
+use Rattle.sq_plan_room.proofs.Live.{opens_has}
 use Rattle.sq_forms_fit.specs.Sizes.{IsSized}
+use Rattle.sq_forms_fit.proofs.Shapes.{mapped_at, at_mapped}
 use Rattle.sq_forms_fit.proofs.Whole.{arrays_are_sized}
+use Rattle.sq_forms_fit.proofs.Carried.{leaves_by, left_at}
 use Rattle.sq_homes.specs.declared.choice.Choice.{Choice}
-use Rattle.sq_homes.specs.Drafts.{bodies_of}
-use Rattle.sq_homes_laws.specs.Given.{level_at}
-use Rattle.sq_homes_laws.specs.Simple.{Walked, AreSimple, setting_of}
-use Rattle.sq_homes_laws.proofs.Descending.{calls_descend}
+use Rattle.sq_homes.specs.Drafts.{bodies_of, homes_of, choice_in}
+use Rattle.sq_homes_laws.specs.Simple.{Walked, AreHoisted, setting_of}
+use Rattle.sq_homes_laws.proofs.Hoisting.{at_index, bodies_many}
 use Rattle.sq_homes_laws.proofs.Programs.{bodies_are_tables}
 use Rattle.sq_homes_laws.proofs.Standing.{map_length}
-use Rattle.sq_homes_fit.proofs.Numbers.{form_from}
-use Rattle.sq_homes_fit.proofs.Rounds.{each_of}
-use Rattle.sq_homes_fit.proofs.Callers.{walk, RowIs, rows_are}
-use Rattle.sq_homes_fit.proofs.Numbered.{an_item, at_index, bodies, homes, flags, bodies_many, IsForm, is_form}
-use Rattle.sq_homes_fit.proofs.Numbered.{homes_simple}
-use Rattle.sq_homes_fit.proofs.Parts.{simple_at, Keeps, body_keeps}
-use Rattle.sq_homes_fit.proofs.Arrays.{Split, front, behind, split, mapped_at, map_there, args_many, arg_at}
-use Rattle.sq_homes_fit.proofs.Arrays.{HasNumber, param_number, local_number, same_array, form_is, fits, local_shape}
+use Rattle.sq_homes_fit.proofs.Forms.{past_or}
+use Rattle.sq_homes_fit.proofs.Numbers.{first_of, form_from}
+use Rattle.sq_homes_fit.proofs.Lists.{Split, front, behind, split}
+use Rattle.sq_homes_fit.proofs.Callers.{walk, RowIs}
+use Rattle.sq_homes_fit.proofs.Places.{HomeIs, stays, owns, leaves, home_by}
+use Rattle.sq_homes_fit.proofs.Hoisted.{IsForm, is_form, param_is}
+use Rattle.sq_homes_fit.proofs.Arrays.{args_many, arg_at, HasNumber, param_number, held_number, held_less, local_number}
+use Rattle.sq_homes_fit.proofs.Arrays.{same_array, form_is, fits, local_shape}
 
-module _ (r : Resolved) (w : Walked r) (choices : List Choice) (simple : AreSimple r choices) where
+-- ---- the arguments that leave a loop, in order
+
+left_behind : (l : ℕ) (hs : List Home) (i : ℕ) (args : List Argument) (m : ℕ) (q : ℕ × Argument)
+    → slice_get (leaving_args l hs (suc i) args) m ≡ Some q → q.0 ≡ i → ⊥
+left_behind l hs i args m q e same =
+    let x = left_at l hs (suc i) args m q e in
+    let z = x.1 in
+    omega (arith, z, same)
+
+-- each position stands once
+pub left_once : (l : ℕ) (hs : List Home) (i : ℕ) (args : List Argument) (m n : ℕ) (p q : ℕ × Argument)
+    → slice_get (leaving_args l hs i args) m ≡ Some p → slice_get (leaving_args l hs i args) n ≡ Some q → p.0 ≡ q.0
+    → m ≡ n
+left_once l hs i [] m n p q g h same = absurd (cc g)
+left_once l hs i (a ∷ args) m n p q g h same =
+    go (leaves_loop l (get_or hs i InPlace)) (λ j k x y. left_once l hs (suc i) args j k p q x y same) m n g h
+  where
+    rest : List (ℕ × Argument)
+    rest = leaving_args l hs (suc i) args
+
+    go : (t : Bool) → ((j k : ℕ) → slice_get rest j ≡ Some p → slice_get rest k ≡ Some q → j ≡ k)
+        → (j k : ℕ) → slice_get (if t then (i, a) ∷ rest else rest) j ≡ Some p
+        → slice_get (if t then (i, a) ∷ rest else rest) k ≡ Some q → j ≡ k
+    go true ih zero zero x y = refl
+    go true ih zero (suc k) x y =
+        let is = ap (λ (z : ℕ × Argument). z.0) (same_some x) in
+        absurd (left_behind l hs i args k q y (sym same ∙ sym is))
+    go true ih (suc j) zero x y =
+        let is = ap (λ (z : ℕ × Argument). z.0) (same_some y) in
+        absurd (left_behind l hs i args j p x (same ∙ sym is))
+    go true ih (suc j) (suc k) x y = ap suc (ih j k x y)
+    go false ih j k x y = ih j k x y
+
+module _ (r : Resolved) (w : Walked r) (choices : List Choice) (are : AreHoisted r choices) where
   abbrev fb : ℕ → FormBody
-  fb = bodies r w choices simple
+  fb = body_in (bodies_of r)
 
   abbrev fh : ℕ → Homes
-  fh = homes r w choices simple
+  fh = homes_in (homes_of r choices)
 
   -- the form of a buffer
-  abbrev of_form : ℕ → ℕ
+  abbrev pub of_form : ℕ → ℕ
   of_form n = form_from choices 0 (bodies_of r) n
 
   pub sized : (k n : ℕ) (x : Shape) → slice_get (fb k).arrays n ≡ Some x → IsSized x.extents
@@ -63,196 +97,236 @@ module _ (r : Resolved) (w : Walked r) (choices : List Choice) (simple : AreSimp
 
   -- ---- a call that a row of a form's tables makes
 
-  record IsCalled (k : ℕ) (q : CallInstance) : Type 0 where
-    body : FormBody
-    form : IsForm r w choices simple q.form body
-    later : k < q.form
-    args : length q.args ≡ length (flags r w choices simple q.form)
+  pub record IsCalled (k : ℕ) (q : CallInstance) : Type 0 where
+    pub body : FormBody
+    pub form : IsForm r choices are q.form body
+    pub later : k < q.form
+    pub args : length q.args ≡ length (choice_in choices q.form).in_place
 
-  is_called : (k : ℕ) (q : CallInstance) → RowIs r w k q → IsCalled k q
+  pub is_called : (k : ℕ) (q : CallInstance) → RowIs r w k q → IsCalled k q
   is_called k q x =
       let less = forms_callers_first r.typed.now.tasks r.mapping.now (walk r w) w.through q.form x.form x.caller x.there
       x.called in
-      let m = bodies_many r w choices simple in
-      let l = within_list r.forms q.form x.form x.there in
+      let m = bodies_many r choices in
+      let l = slice_get_within r.forms q.form x.form x.there in
       let b = at_index (bodies_of r) q.form (omega (arith, m, l)) in
       record {
         body = b.0;
-        form = is_form r w choices simple q.form b.0 b.1;
+        form = is_form r choices are q.form b.0 b.1;
         later = subst (λ (n : ℕ). n < q.form) x.from less;
-        args = sym x.flags ∙ sym (simple.each q.form x.form x.there).flags;
+        args = sym x.flags ∙ sym (are.each q.form x.form x.there).flags;
       }
 
-  module _ (op : Option RedOp) (lower : Bool) (k : ℕ) (q : CallInstance) (is : IsCalled k q) where
-    abbrev c : PlacedCall
-    c = placed_call fb fh op lower q
-
-    abbrev args : List PlacedArg
-    args = placed_args op (fb q.form).arrays (fh q.form).params 0 q.args
-
-    abbrev locals : List PlacedLocal
-    locals = locals_of (fb q.form) (fh q.form)
+  module _ (k : ℕ) (q : CallInstance) (is : IsCalled k q) where
+    abbrev flags : List Bool
+    flags = (choice_in choices q.form).in_place
 
     abbrev HasIt : ℕ → ℕ → Type 0
-    HasIt i n = HasNumber r w choices simple q.form is.body i n
+    HasIt i n = HasNumber r w choices are q.form is.body is.form i n
 
-    many_args : length args ≡ length (flags r w choices simple q.form)
-    many_args = args_many op (fb q.form).arrays (fh q.form).params 0 q.args ∙ is.args
+    -- what leaves loops has a buffer of the callee's
+    pub held_form : (i n m : ℕ) → get_or (fh q.form).params i InPlace ≡ Held n m → of_form n ≡ q.form
+    held_form i n m e = form_is r w choices are q.form is.body is.form i n
+        (held_number r w choices are q.form is.body is.form i n m e)
 
-    arg_number : (i n : ℕ)
-        → slice_get (map (λ (p : PlacedArg). home_buffer p.home) args) i ≡ Some (Some n) → HasIt i n
-    arg_number i n h =
-        let m = mapped_at (λ (p : PlacedArg). home_buffer p.home) args i (Some n) h in
-        let a = arg_at op (fb q.form).arrays (fh q.form).params 0 q.args i m.of m.there in
-        let z : 0 + i ≡ i = omega arith in
-        param_number r w choices simple q.form is.body is.form i n
-        (sym (ap home_buffer (a.home ∙ ap (λ j. get_or (fh q.form).params j InPlace) z)) ∙ m.is)
+    -- and no other one has it
+    pub held_once : (i j n m l : ℕ) → get_or (fh q.form).params i InPlace ≡ Held n m
+        → get_or (fh q.form).params j InPlace ≡ Held n l → i ≡ j
+    held_once i j n m l g h = same_array r w choices are q.form is.body is.form i j n
+        (held_number r w choices are q.form is.body is.form i n m g)
+        (held_number r w choices are q.form is.body is.form j n l h)
 
-    kept_number : (j n : ℕ) → slice_get (map (λ (x : PlacedLocal). Some x.buffer) locals) j ≡ Some (Some n)
-        → HasIt (length args + j) n
-    kept_number j n h =
-        let m = mapped_at (λ (x : PlacedLocal). Some x.buffer) locals j (Some n) h in
-        let buffer : m.of.buffer ≡ n = let e = m.is in cc e in
-        subst (λ (l : ℕ). HasIt (l + j) n) (sym many_args)
-        (local_number r w choices simple q.form is.body is.form j n
-        (map_there (λ (x : PlacedLocal). x.buffer) locals j m.of m.there ∙ ap (λ z. Some z) buffer))
+    module _ (op : Option RedOp) (lower : Bool) where
+      abbrev c : PlacedCall
+      c = placed_call fb fh op lower q
 
-    abbrev outside : List (Option ℕ)
-    outside = map (λ (p : PlacedArg). home_buffer p.home) args
+      abbrev args : List PlacedArg
+      args = placed_args op (fb q.form).arrays (fh q.form).params 0 q.args
 
-    abbrev inside : List (Option ℕ)
-    inside = map (λ (x : PlacedLocal). Some x.buffer) locals
+      abbrev locals : List PlacedLocal
+      locals = locals_of (fb q.form) (fh q.form)
 
-    its_number : (i n : ℕ) → HasBuffer c i n → HasIt i n
-    its_number i n h = by (split outside inside i (Some n) h)
-      where
-        by : Split outside inside i (Some n) → HasIt i n
-        by (front e) = arg_number i n e
-        by (behind j m e) =
-            let l = map_length (λ (p : PlacedArg). home_buffer p.home) args in
-            let at : length args + j ≡ i = omega (arith, l, m) in
-            subst (λ (x : ℕ). HasIt x n) at (kept_number j n e)
+      many_args : length args ≡ length flags
+      many_args = args_many op (fb q.form).arrays (fh q.form).params 0 q.args ∙ is.args
 
-    its_shape : (i : ℕ) (x : Shape) → slice_get (shapes_of c) i ≡ Some x → x ≡ get_or is.body.arrays i no_shape
-    its_shape i x h
-        = by (split (map (λ (p : PlacedArg). p.shape) args) (map (λ (l : PlacedLocal). l.shape) locals) i x h)
-      where
-        by : Split (map (λ (p : PlacedArg). p.shape) args) (map (λ (l : PlacedLocal). l.shape) locals) i x
-            → x ≡ get_or is.body.arrays i no_shape
-        by (front e) =
-            let m = mapped_at (λ (p : PlacedArg). p.shape) args i x e in
-            let a = arg_at op (fb q.form).arrays (fh q.form).params 0 q.args i m.of m.there in
-            let z : 0 + i ≡ i = omega arith in
-            sym m.is ∙ a.shape ∙ ap (λ j. get_or (fb q.form).arrays j no_shape) z
-            ∙ ap (λ (y : FormBody). get_or y.arrays i no_shape) is.form.body
-        by (behind j m e) =
-            let l = map_length (λ (p : PlacedArg). p.shape) args in
-            let n = many_args in
-            let at : i ≡ length (flags r w choices simple q.form) + j = omega (arith, l, m, n) in
-            let f = mapped_at (λ (y : PlacedLocal). y.shape) locals j x e in
-            sym f.is
-            ∙ sym (an_item is.body.arrays (length (flags r w choices simple q.form) + j) no_shape f.of.shape
-            (local_shape r w choices simple q.form is.body is.form j f.of f.there))
-            ∙ ap (λ z. get_or is.body.arrays z no_shape) (sym at)
+      arg_number : (i n : ℕ)
+          → slice_get (map (λ (p : PlacedArg). home_buffer p.home) args) i ≡ Some (Some n) → HasIt i n
+      arg_number i n h =
+          let m = mapped_at (λ (p : PlacedArg). home_buffer p.home) args i (Some n) h in
+          let a = arg_at op (fb q.form).arrays (fh q.form).params q.args i m.of m.there in
+          param_number r w choices are q.form is.body is.form i n (sym (ap home_buffer a.home) ∙ m.is)
 
-    its_form : (i n : ℕ) → HasBuffer c i n → of_form n ≡ q.form
-    its_form i n h = form_is r w choices simple q.form is.body is.form i n (its_number i n h)
+      kept_number : (j n : ℕ) → slice_get (map (λ (x : PlacedLocal). Some x.buffer) locals) j ≡ Some (Some n)
+          → HasIt (length args + j) n
+      kept_number j n h =
+          let m = mapped_at (λ (x : PlacedLocal). Some x.buffer) locals j (Some n) h in
+          let buffer : m.of.buffer ≡ n = let e = m.is in cc e in
+          subst (λ (l : ℕ). HasIt (l + j) n) (sym many_args)
+          (local_number r w choices are q.form is.body is.form j n
+          (at_mapped (λ (x : PlacedLocal). x.buffer) locals j m.of m.there ∙ ap (λ z. Some z) buffer))
 
-    its_locals : (j : ℕ) (l : PlacedLocal) → slice_get locals j ≡ Some l → All (λ n. 0 < n) l.shape.extents
-    its_locals j l h =
-        (sized q.form (length (flags r w choices simple q.form) + j) l.shape
-        (ap (λ (y : FormBody). slice_get y.arrays (length (flags r w choices simple q.form) + j)) is.form.body
-        ∙ local_shape r w choices simple q.form is.body is.form j l h)).some
+      abbrev outside : List (Option ℕ)
+      outside = map (λ (p : PlacedArg). home_buffer p.home) args
 
-    its_homes : (i : ℕ) (p : PlacedArg) → slice_get args i ≡ Some p → IsSimple p.home
-    its_homes i p h =
-        let a = arg_at op (fb q.form).arrays (fh q.form).params 0 q.args i p h in
-        subst IsSimple (sym a.home) (simple_at (fh q.form).params (homes_simple r w choices simple q.form) (0 + i))
+      abbrev opened : List (Option ℕ)
+      opened = map (λ (p : PlacedArg). opened_buffer p.home) args
 
-    call_owns : (nodes : List PlanNode) (offset : ℕ → ℕ) (x : Placed) → ((n : ℕ) → Names x n → q.form < of_form n)
-        → CallOwns (setting_of r choices nodes offset) c x
-    call_owns nodes offset x further = record {
-      simple = its_homes;
-      distinct = λ i j n g h.
-          same_array r w choices simple q.form is.body is.form i j n (its_number i n g) (its_number j n h);
-      inner = λ i n g h. let a = its_form i n g in let f = further n h in absurd (omega (arith, a, f));
-      sizes = λ i n x g h.
-          fits r w choices simple q.form is.body is.form i n x (its_number i n g) (its_shape i x h);
-      some = its_locals;
-    }
+      abbrev inside : List (Option ℕ)
+      inside = map (λ (x : PlacedLocal). Some x.buffer) locals
 
-  -- ---- all that is placed of a form
+      its_number : (i n : ℕ) → HasBuffer c i n → HasIt i n
+      its_number i n h = by (split outside inside i (Some n) h)
+        where
+          by : Split outside inside i (Some n) → HasIt i n
+          by (front e) = arg_number i n e
+          by (behind j m e) =
+              let l = map_length (λ (p : PlacedArg). home_buffer p.home) args in
+              let at : length args + j ≡ i = omega (arith, l, m) in
+              subst (λ (x : ℕ). HasIt x n) at (kept_number j n e)
 
-  abbrev placed_form : ℕ → ℕ → Placed
-  placed_form d k = placed_of fb fh d k
+      its_shape : (i : ℕ) (x : Shape) → slice_get (shapes_of c) i ≡ Some x → x ≡ get_or is.body.arrays i no_shape
+      its_shape i x h
+          = by (split (map (λ (p : PlacedArg). p.shape) args) (map (λ (l : PlacedLocal). l.shape) locals) i x h)
+        where
+          by : Split (map (λ (p : PlacedArg). p.shape) args) (map (λ (l : PlacedLocal). l.shape) locals) i x
+              → x ≡ get_or is.body.arrays i no_shape
+          by (front e) =
+              let m = mapped_at (λ (p : PlacedArg). p.shape) args i x e in
+              let a = arg_at op (fb q.form).arrays (fh q.form).params q.args i m.of m.there in
+              sym m.is ∙ a.shape ∙ ap (λ (y : FormBody). get_or y.arrays i no_shape) is.form.body
+          by (behind j m e) =
+              let l = map_length (λ (p : PlacedArg). p.shape) args in
+              let n = many_args in
+              let at : i ≡ length flags + j = omega (arith, l, m, n) in
+              let f = mapped_at (λ (y : PlacedLocal). y.shape) locals j x e in
+              sym f.is
+              ∙ sym (get_or_from_slice_get is.body.arrays (length flags + j) f.of.shape no_shape
+              (local_shape r w choices are q.form is.body is.form j f.of f.there))
+              ∙ ap (λ z. get_or is.body.arrays z no_shape) (sym at)
 
-  levels : (k : ℕ) → AreLevel (level_at r) (level_at r k) (calls_of (fb k).body)
-  levels k = (calls_descend as_many_forms r).each k
+      pub its_form : (i n : ℕ) → HasBuffer c i n → of_form n ≡ q.form
+      its_form i n h = form_is r w choices are q.form is.body is.form i n (its_number i n h)
 
-  all_deep : (k : ℕ) → EachOf (λ (y : Statement). lower_in y ≡ true → Unit {0}) (statements (fb k).body)
-  all_deep k = each_of (λ (y : Statement). lower_in y ≡ true → Unit {0}) (statements (fb k).body) (λ i y e h. tt)
+      its_locals : (j : ℕ) (l : PlacedLocal) → slice_get locals j ≡ Some l → All (λ n. 0 < n) l.shape.extents
+      its_locals j l h =
+          (sized q.form (length flags + j) l.shape
+          (ap (λ (y : FormBody). slice_get y.arrays (length flags + j)) is.form.body
+          ∙ local_shape r w choices are q.form is.body is.form j l h)).some
 
-  -- the buffers that are named in a form, but for its own, are of forms behind it
-  abbrev Further : ℕ → Placed → Type 0
-  Further k x = (n : ℕ) → Names x n → k < of_form n
+      -- what the call brings into scope leaves no loop
+      pub not_held : (i j n m : ℕ) → OpensBuffer c j n → get_or (fh q.form).params i InPlace ≡ Held n m → ⊥
+      not_held i j n m o e = by (split opened inside j (Some n) o)
+        where
+          same : i ≡ j
+          same = same_array r w choices are q.form is.body is.form i j n
+              (held_number r w choices are q.form is.body is.form i n m e) (its_number j n (opens_has c j n o))
 
-  loop_further : (k : ℕ) (m : LoopKind) (place : Place) (spread : Option SpreadRule) (count : ℕ) (x : ℕ → Placed)
-      → ((t : ℕ) → t < count → Further k (x t)) → Further k (map_placed m place spread count x)
-  loop_further k loop_kind.Sequential place spread count x h n i = h i.0 i.1 n i.2
-  loop_further k loop_kind.Parallel place spread count x h n i = h i.0 i.1 n i.2
-  loop_further k (loop_kind.Reduction g) place spread count x h n i = h i.0 i.1 n i.2
+          by : Split opened inside j (Some n) → ⊥
+          by (front g) =
+              let x = mapped_at (λ (p : PlacedArg). opened_buffer p.home) args j (Some n) g in
+              let a = arg_at op (fb q.form).arrays (fh q.form).params q.args j x.of x.there in
+              let home : x.of.home ≡ Held n m = a.home
+              ∙ (ap (λ l. get_or (fh q.form).params l InPlace) (sym same) ∙ e) in
+              let z : None ≡ Some n = sym (ap opened_buffer home) ∙ x.is in
+              cc z
+          by (behind l g h) =
+              let less = held_less r w choices are q.form is.body is.form i n m e in
+              let long = map_length (λ (p : PlacedArg). opened_buffer p.home) args in
+              let many = many_args in
+              omega (arith, less, long, many, g, same)
 
-  further_keeps : (d k : ℕ) → ((f : ℕ) → Further f (placed_form d f))
-      → Keeps fb fh (placed_form d) (level_at r) (level_at r k) (Unit {0}) (RowIs r w k) (Further k)
-  further_keeps d k ih = record {
-    stay = homes_simple r w choices simple;
-    nothing = λ n h. absurd h;
-    both = λ x y g h n i. elim i [
-      | inl a ↦ g n a
-      | inr b ↦ h n b
-    ];
-    loop = λ m place spread count x s h. loop_further k m place spread count x h;
-    leaf = λ code leaf shapes n h. absurd h;
-    row = λ op lower q x l s n i.
-        let is = is_called k q x in
-        elim i [
-          | inl a ↦ (let z = its_form op lower k q is a.0 n a.1 in let y = is.later in omega (arith, z, y))
-          | inr b ↦ (let z = ih q.form n b in let y = is.later in omega (arith, z, y))
-        ];
-  }
+      -- ---- the call owns its buffers, in loops that hold these
 
-  pub further : (d k : ℕ) → Further k (placed_form d k)
-  further zero k = λ n h. absurd h
-  further (suc d) k =
-      body_keeps fb fh (placed_form d) (level_at r) (level_at r k) (Unit {0}) (RowIs r w k) (Further k)
-      (further_keeps d k (further d)) (fh k) (fb k).arrays (fb k).body (rows_are r w k) (levels k) (all_deep k)
+      module _ (held : List ℕ)
+          (covered : (i n m : ℕ) → get_or (fh q.form).params i InPlace ≡ Held n m → (lower ≡ true) × Contains held n)
+        where
+          its_homes : (i : ℕ) (p : PlacedArg) → slice_get args i ≡ Some p → IsAmong lower held p.home
+          its_homes i p h =
+              let a = arg_at op (fb q.form).arrays (fh q.form).params q.args i p h in
+              subst (IsAmong lower held) (sym a.home) (by (slice_get (fh q.form).params i) refl)
+            where
+              of : {x y : Home} → x ≡ y → get_or (fh q.form).params i InPlace ≡ y
+                  → HomeIs (choice_in choices q.form) is.form.chosen.moved is.form.chosen.overlaps
+                  (first_of r choices q.form) i x
+                  → IsAmong lower held y
+              of e at (stays f l) = subst (IsAmong lower held) e tt
+              of e at (owns f l) = subst (IsAmong lower held) e tt
+              of e at (leaves n f l) = subst (IsAmong lower held) e (covered i _ (suc n) (at ∙ sym e))
 
-  -- ---- each call owns its buffers
+              by : (o : Option Home) → slice_get (fh q.form).params i ≡ o
+                  → IsAmong lower held (get_or (fh q.form).params i InPlace)
+              by None g = subst (IsAmong lower held) (sym (past_or (fh q.form).params i InPlace g)) tt
+              by (Some y) g =
+                  let at = get_or_from_slice_get (fh q.form).params i y InPlace g in
+                  subst (IsAmong lower held) (sym at)
+                  (of (param_is r choices are q.form is.body is.form i y g).is at
+                  (home_by (choice_in choices q.form) is.form.chosen.moved is.form.chosen.overlaps
+                  (first_of r choices q.form) i))
 
-  module _ (nodes : List PlanNode) (offset : ℕ → ℕ) where
-    abbrev s : Setting
-    s = setting_of r choices nodes offset
+          pub call_owns : (nodes : List PlanNode) (offset : ℕ → ℕ) (x : Placed)
+              → ((n : ℕ) → Opens x n → q.form < of_form n)
+              → CallOwns (setting_of r choices nodes offset) held c x
+          call_owns nodes offset x further = record {
+            homes = its_homes;
+            distinct = λ i j n g h.
+                same_array r w choices are q.form is.body is.form i j n (its_number i n g) (its_number j n h);
+            inner = λ i n g h. let a = its_form i n g in let f = further n h in omega (arith, a, f);
+            sizes = λ i n y g h.
+                fits r w choices are q.form is.body is.form i n y (its_number i n g) (its_shape i y h);
+            some = its_locals;
+          }
 
-    loop_owns : (m : LoopKind) (place : Place) (spread : Option SpreadRule) (count : ℕ) (x : ℕ → Placed)
-        → ((t : ℕ) → t < count → Owns s (x t)) → Owns s (map_placed m place spread count x)
-    loop_owns loop_kind.Sequential place spread count x h = h
-    loop_owns loop_kind.Parallel place spread count x h = h
-    loop_owns (loop_kind.Reduction g) place spread count x h = h
+    -- ---- the arguments that leave a loop, with their blocks in this row
 
-    owns_keeps : (d k : ℕ) → ((f : ℕ) → Owns s (placed_form d f))
-        → Keeps fb fh (placed_form d) (level_at r) (level_at r k) (Unit {0}) (RowIs r w k) (Owns s)
-    owns_keeps d k ih = record {
-      stay = homes_simple r w choices simple;
-      nothing = tt;
-      both = λ x y g h. (g, h);
-      loop = λ m place spread count x e h. loop_owns m place spread count x h;
-      leaf = λ code leaf shapes. tt;
-      row = λ op lower q x l e.
-          (call_owns op lower k q (is_called k q x) nodes offset (placed_form d q.form) (further d q.form), ih q.form);
-    }
+    module _ (loops : ℕ) (row : Option CallInstance) where
+      abbrev pub leaving : List (ℕ × Argument)
+      leaving = leaving_args loops (fh q.form).params 0 q.args
 
-    pub form_owns : (d k : ℕ) → Owns s (placed_form d k)
-    form_owns zero k = tt
-    form_owns (suc d) k =
-        body_keeps fb fh (placed_form d) (level_at r) (level_at r k) (Unit {0}) (RowIs r w k) (Owns s)
-        (owns_keeps d k (form_owns d)) (fh k) (fb k).arrays (fb k).body (rows_are r w k) (levels k) (all_deep k)
+      abbrev pub brought : ℕ × Argument → PlacedArg
+      brought = held_arg (fb q.form) (fh q.form) row
+
+      -- the i-th of them has this buffer
+      pub record IsLeft (i n : ℕ) : Type 0 where
+        pub of : ℕ × Argument
+        pub there : slice_get leaving i ≡ Some of
+        pub held : get_or (fh q.form).params of.0 InPlace ≡ Held n loops
+
+      left_is : (i n : ℕ) (p : ℕ × Argument) → slice_get leaving i ≡ Some p
+          → home_buffer (get_or (fh q.form).params p.0 InPlace) ≡ Some n → IsLeft i n
+      left_is i n p e h =
+          let x = left_at loops (fh q.form).params 0 q.args i p e in
+          let y = leaves_by loops (get_or (fh q.form).params p.0 InPlace) x.3 in
+          let z : y.0 ≡ n = same_some (sym (ap home_buffer y.1) ∙ h) in
+          record { of = p; there = e; held = y.1 ∙ ap (λ b. Held b loops) z }
+
+      pub left_has : (i n : ℕ) → HoldsBuffer (map brought leaving) i n → IsLeft i n
+      left_has i n h =
+          let m = mapped_at (λ (p : PlacedArg). home_buffer p.home) (map brought leaving) i (Some n) h in
+          let x = mapped_at brought leaving i m.of m.there in
+          left_is i n x.of x.there (ap (λ (p : PlacedArg). home_buffer p.home) x.is ∙ m.is)
+
+      its_size : (nodes : List PlanNode) (offset : ℕ → ℕ) (i n l : ℕ) (p : PlacedArg)
+          → slice_get (map brought leaving) i ≡ Some p → p.home ≡ Held n l
+          → bytes_in p.shape ≤ (setting_of r choices nodes offset).size n
+      its_size nodes offset i n l p e h =
+          let x = mapped_at brought leaving i p e in
+          fits r w choices are q.form is.body is.form x.of.0 n p.shape
+          (held_number r w choices are q.form is.body is.form x.of.0 n l (ap (λ (y : PlacedArg). y.home) x.is ∙ h))
+          (sym (ap (λ (y : PlacedArg). y.shape) x.is)
+          ∙ ap (λ (y : FormBody). get_or y.arrays x.of.0 no_shape) is.form.body)
+
+      -- what is opened in the loop and leaves loops leaves fewer
+      pub hold_owns : (nodes : List PlanNode) (offset : ℕ → ℕ) (x : Placed)
+          → ((n : ℕ) → Opens x n → (i m : ℕ) → get_or (fh q.form).params i InPlace ≡ Held n m → m < loops)
+          → HoldOwns (setting_of r choices nodes offset) (map brought leaving) x
+      hold_owns nodes offset x shallow = record {
+        distinct = λ i j n g h.
+            let y = left_has i n g in
+            let z = left_has j n h in
+            left_once loops (fh q.form).params 0 q.args i j y.of z.of y.there z.there
+            (held_once y.of.0 z.of.0 n loops loops y.held z.held);
+        inner = λ i n g h. let y = left_has i n g in
+            let l = shallow n h y.of.0 loops y.held in
+            omega (arith, l);
+        sizes = its_size nodes offset;
+      }

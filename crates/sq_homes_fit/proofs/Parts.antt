@@ -1,7 +1,7 @@
 -- What holds of each call of a form, of nothing, and of sequences and maps of what it holds of, holds of the form as it
--- is placed, where no argument leaves a loop.
+-- is placed, and of its loops that arguments leave.
 use Rattle.std.proofs.Common.{◌≡◌, ℕ, zero, suc, ◌+◌, ◌<◌, Bool, true, false, not, ◌||◌, is_some, List, [], ◌∷◌, ◌++◌}
-use Rattle.std.proofs.Common.{map, get_or, slice_get, Option, Some, None, refl, sym, ap, ap₂, subst, ◌∙◌}
+use Rattle.std.proofs.Common.{map, get_or, slice_get, Option, Some, None, refl, sym, ap₂, subst, ◌∙◌}
 use Rattle.std.specs.Prelude.{◌&&◌, if◌then◌else◌}
 use Rattle.sq_num.specs.declared.RedOp.{RedOp}
 use Rattle.sq_text.specs.declared.place.Place.{Place}
@@ -9,7 +9,6 @@ use Rattle.sq_text.specs.declared.spread.SpreadRule.{SpreadRule}
 use Rattle.sq_leaf.specs.declared.shape.Shape.{Shape}
 use Rattle.sq_leaf.specs.Leaf.{Leaf as LeafSource}
 use Rattle.sq_work.specs.declared.reduction.Reduction.{Reduction}
-use Rattle.sq_blocks.specs.declared.argument.Argument.{Argument}
 use Rattle.sq_spec.specs.declared.statement.LoopKind.{LoopKind}
 use Rattle.sq_spec.specs.declared.statement.CallInstance.{CallInstance}
 use Rattle.sq_spec.specs.declared.statement.Statement.{Statement, roll-Statement}
@@ -20,44 +19,19 @@ use Rattle.sq_spec.specs.declared.body.Body.{Body}
 use Rattle.sq_spec.specs.declared.body.Body.TheVariants as body
 use Rattle.sq_spec.specs.declared.body.FormBody.{FormBody}
 use Rattle.sq_spec_laws.specs.TableRows.{Table, red_of, all_tables, tables_step, tables_of, tables_in}
-use Rattle.sq_placed.specs.declared.home.Home.{Home}
-use Rattle.sq_placed.specs.declared.home.Home.TheVariants.{InPlace, Own, Held, Twin}
 use Rattle.sq_placed.specs.declared.home.Homes.{Homes}
-use Rattle.sq_placed.specs.Placed.{Placed, PlacedArg, Nothing, Then, Call, Leaf}
-use Rattle.sq_placed.specs.Tables.{is_beside, op_of, spread_of, map_placed, Chain, chain_of, first_of, leaves_loop}
-use Rattle.sq_placed.specs.Tables.{leaving_args, leaving_row, leaving_chain, hold_placed, holds, held_arg, chain_form}
+use Rattle.sq_placed.specs.Placed.{Placed, Nothing, Then, Call, Leaf}
+use Rattle.sq_placed.specs.Tables.{is_beside, op_of, spread_of, map_placed, Chain, chain_of, first_of}
+use Rattle.sq_placed.specs.Tables.{leaving_chain, hold_placed, holds, held_arg, chain_form}
 use Rattle.sq_placed.specs.Tables.{chain_row, PlacedPart, chains, any_lower, any_same, all_placed, row_placed}
 use Rattle.sq_placed.specs.Tables.{placed_call, placed_step, statement_placed, body_placed}
 use Rattle.sq_placed.proofs.Opened.{part_call, part_map}
 use Rattle.sq_term.specs.Stands.{below, calls_in_rows, all_calls, calls_in, calls_in_all, calls_of, AreLevel}
 use Rattle.sq_term.proofs.Opened.{calls_call, calls_map}
-use Rattle.sq_rooms.specs.Lowers.{any_of, lower_in}
-use Rattle.sq_rooms.specs.Fitting.{statements}
+use Rattle.sq_rooms.specs.Lowers.{statements, any_of, lower_in}
 use Rattle.sq_rooms.specs.Orders.{EachOf}
 use Rattle.sq_rooms.proofs.LowersOpened.{lower_call, lower_map}
-use Rattle.sq_plan_room.specs.Buffers.{IsSimple}
 use Rattle.sq_homes_fit.proofs.Rounds.{TablesSo, BodySo, tables_call, tables_map, each_left, each_right, one_of}
-
--- ---- no argument leaves a loop
-
-pub simple_at : (hs : List Home) → EachOf IsSimple hs → (i : ℕ) → IsSimple (get_or hs i InPlace)
-simple_at [] h i = tt
-simple_at (x ∷ hs) h zero = h.0
-simple_at (x ∷ hs) h (suc i) = simple_at hs h.1 i
-
-stays_in : (loops : ℕ) (h : Home) → IsSimple h → leaves_loop loops h ≡ false
-stays_in loops InPlace h = refl
-stays_in loops (Own n) h = refl
-stays_in loops (Held n m) h = absurd h
-stays_in loops (Twin n m) h = absurd h
-
-none_leave : (loops : ℕ) (hs : List Home) → EachOf IsSimple hs → (i : ℕ) (args : List Argument)
-    → leaving_args loops hs i args ≡ []
-none_leave loops hs h i [] = refl
-none_leave loops hs h i (a ∷ rest) =
-    ap (λ (t : Bool). if t then (i, a) ∷ leaving_args loops hs (suc i) rest else leaving_args loops hs (suc i) rest)
-    (stays_in loops (get_or hs i InPlace) (simple_at hs h i))
-    ∙ none_leave loops hs h (suc i) rest
 
 -- ---- levels
 
@@ -100,24 +74,18 @@ or_rest false v h = h
 module _ (bodies : ℕ → FormBody) (homes : ℕ → Homes) (callee : ℕ → Placed) (level : ℕ → ℕ) (at : ℕ) (deep : Type 0)
     (R : CallInstance → Type 0) (P : Placed → Type 0) where
   pub record Keeps : Type 0 where
-    pub stay : (f : ℕ) → EachOf IsSimple (homes f).params
     pub nothing : P Nothing
     pub both : (x y : Placed) → P x → P y → P (Then x y)
     pub loop : (m : LoopKind) (place : Place) (spread : Option SpreadRule) (count : ℕ) (w : ℕ → Placed)
         → (is_some spread ≡ true → deep) → ((t : ℕ) → t < count → P (w t)) → P (map_placed m place spread count w)
+    pub hold : (h : Option (Chain ℕ)) (k : ℕ) (w : Placed) → P w
+        → P (hold_placed (leaving_chain homes h) (held_arg (bodies (chain_form h)) (homes (chain_form h)) (chain_row h k))
+        w)
     pub leaf : (code : ℕ) (source : LeafSource) (shapes : List Shape) → P (Leaf code source shapes)
     pub row : (op : Option RedOp) (lower : Bool) (q : CallInstance) → R q → level q.form ≡ below lower at
         → (lower ≡ true → deep) → P (Call (placed_call bodies homes op lower q) (callee q.form))
 
   module _ (keeps : Keeps) (rule : SpreadRule) where
-    none_in_chain : (h : Option (Chain ℕ)) → leaving_chain homes h ≡ []
-    none_in_chain None = refl
-    none_in_chain (Some h) = by (slice_get h.instances 0)
-      where
-        by : (o : Option CallInstance) → leaving_row homes h.loops o ≡ []
-        by None = refl
-        by (Some q) = none_leave h.loops (homes q.form).params (keeps.stay q.form) 0 q.args
-
     abbrev part : Statement → PlacedPart
     part = statement_placed bodies homes callee rule
 
@@ -171,14 +139,6 @@ module _ (bodies : ℕ → FormBody) (homes : ℕ → Homes) (callee : ℕ → P
       lower = refl;
     }
 
-    -- a loop that no argument leaves
-    hold_good : (ps : List (ℕ × Argument)) (f : (ℕ × Argument) → PlacedArg) (w : Bool → Placed) (inside : Bool)
-        → ps ≡ []
-        → ((i : Bool) → P (w i)) → P (hold_placed ps f (w (inside || holds ps)))
-    hold_good ps f w inside e h =
-        subst (λ (qs : List (ℕ × Argument)). P (hold_placed qs f (w (inside || holds qs)))) (sym e)
-        (h (inside || false))
-
     loop_good : (place : Place) (m : LoopKind) (counts starts : List ℕ) (xs : List G)
         → GoodAs (placed_step bodies homes callee rule (Statement-F.Map place m counts starts (map part (begun xs))))
         (tables_step (Statement-F.Map place m counts starts (map tables_of (begun xs))))
@@ -189,12 +149,11 @@ module _ (bodies : ℕ → FormBody) (homes : ℕ → Homes) (callee : ℕ → P
           let low = any_lower parts in
           let same = any_same parts in
           let chain = chain_of first_of m starts (chains parts) in
-          hold_good (leaving_chain homes chain)
-          (held_arg (bodies (chain_form chain)) (homes (chain_form chain)) (chain_row chain k))
-          (λ within_it. map_placed m place (spread_of rule m within_it low same) (get_or counts k 0)
-          (λ t. all_placed parts (op_of m) (within_it || is_some (spread_of rule m within_it low same))
-          (get_or starts k 0 + t))) inside (none_in_chain chain)
-          (λ i. keeps.loop m place (spread_of rule m i low same) (get_or counts k 0)
+          let i = inside || holds (leaving_chain homes chain) in
+          keeps.hold chain k
+          (map_placed m place (spread_of rule m i low same) (get_or counts k 0)
+          (λ t. all_placed parts (op_of m) (i || is_some (spread_of rule m i low same)) (get_or starts k 0 + t)))
+          (keeps.loop m place (spread_of rule m i low same) (get_or counts k 0)
           (λ t. all_placed parts (op_of m) (i || is_some (spread_of rule m i low same)) (get_or starts k 0 + t))
           (λ e. d (sym (all_lower xs) ∙ has_lower rule (is_beside m) i low same e))
           (λ t less. all_good xs (red_of m) h l d (op_of m) (i || is_some (spread_of rule m i low same))

@@ -1,11 +1,9 @@
 -- The tables, homes and buffers of a draft are as a built term asks.
-use Rattle.std.proofs.Common.{◌≡◌, ℕ, zero, suc, ◌+◌, ◌-◌, ◌<◌, ◌≤◌, List, [], ◌∷◌, length, map}
+use Rattle.std.proofs.Common.{◌≡◌, ℕ, zero, suc, ◌+◌, ◌-◌, ◌<◌, ◌≤◌, List, length, map}
 use Rattle.std.proofs.Common.{Option, Some, None, refl, sym, ap, ◌∙◌, subst, arith}
 use Rattle.std.specs.Prelude.{slice_get}
 use Rattle.std.specs.List.{range_with_len}
 use Rattle.std.proofs.lemmas.Option.{slice_get_within}
-use Rattle.sq_forms.specs.Steps.{Key}
-use Rattle.sq_forms.specs.declared.form.Found.{Found}
 use Rattle.sq_ir.specs.Written.{Setting}
 use Rattle.sq_ir.specs.declared.plan.PlanNode.{PlanNode}
 use Rattle.sq_spec.specs.declared.body.FormBody.{FormBody}
@@ -17,90 +15,88 @@ use Rattle.sq_term.specs.Terms.{homes_in}
 use Rattle.sq_term_fit.specs.Fits.{TabledBody, IsThere, AreThere, LocalsThere, HaveRows}
 use Rattle.sq_begun.proofs.Programs.{programs_are_tabled}
 use Rattle.sq_homes.specs.declared.choice.Choice.{Choice}
-use Rattle.sq_homes.specs.Drafts.{homes_of, buffers_of, buffer_at}
+use Rattle.sq_homes.specs.Drafts.{bodies_of, homes_of, buffers_of, buffer_at, choice_in}
 use Rattle.sq_homes.specs.Numbering.{standing, home_of, local_base, locals_count, IsHomeIn, IsNumberIn}
 use Rattle.sq_homes.proofs.Numbered.{homes_are_own, locals_are_own}
 use Rattle.sq_homes_laws.specs.Given.{level_at}
-use Rattle.sq_homes_laws.specs.Simple.{Walked, AreSimple, setting_of}
+use Rattle.sq_homes_laws.specs.Simple.{Walked, AreHoisted, setting_of}
 use Rattle.sq_homes_laws.proofs.Standing.{map_length}
+use Rattle.sq_homes_laws.proofs.Hoisting.{at_index, no_homes_at}
 use Rattle.sq_homes_fit.specs.Drafts.{limits, DraftsAreTabled}
-use Rattle.sq_homes_fit.proofs.Forms.{plain, resolving, body_at, bodies_are, sized, no_homes_there, IsDrafted, drafted}
+use Rattle.sq_homes_fit.proofs.Forms.{resolving, body_at, bodies_are, sized}
+use Rattle.sq_homes_fit.proofs.Numbers.{first_of}
+use Rattle.sq_homes_fit.proofs.Hoisted.{IsForm, is_form}
 use Rattle.sq_homes_fit.proofs.Levels.{have_levels}
 use Rattle.sq_homes_fit.proofs.Sizes.{have_rows}
 
-there_at : {A : Type 0} (xs : List A) (i : ℕ) → i < length xs → (x : A) × (slice_get xs i ≡ Some x)
-there_at [] i h = absurd (omega (arith, h))
-there_at (x ∷ xs) zero h = (x, refl)
-there_at (x ∷ xs) (suc i) h = there_at xs i (omega (arith, h))
-
 -- ---- buffers that are there
 
-module _ (r : Resolved) (choices : List Choice) (nodes : List PlanNode) (offset : ℕ → ℕ) where
+module _ (r : Resolved) (choices : List Choice) (are : AreHoisted r choices) (nodes : List PlanNode)
+    (offset : ℕ → ℕ) where
   abbrev s : Setting
   s = setting_of r choices nodes offset
 
-  module _ (k : ℕ) (f : Found) (d : IsDrafted r choices k f) where
+  module _ (k : ℕ) (b : FormBody) (f : IsForm r choices are k b) where
+    abbrev c : Choice
+    c = choice_in choices k
+
+    abbrev first : ℕ
+    first = first_of r choices k
+
     abbrev arrays : List ℕ
-    arrays = standing (body_at r k) (plain d.flags)
+    arrays = standing b c
 
-    number_there : (n : ℕ) → IsNumberIn d.first (length arrays) n → n < s.buffers
+    number_there : (n : ℕ) → IsNumberIn first (length arrays) n → n < s.buffers
     number_there n h =
-        let i = n - d.first in
-        let here : d.first + i ≡ n = omega (arith, h.0) in
+        let i = n - first in
+        let here : first + i ≡ n = omega (arith, h.0) in
         let less : i < length arrays = omega (arith, h.0, h.1) in
-        let many = map_length (buffer_at r k (body_at r k)) arrays in
-        let b = there_at (map (buffer_at r k (body_at r k)) arrays) i (omega (arith, less, many)) in
-        slice_get_within (buffers_of r choices) n b.0
-        (ap (slice_get (buffers_of r choices)) (sym here) ∙ (d.buffers i less ∙ b.1))
+        let many = map_length (buffer_at r k b) arrays in
+        let x = at_index (map (buffer_at r k b) arrays) i (omega (arith, less, many)) in
+        slice_get_within (buffers_of r choices) n x.0
+        (ap (slice_get (buffers_of r choices)) (sym here) ∙ (f.at.buffers i less ∙ x.1))
 
-    home_there : (h : Home) → IsHomeIn d.first (length arrays) h → IsThere s h
+    home_there : (h : Home) → IsHomeIn first (length arrays) h → IsThere s h
     home_there InPlace i = tt
     home_there (Own n) i = number_there n i
     home_there (Held n loops) i = number_there n i
     home_there (Twin n m) i = tt
 
-    params_there : (a n : ℕ) → a + n ≤ length d.flags
-        → AreThere s (map (home_of d.first (plain d.flags)) (range_with_len a n))
+    params_there : (a n : ℕ) → a + n ≤ length c.in_place → AreThere s (map (home_of first c) (range_with_len a n))
     params_there a zero h = tt
     params_there a (suc n) h = (
-      home_there (home_of d.first (plain d.flags) a)
-          (homes_are_own d.first (body_at r k) (plain d.flags) a (omega (arith, h))),
+      home_there (home_of first c a) (homes_are_own first b c a (omega (arith, h))),
       params_there (a + 1) n (omega (arith, h)),
     )
 
-    locals_there : (a n : ℕ) → a + n ≤ locals_count (body_at r k).arrays (plain d.flags)
-        → LocalsThere s (range_with_len (local_base d.first (plain d.flags) + a) n)
+    locals_there : (a n : ℕ) → a + n ≤ locals_count b.arrays c
+        → LocalsThere s (range_with_len (local_base first c + a) n)
     locals_there a zero h = tt
     locals_there a (suc n) h =
-        let next : local_base d.first (plain d.flags) + (a + 1) ≡ local_base d.first (plain d.flags) + a + 1
-        = omega arith in (
-          number_there (local_base d.first (plain d.flags) + a)
-              (locals_are_own d.first (body_at r k) (plain d.flags) a (omega (arith, h))),
+        let next : local_base first c + (a + 1) ≡ local_base first c + a + 1 = omega arith in (
+          number_there (local_base first c + a) (locals_are_own first b c a (omega (arith, h))),
           subst (λ (m : ℕ). LocalsThere s (range_with_len m n)) next (locals_there (a + 1) n (omega (arith, h))),
         )
 
     all_params_there : AreThere s (homes_in (homes_of r choices) k).params
-    all_params_there = subst (λ (h : Homes). AreThere s h.params) (sym d.homes)
-        (params_there 0 (length d.flags) (omega arith))
+    all_params_there = subst (AreThere s) (sym f.params) (params_there 0 (length c.in_place) (omega arith))
 
     all_locals_there : LocalsThere s (homes_in (homes_of r choices) k).locals
     all_locals_there =
-        let none : local_base d.first (plain d.flags) + 0 ≡ local_base d.first (plain d.flags) = omega arith in
-        subst (λ (h : Homes). LocalsThere s h.locals) (sym d.homes)
-        (subst
-        (λ (m : ℕ). LocalsThere s (range_with_len m (locals_count (body_at r k).arrays (plain d.flags)))) none
-        (locals_there 0 (locals_count (body_at r k).arrays (plain d.flags)) (omega arith)))
+        let none : local_base first c + 0 ≡ local_base first c = omega arith in
+        subst (LocalsThere s) (sym f.locals)
+        (subst (λ (m : ℕ). LocalsThere s (range_with_len m (locals_count b.arrays c))) none
+        (locals_there 0 (locals_count b.arrays c) (omega arith)))
 
-  module _ (w : Walked r) (simple : AreSimple r choices) where
-    params_at : (k : ℕ) (o : Option (Key × Found)) → slice_get r.found.entries k ≡ o
-        → AreThere s (homes_in (homes_of r choices) k).params
-    params_at k None e = subst (λ (h : Homes). AreThere s h.params) (sym (no_homes_there r w choices simple k e)) tt
-    params_at k (Some form) e = all_params_there k form.1 (drafted r w choices simple k form e)
+  params_at : (k : ℕ) (o : Option FormBody) → slice_get (bodies_of r) k ≡ o
+      → AreThere s (homes_in (homes_of r choices) k).params
+  params_at k None e = subst (λ (h : Homes). AreThere s h.params) (sym (no_homes_at r choices k e)) tt
+  params_at k (Some b) e = all_params_there k b (is_form r choices are k b e)
 
-    locals_at : (k : ℕ) (o : Option (Key × Found)) → slice_get r.found.entries k ≡ o
-        → LocalsThere s (homes_in (homes_of r choices) k).locals
-    locals_at k None e = subst (λ (h : Homes). LocalsThere s h.locals) (sym (no_homes_there r w choices simple k e)) tt
-    locals_at k (Some form) e = all_locals_there k form.1 (drafted r w choices simple k form e)
+  locals_at : (k : ℕ) (o : Option FormBody) → slice_get (bodies_of r) k ≡ o
+      → LocalsThere s (homes_in (homes_of r choices) k).locals
+  locals_at k None e = subst (λ (h : Homes). LocalsThere s h.locals) (sym (no_homes_at r choices k e)) tt
+  locals_at k (Some b) e = all_locals_there k b (is_form r choices are k b e)
 
 body_tabled : (r : Resolved) (w : Walked r) (last : ℕ) → length r.machine.now.levels ≡ suc last → (k : ℕ)
     → TabledBody limits last (level_at r k) (body_at r k).body
@@ -109,11 +105,11 @@ body_tabled r w last long k =
     (omega arith) last long (level_at r) (have_levels r w) k
 
 pub drafts_are_tabled : DraftsAreTabled
-drafts_are_tabled r w choices simple last long nodes offset = record {
+drafts_are_tabled r w choices are last long nodes offset = record {
   body = λ k. subst (λ (b : FormBody). TabledBody limits last (level_at r k) b.body) (sym (bodies_are r w k))
       (body_tabled r w last long k);
   rows = λ k. subst (λ (b : FormBody). HaveRows b.arrays) (sym (bodies_are r w k))
       (have_rows (body_at r k).arrays (sized r w k));
-  params = λ k. params_at r choices nodes offset w simple k (slice_get r.found.entries k) refl;
-  locals = λ k. locals_at r choices nodes offset w simple k (slice_get r.found.entries k) refl;
+  params = λ k. params_at r choices are nodes offset k (slice_get (bodies_of r) k) refl;
+  locals = λ k. locals_at r choices are nodes offset k (slice_get (bodies_of r) k) refl;
 }

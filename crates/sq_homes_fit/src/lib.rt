@@ -1,8 +1,8 @@
-//! Where nothing leaves a loop: the homes, bodies and buffers of a draft meet what the laws of plans ask, each array has
-//! its own buffer, and the draft can be placed.
+//! Where no loop overlaps its transfers: the homes, bodies and buffers of a draft meet what the laws of plans ask, each
+//! array has its own buffer, and the draft can be placed.
 #![tactic(auto)]
 
-ghost use Rattle.sq_homes_fit.specs.Homes.{HomesFitForms, EntriesAreWhole, EntriesHaveBuffers};
+ghost use Rattle.sq_homes_fit.specs.Homes.{HomesFitForms, HomesAreHeldInside, EntriesAreWhole, EntriesHaveBuffers};
 ghost use Rattle.sq_homes_fit.specs.Levels.{LevelsAreThere, DraftsBeginAtRoot};
 ghost use Rattle.sq_homes_fit.specs.Drafts.{DraftsAreTabled, DraftsAreRoomy};
 ghost use Rattle.sq_homes_fit.specs.Numbers.{BuffersAreNumbered};
@@ -13,6 +13,11 @@ ghost use Rattle.sq_homes_fit.specs.Placeable.{DraftsArePlaceable};
 /// Each form has a home for each of its parameters, in place only where it was found so, and a buffer for each local.
 pub fn homes_fit_forms()
     ensures { HomesFitForms }
+{}
+
+/// What leaves loops are arguments of calls that are all that stands in these loops.
+pub fn homes_are_held_inside()
+    ensures { HomesAreHeldInside }
 {}
 
 /// The entry is called with its arrays, whole.

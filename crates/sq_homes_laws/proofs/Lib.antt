@@ -1,4 +1,5 @@
 pub mod Standing
 pub mod Leveled
 pub mod Programs
+pub mod Hoisting
 pub mod Descending

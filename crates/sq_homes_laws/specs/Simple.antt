@@ -1,5 +1,6 @@
--- Choices in which nothing leaves a loop and no loop overlaps its transfers, and the memories that a draft is placed in.
-use Rattle.std.specs.Prelude.{◌≡◌, ℕ, Bool, true, false, List, [], length, get_or, slice_get, Some}
+-- Choices in which no loop overlaps its transfers, with and without arguments that leave loops, and the memories that a
+-- draft is placed in.
+use Rattle.std.specs.Prelude.{◌≡◌, ℕ, ◌<◌, true, false, List, [], length, get_or, slice_get, Some}
 use Rattle.sq_machfile.specs.declared.level.Level.{Level}
 use Rattle.sq_forms.specs.declared.form.Form.{Form}
 use Rattle.sq_ir.specs.declared.plan.PlanNode.{PlanNode}
@@ -8,12 +9,17 @@ use Rattle.sq_ir.specs.Written.{Setting}
 use Rattle.sq_ir.specs.Plans.{placed}
 use Rattle.sq_spec.specs.declared.resolved.Resolved.{Resolved}
 use Rattle.sq_spec.specs.Walked.{IsWalked}
+use Rattle.sq_term.specs.Terms.{body_in, homes_in}
+use Rattle.sq_term_fit.specs.Leaves.{Left, left_of, BodyLeaves}
 use Rattle.sq_homes.specs.declared.choice.Choice.{Choice}
-use Rattle.sq_homes.specs.Drafts.{buffers_of, choice_in}
+use Rattle.sq_homes.specs.Numbering.{left_by}
+use Rattle.sq_homes.specs.Drafts.{bodies_of, homes_of, buffers_of, choice_in}
 
 -- what is known of the forms of a program that was resolved
 abbrev pub Walked : Resolved → Type 0
 Walked r = IsWalked r.typed.now r.machine.now.levels r.mapping.now r.found.entries r.forms r.uses
+
+-- ---- nothing leaves a loop
 
 -- One flag for each parameter of the form; in place are only those that the form was found with so.
 pub record IsSimple (f : Form) (c : Choice) : Type 0 where
@@ -24,6 +30,28 @@ pub record IsSimple (f : Form) (c : Choice) : Type 0 where
 
 pub record AreSimple (r : Resolved) (choices : List Choice) : Type 0 where
   pub each : (k : ℕ) (f : Form) → slice_get r.forms k ≡ Some f → IsSimple f (choice_in choices k)
+
+-- ---- arguments may leave loops
+
+-- In place are only those that the form was found with so, and these leave no loop.
+pub record IsHoisted (f : Form) (c : Choice) : Type 0 where
+  pub flags : length c.in_place ≡ length f.in_place
+  pub in_place : (i : ℕ) → get_or c.in_place i false ≡ true → slice_get f.in_place i ≡ Some true
+  pub moved : (i : ℕ) → 0 < left_by c i → get_or c.in_place i false ≡ false
+  pub overlaps : c.overlaps ≡ false
+
+-- how many loops the parameters of a draft's forms leave
+abbrev pub left_in : Resolved → List Choice → Left
+left_in r choices = left_of (homes_in (homes_of r choices))
+
+-- The entry's parameters leave none. Those of a form that is called leave plain loops round its call, which have
+-- iterations each time that they are begun, and the call has no other form.
+pub record AreHoisted (r : Resolved) (choices : List Choice) : Type 0 where
+  pub each : (k : ℕ) (f : Form) → slice_get r.forms k ≡ Some f → IsHoisted f (choice_in choices k)
+  pub entry : (i : ℕ) → left_in r choices 0 i ≡ 0
+  pub loops : (k : ℕ) → BodyLeaves (left_in r choices) (body_in (bodies_of r) k).body
+
+-- ---- memories
 
 -- the memories of a machine of these levels
 pub record AreMemories (levels : List Level) (nodes : List PlanNode) : Type 0 where

@@ -29,7 +29,7 @@ use Rattle.sq_plan_room.specs.Around.{IsAround}
 use Rattle.sq_plan_room.specs.Rooms.{IsOwned, KeepsRoom, RoomIsStowed}
 use Rattle.sq_plan_room.proofs.Openings.{scopes_open}
 use Rattle.sq_plan_room.proofs.Grown.{scope_list, in_scoped, aside_scoped}
-use Rattle.sq_plan_room.proofs.CallOpens.{IsNamed, named_left, named_right, named_in, is_live, one_buffer}
+use Rattle.sq_plan_room.proofs.Live.{IsNamed, named_left, named_right, named_in, is_live, one_buffer, none_held}
 use Rattle.sq_plan_room.proofs.Stowing.{Found, on_bytes, scratch, stowed}
 
 -- where more is open there is room for less
@@ -77,7 +77,7 @@ module _ (s : Setting) (leaves : Leaves Cause) (outer : List Shape) (buffers : L
       fewer s _ (round ++ l) (keeps.states z.turns) z.open_
 
   found : (x : Spot) → Scratch (on_bytes s leaves p outer) (at_node s 0) 0 x → Found s inner_tree p x
-  found x h = scratch s leaves p 0 0 outer seats at [] owned.sits seated owned.owns owned.lanes x h
+  found x h = scratch s leaves p 0 0 outer seats at [] [] owned.sits seated owned.owns owned.lanes x h
 
   -- ---- the entry's arrays
 
@@ -140,12 +140,12 @@ module _ (s : Setting) (leaves : Leaves Cause) (outer : List Shape) (buffers : L
       let one = one_buffer s (round ++ f.scopes) (room f.scopes f.around) 0 x.buffer f.buffer
       (form_at s buffers l.area + l.index) (named_left round f.scopes 0 x.buffer (named x.buffer l.area x.there))
       (named_right round f.scopes 0 f.buffer f.named) x.byte f.byte in
-      owned.entry.inner l.area f.buffer (subst (λ b. slice_get buffers l.area ≡ Some b) one x.there) f.names
+      owned.entry.inner l.area f.buffer (subst (λ b. slice_get buffers l.area ≡ Some b) one x.there) f.opens
 
   entry_stowed : EntryStowed (at_node s 0) (form_at s buffers) outer (on_bytes s leaves p outer)
   entry_stowed = record {
-    stowed = stowed s leaves p 0 0 outer seats at [] owned.sits seated owned.owns owned.lanes
-        (aside_scoped 0 buffers inner_tree (λ d. owned.aside)) round room;
+    stowed = stowed s leaves p 0 0 outer seats at [] [] owned.sits seated owned.owns owned.lanes
+        (aside_scoped 0 buffers inner_tree (λ d. owned.aside)) round room (none_held s round (s.child 0 0));
     separate = entry_apart;
     below = λ l il h. entry_below l il (found (at l) h);
   }

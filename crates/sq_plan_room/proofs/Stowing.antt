@@ -1,7 +1,6 @@
 -- The buffers of a placed source stand apart where the live ones do.
-use Rattle.std.proofs.Common.{◌≡◌, ◌≢◌, ℕ, zero, suc, ◌+◌, ◌<◌, Bool, false, List, [], ◌∷◌, ◌++◌}
-use Rattle.std.proofs.Common.{map, Option, Some, None, refl, sym, ap, ◌∙◌, subst, arith, ◌⊎◌, inl, inr}
-use Rattle.std.proofs.Common.{⊎_elim}
+use Rattle.std.proofs.Common.{◌≡◌, ◌≢◌, ℕ, zero, suc, ◌+◌, ◌<◌, Bool, false, List, [], ◌∷◌, ◌++◌, map, Option, Some}
+use Rattle.std.proofs.Common.{None, refl, sym, ap, ◌∙◌, subst, arith, ◌⊎◌, inl, inr, ⊎_elim, length, true}
 use Rattle.std.specs.Prelude.{if◌then◌else◌, ◌==◌}
 use Rattle.std.specs.List.{Contains}
 use Rattle.sq_text.specs.declared.spread.SpreadRule.{SpreadRule}
@@ -13,30 +12,31 @@ use Rattle.sq_ir.specs.Events.{Leaves}
 use Rattle.sq_ir.specs.Plans.{HaveRoom}
 use Rattle.sq_ir.specs.Plans as plans
 use Rattle.sq_ir.specs.Written.{Setting, PlanTree, seq_of, par_of}
-use Rattle.sq_placed.specs.Placed.{Placed, PlacedCall, Nothing, Then, Each, AtOnce, Gathers, Call, Hold}
-use Rattle.sq_placed.specs.Placed.{Piped, Leaf}
+use Rattle.sq_placed.specs.Placed.{Placed, PlacedCall, Nothing, Then, Each, AtOnce, Gathers, Call, Hold, Piped, Leaf}
+use Rattle.sq_placed.specs.Placed.{PlacedArg}
 use Rattle.sq_placed.specs.Seats.{Seat, seated_args, local_seat}
-use Rattle.sq_placed.specs.Trees.{tree, map_tree, callee_node, callee_seats}
+use Rattle.sq_placed.specs.Trees.{tree, map_tree, callee_node, callee_seats, held_buffers}
 use Rattle.sq_cells.specs.Machine.{Form, Node, fan_of, lane, offset_of}
 use Rattle.sq_cells.specs.Work.{Work}
 use Rattle.sq_cells.specs.Cells.{Spot}
 use Rattle.sq_cells.specs.Tree.{Cause}
 use Rattle.sq_cells.specs.Lowered.{Layout, layout, node_of, lane_kid, own, in_place, IsIn, HasLane, BufferCell, Scratch}
-use Rattle.sq_cells.specs.Lowered.{CallPlaced}
+use Rattle.sq_cells.specs.Lowered.{CallPlaced, HeldCell}
 use Rattle.sq_placed_bytes.specs.Calling.{arrays_of, shapes_of, first_buffer, form_of}
-use Rattle.sq_placed_bytes.specs.OnBytes.{OneCall, work, share, call_or_none, arity_of}
+use Rattle.sq_placed_bytes.specs.OnBytes.{OneCall, work, share, call_or_none, arity_of, held_call}
 use Rattle.sq_placed_bytes.specs.Fitting.{IsOne}
 use Rattle.sq_placed_bytes.specs.LeafLaws.{codes_of}
-use Rattle.sq_placed_bytes.specs.Stowed.{Stowed}
-use Rattle.sq_plan_laws.specs.Seated.{IsSeated, CallSits, Sits, at_node}
+use Rattle.sq_placed_bytes.specs.Stowed.{Stowed, HoldPlaced}
+use Rattle.sq_plan_laws.specs.Seated.{IsSeated, CallSits, Sits, at_node, HeldSits}
 use Rattle.sq_plan_laws.proofs.Calls.{number_is, callee_seated}
 use Rattle.sq_plan_laws.proofs.Sets.{form_is, first_is}
 use Rattle.sq_plan_room.specs.Around.{IsAround}
-use Rattle.sq_plan_room.specs.Buffers.{Names, CallOwns, Owns, HaveLanes}
+use Rattle.sq_plan_room.specs.Buffers.{CallOwns, HaveLanes, Opens, HoldOwns, OwnIn}
 use Rattle.sq_plan_room.proofs.Grown.{Aside, seq_first, seq_next, aside_first, aside_next, same_true, in_seq_of}
 use Rattle.sq_plan_room.proofs.Grown.{aside_seq_of, in_par_of, aside_par_of, lanes_apart}
-use Rattle.sq_plan_room.proofs.CallOpens.{IsNamed, named_right, args_scope, locals_scope, of_body, live_cell}
-use Rattle.sq_plan_room.proofs.CallOpens.{aside_body, separate, below_all}
+use Rattle.sq_plan_room.proofs.CallOpens.{args_scope, locals_scope, of_body, live_cell, aside_body, separate, below_all}
+use Rattle.sq_plan_room.proofs.HoldOpens as hold
+use Rattle.sq_plan_room.proofs.Live.{IsNamed, named_right, Holding, none_held}
 
 append_joins : {A : Type 0} (xs ys zs : List A) → (xs ++ ys) ++ zs ≡ xs ++ (ys ++ zs)
 append_joins [] ys zs = refl
@@ -137,7 +137,7 @@ pub record Found (s : Setting) (t : PlanTree) (p : Placed) (x : Spot) : Type 0 w
   pub buffer : ℕ
   pub named : IsNamed scopes x.area buffer
   pub byte : plans.HasByte s buffer x.index
-  pub names : Names p buffer
+  pub opens : Opens p buffer
 
 -- iterations at different children have no buffer's cell in common
 apart : (s : Setting) (spread : Option SpreadRule) (node child n : ℕ) (part : ℕ → ℕ → PlanTree)
@@ -191,8 +191,8 @@ abbrev pub on_bytes : Setting → Leaves Cause → Placed → List Shape → Wor
 on_bytes s leaves p outer = work (codes_of leaves) s.offset p outer
 
 module _ (s : Setting) (leaves : Leaves Cause) (outer : List Shape) (seats : List Seat) (at : Layout)
-    (seated : IsSeated outer seats at) (c : PlacedCall) (sits : CallSits outer c) (w : Placed) (owns : CallOwns s c w)
-    (node child : ℕ) (path : List ℕ) where
+    (seated : IsSeated outer seats at) (c : PlacedCall) (sits : CallSits outer c) (w : Placed) (held : List ℕ)
+    (owns : CallOwns s held c w) (node child : ℕ) (path : List ℕ) where
   abbrev inside : ℕ
   inside = callee_node s c.lower node child
 
@@ -213,10 +213,10 @@ module _ (s : Setting) (leaves : Leaves Cause) (outer : List Shape) (seats : Lis
   body = tree s w inside 0 inner_seats path
 
   abbrev of_args : List Scope
-  of_args = args_scope s leaves outer seats at seated c sits inside w owns body
+  of_args = args_scope s leaves outer seats at seated c sits inside w held owns body
 
   abbrev of_locals : List Scope
-  of_locals = locals_scope s leaves outer seats at seated c sits inside w owns body
+  of_locals = locals_scope s leaves outer seats at seated c sits inside w held owns body
 
   abbrev InCall : Node → Spot → Type 0
   InCall M x = BufferCell M form (arity_of c) (arrays_of outer c) x ⊎ Scratch (on_bytes s leaves w (shapes_of c)) M 0 x
@@ -226,26 +226,25 @@ module _ (s : Setting) (leaves : Leaves Cause) (outer : List Shape) (seats : Lis
       found_in : (x : Spot) → InCall (at_node s inside) x
           → Found s (tree s (Call c w) node child seats path) (Call c w) x
       found_in x (inl z) =
-          let f = live_cell s leaves outer seats at seated c sits inside w owns body x z in
+          let f = live_cell s leaves outer seats at seated c sits inside w held owns body x z in
           record {
             scopes = f.scopes;
             around = f.around;
             buffer = f.buffer;
             named = f.named;
             byte = f.byte;
-            names
-                = inl f.has;
+            opens = inl f.opens;
           }
       found_in x (inr z) =
           let f = ih x z in
           record {
             scopes = of_args ++ (of_locals ++ f.scopes);
-            around = of_body s leaves outer seats at seated c sits inside w owns body f.scopes f.around;
+            around = of_body s leaves outer seats at seated c sits inside w held owns body f.scopes f.around;
             buffer = f.buffer;
             named = named_right of_args (of_locals ++ f.scopes) x.area f.buffer
                 (named_right of_locals f.scopes x.area f.buffer f.named);
             byte = f.byte;
-            names = inr f.names;
+            opens = inr f.opens;
           }
 
       call_found : (x : Spot) → Scratch (on_bytes s leaves (Call c w) outer) (at_node s node) child x
@@ -253,24 +252,28 @@ module _ (s : Setting) (leaves : Leaves Cause) (outer : List Shape) (seats : Lis
       call_found x h = found_in x (subst (λ M. InCall M x) (number_is s c.lower node child) h)
 
       module _ (pre : List Scope) (room : (l : List Scope) → IsAround (tree s (Call c w) node child seats path) l →
-          HaveRoom s (pre ++ l)) where
+          HaveRoom s (pre ++ l)) (live : Holding s pre (s.child node child) held) where
+        below_held : c.lower ≡ true → Holding s pre inside held
+        below_held e = subst (λ (l : Bool). Holding s pre (callee_node s l node child) held) (sym e) live
+
         body_room : (l : List Scope) → IsAround body l → HaveRoom s ((pre ++ (of_args ++ of_locals)) ++ l)
         body_room l h =
             subst (HaveRoom s) (ap (λ z. pre ++ z) (sym (append_joins of_args of_locals l))
             ∙ sym (append_joins pre (of_args ++ of_locals) l))
-            (room (of_args ++ (of_locals ++ l)) (of_body s leaves outer seats at seated c sits inside w owns body l h))
+            (room (of_args ++ (of_locals ++ l))
+            (of_body s leaves outer seats at seated c sits inside w held owns body l h))
 
         under : (l : Spot) → IsIn (arity_of c) (arrays_of outer c) l → in_place (arrays_of outer c l.area).place ≡ false
             → Found s body w (own (at_node s inside) form l) → ⊥
         unfolding offset_of
-        under l il ol f = below_all s leaves outer seats at seated c sits inside w owns body pre room l il ol f.scopes
-            f.around f.buffer f.named f.byte f.names
+        under l il ol f = below_all s leaves outer seats at seated c sits inside w held owns body pre room below_held l
+            il ol f.scopes f.around f.buffer f.named f.byte f.opens
 
         its_place : CallPlaced (at_node s inside) form (arity_of c) (arrays_of outer c)
             (on_bytes s leaves w (shapes_of c))
         its_place = record {
-          separate = λ l m il im ol om e. separate s leaves outer seats at seated c sits inside w owns body pre room l m
-              il im ol om e;
+          separate = λ l m il im ol om e. separate s leaves outer seats at seated c sits inside w held owns body pre
+              room below_held l m il im ol om e;
           below = λ l il ol z. under l il ol (ih (own (at_node s inside) form l) z);
         }
 
@@ -280,16 +283,56 @@ module _ (s : Setting) (leaves : Leaves Cause) (outer : List Shape) (seats : Lis
             subst (λ M. CallPlaced M form (arity_of c) (arrays_of outer c) (on_bytes s leaves w (shapes_of c))
             × Stowed (on_bytes s leaves w (shapes_of c)) M 0) (sym (number_is s c.lower node child)) (its_place, h)
 
+-- ---- a loop that arguments leave
+
+module _ (s : Setting) (leaves : Leaves Cause) (outer : List Shape) (seats : List Seat) (at : Layout)
+    (seated : IsSeated outer seats at) (args : List PlacedArg) (sits : HeldSits outer args) (w : Placed)
+    (owns : HoldOwns s args w) (node child : ℕ) (path : List ℕ)
+    (ih : (x : Spot) → Scratch (on_bytes s leaves w outer) (at_node s node) child x
+    → Found s (tree s w node child seats path) w x) (pre : List Scope)
+    (room : (l : List Scope) → IsAround (tree s (Hold args w) node child seats path) l → HaveRoom s (pre ++ l)) where
+  abbrev holding_node : ℕ
+  holding_node = s.child node child
+
+  abbrev loop : PlanTree
+  loop = tree s w node child seats path
+
+  abbrev held_form : Form
+  held_form = form_of s.offset first_buffer (held_call args)
+
+  held_below : (q : Spot) → IsIn (length args) (arrays_of outer (held_call args)) q
+      → Found s loop w (own (at_node s holding_node) held_form q) → ⊥
+  unfolding offset_of
+  held_below q iq f = hold.below_all s leaves outer seats at seated args sits holding_node w owns loop pre room q iq
+      f.scopes f.around f.buffer f.named f.byte f.opens
+
+  hold_place : HoldPlaced held_form (length args) (arrays_of outer (held_call args)) (on_bytes s leaves w outer)
+      (at_node s node) child
+  hold_place = subst (λ (M : Node). (
+      (q r : Spot) → IsIn (length args) (arrays_of outer (held_call args)) q
+      → IsIn (length args) (arrays_of outer (held_call args)) r → own M held_form q ≡ own M held_form r → q ≡ r
+      ) × ((q : Spot) → IsIn (length args) (arrays_of outer (held_call args)) q
+      → Scratch (on_bytes s leaves w outer) (at_node s node) child (own M held_form q) → ⊥)
+      → HoldPlaced held_form (length args) (arrays_of outer (held_call args)) (on_bytes s leaves w outer)
+      (at_node s node) child) (number_is s true node child) (λ h. record {
+        separate = λ q r iq ir pq pr e. h.0 q r iq ir e;
+        below = λ q iq pq z. h.1 q iq z;
+      }) (
+        (λ q r iq ir e. hold.separate s leaves outer seats at seated args sits holding_node w owns loop pre room q r iq
+            ir e),
+        (λ q iq z. held_below q iq (ih (own (at_node s holding_node) held_form q) z)),
+      )
+
 -- ---- each buffer is live somewhere
 
 module _ (s : Setting) (leaves : Leaves Cause) where
   pub scratch : (p : Placed) (node child : ℕ) (outer : List Shape) (seats : List Seat) (at : Layout) (path : List ℕ)
-      → Sits leaves p outer → IsSeated outer seats at → Owns s p → HaveLanes s p node child
+      (bs : List ℕ) → Sits leaves p outer → IsSeated outer seats at → OwnIn s bs p → HaveLanes s p node child
       → (x : Spot) → Scratch (on_bytes s leaves p outer) (at_node s node) child x
       → Found s (tree s p node child seats path) p x
-  scratch Nothing node child outer seats at path sits seated owns lanes x h = absurd h
-  scratch (Then a b) node child outer seats at path sits seated owns lanes x (inl h) =
-      let f = scratch a node child outer seats at path sits.0 seated owns.0 lanes.0 x h in
+  scratch Nothing node child outer seats at path bs sits seated owns lanes x h = absurd h
+  scratch (Then a b) node child outer seats at path bs sits seated owns lanes x (inl h) =
+      let f = scratch a node child outer seats at path bs sits.0 seated owns.0 lanes.0 x h in
       record {
         scopes = f.scopes;
         around
@@ -298,10 +341,10 @@ module _ (s : Setting) (leaves : Leaves Cause) where
             = f.buffer;
         named = f.named;
         byte = f.byte;
-        names = inl f.names;
+        opens = inl f.opens;
       }
-  scratch (Then a b) node child outer seats at path sits seated owns lanes x (inr h) =
-      let f = scratch b node child outer seats at path sits.1 seated owns.1 lanes.1 x h in
+  scratch (Then a b) node child outer seats at path bs sits seated owns lanes x (inr h) =
+      let f = scratch b node child outer seats at path bs sits.1 seated owns.1 lanes.1 x h in
       record {
         scopes = f.scopes;
         around
@@ -310,11 +353,11 @@ module _ (s : Setting) (leaves : Leaves Cause) where
             = f.buffer;
         named = f.named;
         byte = f.byte;
-        names = inr f.names;
+        opens = inr f.opens;
       }
-  scratch (Each n w) node child outer seats at path sits seated owns lanes x (t, lt, h) =
-      let f = scratch (w t) node child outer seats at (path ++ t ∷ []) (sits t lt) seated (owns t lt) (lanes t lt) x h
-      in
+  scratch (Each n w) node child outer seats at path bs sits seated owns lanes x (t, lt, h) =
+      let f = scratch (w t) node child outer seats at (path ++ t ∷ []) bs (sits t lt) seated (owns t lt) (lanes t lt) x
+      h in
       record {
         scopes = f.scopes;
         around
@@ -322,12 +365,12 @@ module _ (s : Setting) (leaves : Leaves Cause) where
         buffer = f.buffer;
         named = f.named;
         byte = f.byte;
-        names = (t, lt, f.names);
+        opens = (t, lt, f.opens);
       }
-  scratch (AtOnce place spread n w) node child outer seats at path sits seated owns lanes x (t, lt, h) =
+  scratch (AtOnce place spread n w) node child outer seats at path bs sits seated owns lanes x (t, lt, h) =
       let kid = lane_kid spread (at_node s node) child n t in
-      let f = scratch (w t) node kid outer seats at (path ++ t ∷ []) (sits t lt) seated (owns t lt) (lanes t lt).1 x h
-      in
+      let f = scratch (w t) node kid outer seats at (path ++ t ∷ []) [] (sits t lt) seated (owns t lt) (lanes t lt).1 x
+      h in
       record {
         scopes = f.scopes;
         around
@@ -336,16 +379,16 @@ module _ (s : Setting) (leaves : Leaves Cause) where
         buffer = f.buffer;
         named = f.named;
         byte = f.byte;
-        names = (t, lt, f.names);
+        opens = (t, lt, f.opens);
       }
-  scratch (Gathers r place spread zero w) node child outer seats at path sits seated owns lanes x h = absurd h
-  scratch (Gathers r place spread (suc n) w) node child outer seats at path sits seated owns lanes x (t, lt, h) =
+  scratch (Gathers r place spread zero w) node child outer seats at path bs sits seated owns lanes x h = absurd h
+  scratch (Gathers r place spread (suc n) w) node child outer seats at path bs sits seated owns lanes x (t, lt, h) =
       let kid = lane_kid spread (at_node s node) child (suc n) t in
       let first = (sits.1 0 (omega arith)) in
       let mine = sits.1 t lt in
       let same = one_lower s leaves outer node (w t) mine.0 ∙ mine.1
       ∙ sym (one_lower s leaves outer node (w 0) first.0 ∙ first.1) in
-      let f = scratch (w t) node kid outer seats at (path ++ t ∷ []) mine.2 seated (owns t lt) (lanes t lt).1 x
+      let f = scratch (w t) node kid outer seats at (path ++ t ∷ []) [] mine.2 seated (owns t lt) (lanes t lt).1 x
       (one_scratch s leaves outer node (w t) mine.0 (one_call s leaves outer node (w 0)).called.lower same kid x h)
       in
       record {
@@ -356,58 +399,85 @@ module _ (s : Setting) (leaves : Leaves Cause) where
         buffer = f.buffer;
         named = f.named;
         byte = f.byte;
-        names = (t, lt, f.names);
+        opens = (t, lt, f.opens);
       }
-  scratch (Call c w) node child outer seats at path sits seated owns lanes x h =
-      call_found s leaves outer seats at seated c sits.0 w owns.0 node child path
+  scratch (Call c w) node child outer seats at path bs sits seated owns lanes x h =
+      call_found s leaves outer seats at seated c sits.0 w bs owns.0 node child path
       (λ y z. scratch w (callee_node s c.lower node child) 0 (shapes_of c)
-      (inner_seats s leaves outer seats at seated c sits.0 w owns.0 node child path) _ path sits.1
-      (inner_seated s leaves outer seats at seated c sits.0 w owns.0 node child path) owns.1 lanes y z) x h
-  scratch (Hold args w) node child outer seats at path sits seated owns lanes x h = absurd owns
-  scratch (Piped spread n calls w) node child outer seats at path sits seated owns lanes x h = absurd owns
-  scratch (Leaf code leaf shapes) node child outer seats at path sits seated owns lanes x h = absurd h
+      (inner_seats s leaves outer seats at seated c sits.0 w bs owns.0 node child path) _ path [] sits.1
+      (inner_seated s leaves outer seats at seated c sits.0 w bs owns.0 node child path) owns.1 lanes y z) x h
+  scratch (Hold args w) node child outer seats at path bs sits seated owns lanes x (inl h) =
+      let inside = s.child node child in
+      let loop = tree s w node child seats path in
+      let f = hold.live_cell s leaves outer seats at seated args sits.0 inside w owns.0 loop x
+      (subst (λ (M : Node). HeldCell M (form_of s.offset first_buffer (held_call args)) (length args)
+      (arrays_of outer (held_call args)) x) (number_is s true node child) h) in
+      record {
+        scopes = hold.its_scope s leaves outer seats at seated args sits.0 inside w owns.0 loop ++ [];
+        around = f.around;
+        buffer = f.buffer;
+        named = f.named;
+        byte = f.byte;
+        opens = inl f.holds;
+      }
+  scratch (Hold args w) node child outer seats at path bs sits seated owns lanes x (inr h) =
+      let inside = s.child node child in
+      let loop = tree s w node child seats path in
+      let its = hold.its_scope s leaves outer seats at seated args sits.0 inside w owns.0 loop in
+      let f = scratch w node child outer seats at path (held_buffers args ++ bs) sits.1 seated owns.1 lanes x h in
+      record {
+        scopes = its ++ f.scopes;
+        around = hold.of_loop s leaves outer seats at seated args sits.0 inside w owns.0 loop f.scopes f.around;
+        buffer = f.buffer;
+        named = named_right its f.scopes x.area f.buffer f.named;
+        byte = f.byte;
+        opens = inr f.opens;
+      }
+  scratch (Piped spread n calls w) node child outer seats at path bs sits seated owns lanes x h = absurd owns
+  scratch (Leaf code leaf shapes) node child outer seats at path bs sits seated owns lanes x h = absurd h
 
   pub stowed : (p : Placed) (node child : ℕ) (outer : List Shape) (seats : List Seat) (at : Layout) (path : List ℕ)
-      → Sits leaves p outer → IsSeated outer seats at → Owns s p → HaveLanes s p node child
+      (bs : List ℕ) → Sits leaves p outer → IsSeated outer seats at → OwnIn s bs p → HaveLanes s p node child
       → Aside (tree s p node child seats path) → (pre : List Scope)
       → ((l : List Scope) → IsAround (tree s p node child seats path) l → HaveRoom s (pre ++ l))
-      → Stowed (on_bytes s leaves p outer) (at_node s node) child
-  stowed Nothing node child outer seats at path sits seated owns lanes aside pre room = tt
-  stowed (Then a b) node child outer seats at path sits seated owns lanes aside pre room =
+      → Holding s pre (s.child node child) bs → Stowed (on_bytes s leaves p outer) (at_node s node) child
+  stowed Nothing node child outer seats at path bs sits seated owns lanes aside pre room live = tt
+  stowed (Then a b) node child outer seats at path bs sits seated owns lanes aside pre room live =
       let x = tree s a node child seats path in
       let y = tree s b node child seats path in (
-        stowed a node child outer seats at path sits.0 seated owns.0 lanes.0 (aside_first x y aside) pre
-            (λ l h. room l (seq_first x y l h)),
-        stowed b node child outer seats at path sits.1 seated owns.1 lanes.1 (aside_next x y aside) pre
-            (λ l h. room l (seq_next x y l h)),
+        stowed a node child outer seats at path bs sits.0 seated owns.0 lanes.0 (aside_first x y aside) pre
+            (λ l h. room l (seq_first x y l h)) live,
+        stowed b node child outer seats at path bs sits.1 seated owns.1 lanes.1 (aside_next x y aside) pre
+            (λ l h. room l (seq_next x y l h)) live,
       )
-  stowed (Each n w) node child outer seats at path sits seated owns lanes aside pre room = λ t lt.
+  stowed (Each n w) node child outer seats at path bs sits seated owns lanes aside pre room live = λ t lt.
       let part : ℕ → ℕ → PlanTree = λ c u. tree s (w u) node c seats (path ++ u ∷ []) in
-      stowed (w t) node child outer seats at (path ++ t ∷ []) (sits t lt) seated (owns t lt) (lanes t lt)
+      stowed (w t) node child outer seats at (path ++ t ∷ []) bs (sits t lt) seated (owns t lt) (lanes t lt)
       (map_aside s None node child n part aside t lt tt) pre
-      (λ l h. room l (in_map s None node child n part t l lt tt h))
-  stowed (AtOnce place spread n w) node child outer seats at path sits seated owns lanes aside pre room =
+      (λ l h. room l (in_map s None node child n part t l lt tt h)) live
+  stowed (AtOnce place spread n w) node child outer seats at path bs sits seated owns lanes aside pre room live =
       let part : ℕ → ℕ → PlanTree = λ c u. tree s (w u) node c seats (path ++ u ∷ []) in
       let kid : ℕ → ℕ = lane_kid spread (at_node s node) child n in (
         record {
           lanes = λ a b la lb ne x ha hb.
               apart s spread node child n part aside w a b la lb (lanes a la).0 (lanes b lb).0 ne x
-              (scratch (w a) node (kid a) outer seats at (path ++ a ∷ []) (sits a la) seated (owns a la) (lanes a la).1
-              x
-              ha)
-              (scratch (w b) node (kid b) outer seats at (path ++ b ∷ []) (sits b lb) seated (owns b lb) (lanes b lb).1
-              x
-              hb);
+              (scratch (w a) node (kid a) outer seats at (path ++ a ∷ []) [] (sits a la) seated (owns a la)
+              (lanes a la).1 x ha)
+              (scratch (w b) node (kid b) outer seats at (path ++ b ∷ []) [] (sits b lb) seated (owns b lb)
+              (lanes b lb).1 x hb);
         },
         λ t lt. (
           (lanes t lt).0,
-          stowed (w t) node (kid t) outer seats at (path ++ t ∷ []) (sits t lt) seated (owns t lt)
+          stowed (w t) node (kid t) outer seats at (path ++ t ∷ []) [] (sits t lt) seated (owns t lt)
               (lanes t lt).1 (map_aside s spread node child n part aside t lt (lanes t lt).0) pre
-              (λ l h. room l (in_map s spread node child n part t l lt (lanes t lt).0 h)),
+              (λ l h. room l (in_map s spread node child n part t l lt (lanes t lt).0 h))
+              (none_held s pre (s.child node (kid t))),
         ),
       )
-  stowed (Gathers r place spread zero w) node child outer seats at path sits seated owns lanes aside pre room = tt
-  stowed (Gathers r place spread (suc n) w) node child outer seats at path sits seated owns lanes aside pre room =
+  stowed (Gathers r place spread zero w) node child outer seats at path bs sits seated owns lanes aside pre room live
+      = tt
+  stowed (Gathers r place spread (suc n) w) node child outer seats at path bs sits seated owns lanes aside pre room
+      live =
       let part : ℕ → ℕ → PlanTree = λ c u. tree s (w u) node c seats (path ++ u ∷ []) in
       let kid : ℕ → ℕ = lane_kid spread (at_node s node) child (suc n) in
       let first = sits.1 0 (omega arith) in
@@ -418,36 +488,51 @@ module _ (s : Setting) (leaves : Leaves Cause) where
         record {
           lanes = λ a b la lb ne x ha hb.
               apart s spread node child (suc n) part aside w a b la lb (lanes a la).0 (lanes b lb).0 ne x
-              (scratch (w a) node (kid a) outer seats at (path ++ a ∷ []) (sits.1 a la).2 seated (owns a la)
+              (scratch (w a) node (kid a) outer seats at (path ++ a ∷ []) [] (sits.1 a la).2 seated (owns a la)
               (lanes a la).1
               x (one_scratch s leaves outer node (w a) (sits.1 a la).0 lower (same a la) (kid a) x ha))
-              (scratch (w b) node (kid b) outer seats at (path ++ b ∷ []) (sits.1 b lb).2 seated (owns b lb)
+              (scratch (w b) node (kid b) outer seats at (path ++ b ∷ []) [] (sits.1 b lb).2 seated (owns b lb)
               (lanes b lb).1
               x (one_scratch s leaves outer node (w b) (sits.1 b lb).0 lower (same b lb) (kid b) x hb));
         },
         λ t lt.
             let z = one_stowed s leaves outer node (w t) (sits.1 t lt).0 lower (same t lt) (kid t)
-            (stowed (w t) node (kid t) outer seats at (path ++ t ∷ []) (sits.1 t lt).2 seated (owns t lt) (lanes t lt).1
-            (map_aside s spread node child (suc n) part aside t lt (lanes t lt).0) pre
-            (λ l h. room l (in_map s spread node child (suc n) part t l lt (lanes t lt).0 h))) in
+            (stowed (w t) node (kid t) outer seats at (path ++ t ∷ []) [] (sits.1 t lt).2 seated (owns t lt)
+            (lanes t lt).1 (map_aside s spread node child (suc n) part aside t lt (lanes t lt).0) pre
+            (λ l h. room l (in_map s spread node child (suc n) part t l lt (lanes t lt).0 h))
+            (none_held s pre (s.child node (kid t)))) in
             ((lanes t lt).0, z.0, z.1),
       )
-  stowed (Call c w) node child outer seats at path sits seated owns lanes aside pre room =
+  stowed (Call c w) node child outer seats at path bs sits seated owns lanes aside pre room live =
       let inside = callee_node s c.lower node child in
-      let seats' = inner_seats s leaves outer seats at seated c sits.0 w owns.0 node child path in
-      let at' = inner_layout s leaves outer seats at seated c sits.0 w owns.0 node child path in
-      let seated' = inner_seated s leaves outer seats at seated c sits.0 w owns.0 node child path in
+      let seats' = inner_seats s leaves outer seats at seated c sits.0 w bs owns.0 node child path in
+      let at' = inner_layout s leaves outer seats at seated c sits.0 w bs owns.0 node child path in
+      let seated' = inner_seated s leaves outer seats at seated c sits.0 w bs owns.0 node child path in
       let ih : (y : Spot) → Scratch (on_bytes s leaves w (shapes_of c)) (at_node s inside) 0 y
       → Found s (tree s w inside 0 seats' path) w y =
-      λ y z. scratch w inside 0 (shapes_of c) seats' at' path sits.1 seated' owns.1 lanes y z in
-      let args = args_scope s leaves outer seats at seated c sits.0 inside w owns.0 (tree s w inside 0 seats' path) in
-      let locals = locals_scope s leaves outer seats at seated c sits.0 inside w owns.0 (tree s w inside 0 seats' path)
-      in
-      call_stowed s leaves outer seats at seated c sits.0 w owns.0 node child path ih pre room
-      (stowed w inside 0 (shapes_of c) seats' at' path sits.1 seated' owns.1 lanes
-      (aside_body s leaves outer seats at seated c sits.0 inside w owns.0 (tree s w inside 0 seats' path) aside)
+      λ y z. scratch w inside 0 (shapes_of c) seats' at' path [] sits.1 seated' owns.1 lanes y z in
+      let inner = tree s w inside 0 seats' path in
+      let args = args_scope s leaves outer seats at seated c sits.0 inside w bs owns.0 inner in
+      let locals = locals_scope s leaves outer seats at seated c sits.0 inside w bs owns.0 inner in
+      call_stowed s leaves outer seats at seated c sits.0 w bs owns.0 node child path ih pre room live
+      (stowed w inside 0 (shapes_of c) seats' at' path [] sits.1 seated' owns.1 lanes
+      (aside_body s leaves outer seats at seated c sits.0 inside w bs owns.0 inner aside)
       (pre ++ (args ++ locals))
-      (body_room s leaves outer seats at seated c sits.0 w owns.0 node child path ih pre room))
-  stowed (Hold args w) node child outer seats at path sits seated owns lanes aside pre room = absurd owns
-  stowed (Piped spread n calls w) node child outer seats at path sits seated owns lanes aside pre room = absurd owns
-  stowed (Leaf code leaf shapes) node child outer seats at path sits seated owns lanes aside pre room = tt
+      (body_room s leaves outer seats at seated c sits.0 w bs owns.0 node child path ih pre room live)
+      (none_held s (pre ++ (args ++ locals)) (s.child inside 0)))
+  stowed (Hold args w) node child outer seats at path bs sits seated owns lanes aside pre room live =
+      let inside = s.child node child in
+      let loop = tree s w node child seats path in
+      let its = hold.its_scope s leaves outer seats at seated args sits.0 inside w owns.0 loop in (
+        hold_place s leaves outer seats at seated args sits.0 w owns.0 node child path
+            (λ y z. scratch w node child outer seats at path (held_buffers args ++ bs) sits.1 seated owns.1 lanes y z)
+            pre room,
+        stowed w node child outer seats at path (held_buffers args ++ bs) sits.1 seated owns.1 lanes
+            (hold.aside_loop s leaves outer seats at seated args sits.0 inside w owns.0 loop aside) (pre ++ its)
+            (λ l h. subst (HaveRoom s) (sym (append_joins pre its l))
+            (room (its ++ l) (hold.of_loop s leaves outer seats at seated args sits.0 inside w owns.0 loop l h)))
+            (hold.still_held s leaves outer seats at seated args sits.0 inside w owns.0 loop pre room bs live),
+      )
+  stowed (Piped spread n calls w) node child outer seats at path bs sits seated owns lanes aside pre room live
+      = absurd owns
+  stowed (Leaf code leaf shapes) node child outer seats at path bs sits seated owns lanes aside pre room live = tt

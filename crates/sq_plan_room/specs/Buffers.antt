@@ -1,13 +1,13 @@
--- Which buffers a placed source names, and what is asked of them: each array has its own.
-use Rattle.std.specs.Prelude.{◌≡◌, ◌⊎◌, ℕ, ◌<◌, ◌≤◌, List, ◌++◌, map, Option, Some, None, slice_get}
-use Rattle.std.specs.List.{All}
+-- Which buffers a placed source brings into scope, and what is asked of them: each array has its own.
+use Rattle.std.specs.Prelude.{◌≡◌, ◌⊎◌, ℕ, ◌<◌, ◌≤◌, Bool, true, List, [], ◌++◌, map, Option, Some, None, slice_get}
+use Rattle.std.specs.List.{All, Contains}
 use Rattle.sq_leaf.specs.declared.shape.Shape.{Shape}
 use Rattle.sq_ir.specs.Written.{Setting}
 use Rattle.sq_placed.specs.declared.home.Home.{Home}
 use Rattle.sq_placed.specs.declared.home.Home.TheVariants.{InPlace, Own, Held, Twin}
 use Rattle.sq_placed.specs.Placed.{Placed, PlacedArg, PlacedLocal, PlacedCall, Nothing, Then, Each, AtOnce, Gathers}
 use Rattle.sq_placed.specs.Placed.{Call, Hold, Piped, Leaf}
-use Rattle.sq_placed.specs.Trees.{callee_node}
+use Rattle.sq_placed.specs.Trees.{callee_node, held_buffers}
 use Rattle.sq_cells.specs.Lowered.{lane_kid, HasLane}
 use Rattle.sq_placed_bytes.specs.Codes.{bytes_in}
 use Rattle.sq_placed_bytes.specs.Calling.{shapes_of}
@@ -19,54 +19,82 @@ home_buffer (Own b) = Some b
 home_buffer (Held b loops) = Some b
 home_buffer (Twin b c) = Some b
 
+-- the one that a call brings into scope: what is held stands in scope round it
+abbrev pub opened_buffer : Home → Option ℕ
+opened_buffer InPlace = None
+opened_buffer (Own b) = Some b
+opened_buffer (Held b loops) = None
+opened_buffer (Twin b c) = Some b
+
 -- the buffers of a call's arrays: of its arguments, and then of its locals
-abbrev pub array_buffers : PlacedCall → List (Option ℕ)
-array_buffers c = map (λ (p : PlacedArg). home_buffer p.home) c.args
+abbrev pub array_buffers : (Home → Option ℕ) → PlacedCall → List (Option ℕ)
+array_buffers buffer c = map (λ (p : PlacedArg). buffer p.home) c.args
     ++ map (λ (k : PlacedLocal). Some k.buffer) c.locals
 
 -- the i-th array of the call has this buffer
 abbrev pub HasBuffer : PlacedCall → (i b : ℕ) → Type 0
-HasBuffer c i b = slice_get (array_buffers c) i ≡ Some (Some b)
+HasBuffer c i b = slice_get (array_buffers home_buffer c) i ≡ Some (Some b)
 
--- a call in it has this buffer for one of its arrays
-abbrev pub Names : Placed → (b : ℕ) → Type 0
-Names Nothing b = ⊥
-Names (Then x y) b = Names x b ⊎ Names y b
-Names (Each n w) b = (t : ℕ) × (t < n) × Names (w t) b
-Names (AtOnce place spread n w) b = (t : ℕ) × (t < n) × Names (w t) b
-Names (Gathers r place spread n w) b = (t : ℕ) × (t < n) × Names (w t) b
-Names (Call c w) b = ((i : ℕ) × HasBuffer c i b) ⊎ Names w b
-Names (Hold args w) b = Names w b
-Names (Piped spread n calls w) b = (t : ℕ) × (t < n) × (((i : ℕ) × HasBuffer (calls t) i b) ⊎ Names (w t) b)
-Names (Leaf code leaf shapes) b = ⊥
+-- and the call brings it into scope
+abbrev pub OpensBuffer : PlacedCall → (i b : ℕ) → Type 0
+OpensBuffer c i b = slice_get (array_buffers opened_buffer c) i ≡ Some (Some b)
 
--- in place, or in a buffer round each call
-abbrev pub IsSimple : Home → Type 0
-IsSimple InPlace = Unit {0}
-IsSimple (Own b) = Unit {0}
-IsSimple (Held b loops) = ⊥
-IsSimple (Twin b c) = ⊥
+-- the i-th of the arguments that leave a loop has this buffer
+abbrev pub HoldsBuffer : List PlacedArg → (i b : ℕ) → Type 0
+HoldsBuffer args i b = slice_get (map (λ (p : PlacedArg). home_buffer p.home) args) i ≡ Some (Some b)
 
--- No two arrays of a call have one buffer, no call further in has it, and the arrays fit into theirs; locals have
--- elements.
-pub record CallOwns (s : Setting) (c : PlacedCall) (w : Placed) : Type 0 where
-  pub simple : (i : ℕ) (p : PlacedArg) → slice_get c.args i ≡ Some p → IsSimple p.home
+-- a call in it brings this buffer into scope, or a loop that arguments leave
+abbrev pub Opens : Placed → (b : ℕ) → Type 0
+Opens Nothing b = ⊥
+Opens (Then x y) b = Opens x b ⊎ Opens y b
+Opens (Each n w) b = (t : ℕ) × (t < n) × Opens (w t) b
+Opens (AtOnce place spread n w) b = (t : ℕ) × (t < n) × Opens (w t) b
+Opens (Gathers r place spread n w) b = (t : ℕ) × (t < n) × Opens (w t) b
+Opens (Call c w) b = ((i : ℕ) × OpensBuffer c i b) ⊎ Opens w b
+Opens (Hold args w) b = ((i : ℕ) × HoldsBuffer args i b) ⊎ Opens w b
+Opens (Piped spread n calls w) b = (t : ℕ) × (t < n) × (((i : ℕ) × OpensBuffer (calls t) i b) ⊎ Opens (w t) b)
+Opens (Leaf code leaf shapes) b = ⊥
+
+-- Where a parameter may stand: in place, in a buffer round the call, or, if the call is a lower one, in one of these
+-- that loops round it hold.
+abbrev pub IsAmong : (lower : Bool) → (held : List ℕ) → Home → Type 0
+IsAmong lower held InPlace = Unit {0}
+IsAmong lower held (Own b) = Unit {0}
+IsAmong lower held (Held b loops) = (lower ≡ true) × Contains held b
+IsAmong lower held (Twin b c) = ⊥
+
+-- No two arrays of a call have one buffer, nothing further in brings it into scope again, and the arrays fit into
+-- theirs; locals have elements.
+pub record CallOwns (s : Setting) (held : List ℕ) (c : PlacedCall) (w : Placed) : Type 0 where
+  pub homes : (i : ℕ) (p : PlacedArg) → slice_get c.args i ≡ Some p → IsAmong c.lower held p.home
   pub distinct : (i j b : ℕ) → HasBuffer c i b → HasBuffer c j b → i ≡ j
-  pub inner : (i b : ℕ) → HasBuffer c i b → Names w b → ⊥
+  pub inner : (i b : ℕ) → HasBuffer c i b → Opens w b → ⊥
   pub sizes : (i b : ℕ) (sh : Shape) → HasBuffer c i b → slice_get (shapes_of c) i ≡ Some sh → bytes_in sh ≤ s.size b
   pub some : (j : ℕ) (k : PlacedLocal) → slice_get c.locals j ≡ Some k → All (λ n. 0 < n) k.shape.extents
 
--- So it is of each call, where nothing leaves a loop and no loop overlaps its transfers.
+-- So of the arguments that leave a loop: nothing in the loop brings a buffer of theirs into scope again.
+pub record HoldOwns (s : Setting) (args : List PlacedArg) (w : Placed) : Type 0 where
+  pub distinct : (i j b : ℕ) → HoldsBuffer args i b → HoldsBuffer args j b → i ≡ j
+  pub inner : (i b : ℕ) → HoldsBuffer args i b → Opens w b → ⊥
+  pub sizes : (i b loops : ℕ) (p : PlacedArg) → slice_get args i ≡ Some p → p.home ≡ Held b loops
+      → bytes_in p.shape ≤ s.size b
+
+-- So it is of each call and of each loop that arguments leave, in loops that hold these buffers, where no loop overlaps
+-- its transfers. A callee's loops begin anew, and so does what stands in a map whose iterations are unordered.
+abbrev pub OwnIn : Setting → (held : List ℕ) → Placed → Type 0
+OwnIn s held Nothing = Unit {0}
+OwnIn s held (Then x y) = OwnIn s held x × OwnIn s held y
+OwnIn s held (Each n w) = (t : ℕ) → t < n → OwnIn s held (w t)
+OwnIn s held (AtOnce place spread n w) = (t : ℕ) → t < n → OwnIn s [] (w t)
+OwnIn s held (Gathers r place spread n w) = (t : ℕ) → t < n → OwnIn s [] (w t)
+OwnIn s held (Call c w) = CallOwns s held c w × OwnIn s [] w
+OwnIn s held (Hold args w) = HoldOwns s args w × OwnIn s (held_buffers args ++ held) w
+OwnIn s held (Piped spread n calls w) = ⊥
+OwnIn s held (Leaf code leaf shapes) = Unit {0}
+
+-- each array has a buffer of its own
 abbrev pub Owns : Setting → Placed → Type 0
-Owns s Nothing = Unit {0}
-Owns s (Then x y) = Owns s x × Owns s y
-Owns s (Each n w) = (t : ℕ) → t < n → Owns s (w t)
-Owns s (AtOnce place spread n w) = (t : ℕ) → t < n → Owns s (w t)
-Owns s (Gathers r place spread n w) = (t : ℕ) → t < n → Owns s (w t)
-Owns s (Call c w) = CallOwns s c w × Owns s w
-Owns s (Hold args w) = ⊥
-Owns s (Piped spread n calls w) = ⊥
-Owns s (Leaf code leaf shapes) = Unit {0}
+Owns s p = OwnIn s [] p
 
 -- each iteration of a spread map has a child
 abbrev pub HaveLanes : Setting → Placed → (node child : ℕ) → Type 0

@@ -17,14 +17,14 @@ use Rattle.sq_placed_bytes.specs.LeafLaws.{codes_of}
 use Rattle.sq_plan_laws.specs.Seated.{HasDims, Sits, at_node}
 use Rattle.sq_plan_laws.specs.Entry.{form_at, plan_tree}
 use Rattle.sq_plan_laws.specs.Room.{HasRoom}
-use Rattle.sq_plan_room.specs.Buffers.{Names, Owns, HaveLanes}
+use Rattle.sq_plan_room.specs.Buffers.{Opens, Owns, HaveLanes}
 
 -- the entry's arrays have buffers of their own
 pub record EntryOwns (s : Setting) (outer : List Shape) (buffers : List ℕ) (p : Placed) : Type 0 where
   pub many : length buffers ≡ length outer
   pub dims : (n : ℕ) (sh : Shape) → slice_get outer n ≡ Some sh → HasDims sh.extents
   pub distinct : (i j b : ℕ) → slice_get buffers i ≡ Some b → slice_get buffers j ≡ Some b → i ≡ j
-  pub inner : (i b : ℕ) → slice_get buffers i ≡ Some b → Names p b → ⊥
+  pub inner : (i b : ℕ) → slice_get buffers i ≡ Some b → Opens p b → ⊥
   pub sizes : (i b : ℕ) (sh : Shape) → slice_get buffers i ≡ Some b → slice_get outer i ≡ Some sh → bytes_in sh
       ≤ s.size b
 

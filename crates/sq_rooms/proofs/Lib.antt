@@ -5,6 +5,3 @@ pub mod Behind
 pub mod Spread
 pub mod Called
 pub mod Lowered
-pub mod Sure
-pub mod HaveNumbers
-pub mod AllNumbers

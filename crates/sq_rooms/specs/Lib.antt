@@ -1,8 +1,7 @@
 pub mod Rooms
 pub mod Orders
+pub mod Held
 pub mod Callers
-pub mod Begins
-pub mod Fitting
 pub mod Lowered
 pub mod Laws
 pub mod Lowers

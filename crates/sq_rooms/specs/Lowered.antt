@@ -2,7 +2,7 @@
 use Rattle.std.specs.Prelude.{◌≡◌, ℕ, ◌<◌, List, []}
 use Rattle.sq_ir.specs.Machines.{AreNodes}
 use Rattle.sq_ir.specs.Written.{at_root}
-use Rattle.sq_ir.specs.Plans.{IsBuffer, Meets, of_buffer, placed}
+use Rattle.sq_ir.specs.Plans.{Meets, of_buffer, placed}
 use Rattle.sq_ir.specs.declared.plan.Draft.{Draft}
 use Rattle.sq_ir.specs.declared.plan.PlanNode.{PlanNode}
 use Rattle.sq_blocks.specs.declared.argument.Argument.{Argument}
@@ -12,8 +12,6 @@ use Rattle.sq_term.specs.Terms.{entry_term}
 use Rattle.sq_term.specs.Stands.{AreLeveled}
 use Rattle.sq_nests.specs.Drafts.{whole, Nothing, IsPlaceable}
 use Rattle.sq_rooms.specs.Callers.{home_buffers, Numbering, AreNumbered}
-use Rattle.sq_rooms.specs.Orders.{EachOf}
-use Rattle.sq_rooms.specs.Fitting.{AreFit}
 
 pub record IsLowered (d : Draft) (nodes : List PlanNode) (bodies : ℕ → FormBody) (homes : ℕ → Homes) (n : ℕ)
     (args : List Argument) (level : ℕ → ℕ) (k : Numbering) : Type 0 where
@@ -35,11 +33,3 @@ abbrev pub LoweredIsPlaceable : Type 0
 LoweredIsPlaceable = (d : Draft) (nodes : List PlanNode) (bodies : ℕ → FormBody) (homes : ℕ → Homes) (n : ℕ)
     (args : List Argument) (level : ℕ → ℕ) (k : Numbering)
     → IsLowered d nodes bodies homes n args level k → HasNumbers d nodes → IsPlaceable d nodes
-
--- They have them where the tables are fit.
-abbrev pub TablesHaveNumbers : Type 0
-TablesHaveNumbers = (d : Draft) (nodes : List PlanNode) (bodies : ℕ → FormBody) (homes : ℕ → Homes) (n : ℕ)
-    (args : List Argument) (level : ℕ → ℕ) (k : Numbering)
-    → (is : IsLowered d nodes bodies homes n args level k)
-    → ((offset : ℕ → ℕ) → AreFit (placed d.buffers nodes offset) is.machine.levels bodies homes level)
-    → ((offset : ℕ → ℕ) → EachOf (IsBuffer (placed d.buffers nodes offset) 0) d.entry) → HasNumbers d nodes

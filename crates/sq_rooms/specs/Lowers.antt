@@ -1,8 +1,14 @@
--- Whether statements have a lower call in them.
+-- The statements of a form, and whether they have a lower call in them.
 use Rattle.std.specs.Prelude.{Bool, false, ◌||◌, List, [], ◌∷◌}
 use Rattle.sq_spec.specs.declared.statement.Statement.{Statement}
 use Rattle.sq_spec.specs.declared.statement.Statement.TheOpen.{Statement-F}
 use Rattle.sq_spec.specs.declared.statement.Statement.TheFolds.{fold-Statement}
+use Rattle.sq_spec.specs.declared.body.Body.{Body}
+use Rattle.sq_spec.specs.declared.body.Body.TheVariants as body
+
+abbrev pub statements : Body → List Statement
+statements (body.Leaf code) = []
+statements (body.Inner list) = list
 
 abbrev pub any_of : List Bool → Bool
 any_of [] = false

@@ -1,12 +1,15 @@
--- Tables and a machine that are as asked: a `mapseq` of two lower calls, at a root with two children.
-use Rattle.std.proofs.Common.{◌≡◌, ℕ, zero, suc, ◌+◌, ◌<◌, true, [], ◌∷◌, ◌≤◌, get_or, sym, subst, arith, inr}
+-- Tables and a machine that are as asked: a `mapseq` of two lower calls, whose first argument leaves it, at a root with
+-- two children.
+use Rattle.std.proofs.Common.{◌≡◌, ℕ, zero, suc, ◌+◌, ◌<◌, true, [], ◌∷◌, ◌≤◌, get_or, slice_get}
+use Rattle.std.proofs.Common.{Some, sym, ap, ◌∙◌, subst, arith, inr}
 use Rattle.sq_text.specs.declared.place.Place.{Place}
 use Rattle.sq_ir.specs.Written.{Setting}
 use Rattle.sq_spec.specs.declared.statement.LoopKind.TheVariants as loop_kind
 use Rattle.sq_spec.specs.declared.statement.CallInstance.{CallInstance}
 use Rattle.sq_spec.specs.declared.statement.Statement.TheVariants as b
 use Rattle.sq_term_fit.specs.Fits.{Bounds, IsMachine, NodeAt, AskedOfStatement, Tabled}
-use Rattle.sq_term_fit.proofs.Meeting.{tabled_call, tabled_map}
+use Rattle.sq_term_fit.specs.Leaves.{Left, HasTurns, RowLeaves, AskedInLoops, Leaves}
+use Rattle.sq_term_fit.proofs.Chains.{tabled_call, tabled_map, leaves_call, leaves_map}
 
 abbrev most : Bounds
 most = record { uses = 1048576; children = 64 }
@@ -34,6 +37,38 @@ tabled place r = subst (λ (f : AskedOfStatement). f 1)
         tt,
       ),
     )
+
+-- of the loop it leaves one
+abbrev first_leaves : Left
+first_leaves f zero = 1
+first_leaves f (suc i) = 0
+
+leaves : (place : Place) (r : CallInstance)
+    → Leaves first_leaves (b.Map place loop_kind.Sequential (2 ∷ []) (0 ∷ []) (b.Call true (r ∷ r ∷ []) ∷ [])) []
+leaves place r = subst (λ (f : AskedInLoops). f [])
+    (sym (leaves_map first_leaves place loop_kind.Sequential (2 ∷ []) (0 ∷ []) (b.Call true (r ∷ r ∷ []) ∷ [])))
+    (subst (λ (f : AskedInLoops). f ((2 ∷ []) ∷ [])) (sym (leaves_call first_leaves true (r ∷ r ∷ []))) rows, tt)
+  where
+    form_is : (k : ℕ) (q : CallInstance) → slice_get (r ∷ r ∷ []) k ≡ Some q → q.form ≡ r.form
+    form_is zero q e = let is : r ≡ q = cc e in ap (λ (x : CallInstance). x.form) (sym is)
+    form_is (suc zero) q e = let is : r ≡ q = cc e in ap (λ (x : CallInstance). x.form) (sym is)
+    form_is (suc (suc k)) q e = absurd (cc e)
+
+    each : (k : ℕ) → k < 1 → 1 ≤ get_or (2 ∷ []) k 0
+    each zero l = omega arith
+    each (suc k) l = absurd (omega (arith, l))
+
+    turns : (f i j : ℕ) → j < first_leaves f i → HasTurns (get_or ((2 ∷ []) ∷ []) j [])
+    turns f zero zero l = record { some = omega arith; each = each }
+    turns f zero (suc j) l = absurd (omega (arith, l))
+    turns f (suc i) j l = absurd (omega (arith, l))
+
+    rows : (k : ℕ) (q : CallInstance) → slice_get (r ∷ r ∷ []) k ≡ Some q
+        → RowLeaves first_leaves ((2 ∷ []) ∷ []) (r ∷ r ∷ []) q
+    rows k q e = record {
+      turns = turns q.form;
+      one = λ i l m x d. form_is m x d ∙ sym (form_is k q e);
+    }
 
 abbrev level_of : ℕ → ℕ
 level_of zero = 0

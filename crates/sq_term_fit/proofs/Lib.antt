@@ -2,10 +2,12 @@ pub mod Meets
 pub mod LiftHas
 pub mod Fine
 pub mod Fitting
+pub mod Chains
 pub mod Meeting
 pub mod Rooming
 pub mod Blocks
 pub mod Views
 pub mod Seeing
+pub mod Holding
 pub mod Roomed
 pub mod ExampleFits

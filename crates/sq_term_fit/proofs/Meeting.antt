@@ -7,10 +7,9 @@ use Rattle.sq_num.specs.declared.RedOp.{RedOp}
 use Rattle.sq_num.specs.declared.Elem.TheVariants.{Long}
 use Rattle.std.proofs.lemmas.Int.{ints}
 use Rattle.sq_num.specs.Elements.{IsValue, least, greatest}
-use Rattle.sq_text.specs.declared.place.Place.{Place}
 use Rattle.sq_text.specs.declared.spread.SpreadRule.{SpreadRule}
 use Rattle.sq_ir.specs.Written.{Setting, Env, value_of, at_turn, at_root, node_of, inside_of}
-use Rattle.sq_ir.specs.Plans.{HasValue, IsBuffer, IsChild, each_part, this_arm, Meets}
+use Rattle.sq_ir.specs.Plans.{HasValue, IsBuffer, IsChild, AskedOfActions, each_part, this_arm, Meets}
 use Rattle.sq_ir.specs.declared.num.Num.{Num}
 use Rattle.sq_ir.specs.declared.num.Num.TheVariants as n
 use Rattle.sq_ir.specs.declared.term.Action.TheVariants as action
@@ -18,12 +17,11 @@ use Rattle.sq_ir.specs.declared.term.Term.{Term}
 use Rattle.sq_ir.specs.declared.term.Term.TheVariants as term
 use Rattle.sq_blocks.specs.declared.argument.Argument.{Argument}
 use Rattle.sq_spec.specs.declared.statement.LoopKind.{LoopKind}
-use Rattle.sq_spec.specs.declared.statement.LoopKind.TheVariants as loop_kind
 use Rattle.sq_spec.specs.declared.statement.CallInstance.{CallInstance}
 use Rattle.sq_spec.specs.declared.statement.Statement.{Statement, roll-Statement}
 use Rattle.sq_spec.specs.declared.statement.Statement.TheVariants as b
 use Rattle.sq_spec.specs.declared.statement.Statement.TheOpen.{Statement-F}
-use Rattle.sq_spec.specs.declared.statement.Statement.TheFolds.{ind-Statement, map-Statement, rec-roll-Statement}
+use Rattle.sq_spec.specs.declared.statement.Statement.TheFolds.{ind-Statement, map-Statement}
 use Rattle.sq_spec.specs.declared.body.Body.{Body}
 use Rattle.sq_spec.specs.declared.body.Body.TheVariants as body
 use Rattle.sq_spec.specs.declared.body.FormBody.{FormBody}
@@ -32,7 +30,7 @@ use Rattle.sq_placed.specs.declared.home.Homes.{Homes}
 use Rattle.sq_term.specs.declared.context.Context.{Context}
 use Rattle.sq_term.specs.declared.context.Move.{Move}
 use Rattle.sq_placed.specs.Trees.{local_buffers}
-use Rattle.sq_placed.specs.Tables.{locals_of, op_of, spread_of, is_beside, Chain, call_chain, chain_of, one_more}
+use Rattle.sq_placed.specs.Tables.{locals_of, op_of, spread_of, is_beside, Chain, chain_of}
 use Rattle.sq_placed.specs.Tables.{row_form, leaving_row, leaving_chain, chain_form}
 use Rattle.sq_term.specs.Terms.{numbers, moves_from, buffers_from, in_callee, call_child, arms_of, arms_from, with_arm}
 use Rattle.sq_term.specs.Terms.{is_same_arm, arm_number, picks, TermPart, any_lower, any_same, chains, all_terms}
@@ -43,53 +41,23 @@ use Rattle.sq_term.specs.Terms.{entry_row, entry_term}
 use Rattle.sq_term.specs.Stands.{IsNumber, below, calls_in_rows, all_calls, calls_in, calls_in_all, calls_of, AreLevel}
 use Rattle.sq_term.specs.Stands.{AreLeveled}
 use Rattle.sq_term_fit.specs.Laws.{TermIsFine, EntryIsFine}
-use Rattle.sq_term_fit.specs.Fits.{Bounds, AreBounds, IsMachine, AskedOfStatement, HaveCounts, all_parts, tabled_step}
+use Rattle.sq_term_fit.specs.Fits.{Bounds, AreBounds, IsMachine, AskedOfStatement, HaveCounts, all_parts}
 use Rattle.sq_term_fit.specs.Fits.{Tabled}
 use Rattle.sq_term_fit.specs.Fits.{TabledBody, AreTabled, Has, Way, to_child, entered, Fits, NodeAt}
 use Rattle.sq_term.proofs.Numbers.{constant, table_is}
 use Rattle.sq_term.proofs.Numbers as numbers_of
 use Rattle.sq_term.proofs.Arms.{arm_of_row, pick_of, picks_are}
 use Rattle.sq_term.proofs.Maps.{MayBe, may_be}
-use Rattle.sq_term.proofs.Holds.{level_first, or_none, row_level}
+use Rattle.sq_term.proofs.Holds.{row_level}
 use Rattle.sq_term.proofs.Same.{level_left, level_right, or_left, or_rest}
 use Rattle.sq_term.proofs.Opened.{built_call, built_map, calls_call, calls_map}
+use Rattle.sq_term_fit.proofs.Chains.{tabled_call, tabled_map, Alone, map_alone}
 use Rattle.sq_term_fit.proofs.Fine.{zero_fits, const_has, pick_has, counts_has, fine_skip, fine_act, fine_seq, fine_par}
 use Rattle.sq_term_fit.proofs.Fine.{fine_loop}
 use Rattle.sq_term_fit.proofs.Fine.{fine_spread, fine_case, fine_within, fine_all, fine_arm}
 use Rattle.sq_term_fit.proofs.Fitting.{Nothing, Fine, IsRowed, rows_dropped, bring_fine, back_fine, hold_in_fine}
 use Rattle.sq_term_fit.proofs.Fitting.{hold_out_fine, clears_fine, moves_rowed, held_rowed, call_there, leaving_there}
 use Rattle.sq_term_fit.proofs.Fitting.{kept_there, uses_fit, Inside, goes_in, begins, in_turn, narrow}
-
--- ---- the equations of tables
-
-parts_same : {X : Type 0} (v : X → Statement) (k : Statement → AskedOfStatement) (xs : List X)
-    → all_parts (λ p. k (v p)) xs ≡ all_parts k (map v xs)
-parts_same v k [] = refl
-parts_same v k (x ∷ xs) = ap (λ (f : AskedOfStatement). λ n. k (v x) n × f n) (parts_same v k xs)
-
-module _ (most : Bounds) (last level : ℕ) where
-  natural : (X : Type 0) (v : X → Statement) (k : Statement → AskedOfStatement) (x : Statement-F X)
-      → tabled_step most last level X v (λ p. k (v p)) x
-      ≡ tabled_step most last level Statement (λ y. y) k (map-Statement X Statement v x)
-  natural X v k (Statement-F.Call lower times) = refl
-  natural X v k (Statement-F.Map place m counts starts parts) = ap (λ (f : AskedOfStatement). λ n.
-      HaveCounts counts n × ((k t : ℕ) → k < n → t < get_or counts k 0 → k < length starts) × (inner : ℕ)
-      × (inner ≤ most.uses)
-      × ((k t : ℕ) → k < n → t < get_or counts k 0 → get_or starts k 0 + t < inner) × f inner) (parts_same v k parts)
-
-  abbrev step : Statement-F Statement → AskedOfStatement
-  step = tabled_step most last level Statement (λ y. y) (Tabled most last level)
-
-  pub tabled_call : (lower : Bool) (times : List CallInstance) → Tabled most last level (b.Call lower times)
-      ≡ step (Statement-F.Call lower times)
-  tabled_call lower times = ap (Tabled most last level) (sym (b.rolls-Call lower times))
-      ∙ rec-roll-Statement AskedOfStatement (tabled_step most last level) natural (Statement-F.Call lower times)
-
-  pub tabled_map : (place : Place) (m : LoopKind) (counts starts : List ℕ) (parts : List Statement)
-      → Tabled most last level (b.Map place m counts starts parts) ≡ step (Statement-F.Map place m counts starts parts)
-  tabled_map place m counts starts parts = ap (Tabled most last level) (sym (b.rolls-Map place m counts starts parts))
-      ∙ rec-roll-Statement AskedOfStatement (tabled_step most last level) natural
-      (Statement-F.Map place m counts starts parts)
 
 -- ---- arms
 
@@ -129,29 +97,6 @@ pub picks_len : (qs times : List CallInstance) → length (picks qs times) ≡ l
 picks_len qs [] = refl
 picks_len qs (r ∷ times) = ap suc (picks_len qs times)
 
--- ---- chains: no same-level call, a lower one, and the level of their rows
-
-abbrev Alone : (level : ℕ → ℕ) → (at : ℕ) → Option (Chain Num) → (lower same : Bool) → List (Bool × ℕ) → Type 0
-Alone level at None lower same calls = Unit {0}
-Alone level at (Some h) lower same calls = (lower ≡ true) × (same ≡ false)
-    × (AreLevel level at calls → AreLevel level at (calls_in_rows true h.instances))
-
-call_alone : (level : ℕ → ℕ) (at : ℕ) (lower : Bool) (times : List CallInstance)
-    → Alone level at (call_chain lower times) lower (not lower) (calls_in_rows lower times)
-call_alone level at true times = (refl, refl, λ d. d)
-call_alone level at false times = tt
-
-or_true : (a : Bool) → a ≡ true → (a || false) ≡ true
-or_true true h = refl
-or_true false h = cc
-
-one_alone : (level : ℕ → ℕ) (at : ℕ) (starts : List ℕ) (o : Option (Chain Num)) (lower same : Bool)
-    (calls : List (Bool × ℕ)) → Alone level at o lower same calls
-    → Alone level at (one_more first_num starts o) (lower || false) (same || false) (calls ++ [])
-one_alone level at starts None lower same calls h = tt
-one_alone level at starts (Some u) lower same calls h
-    = (or_true lower h.0, or_none same h.1, λ d. h.2 (level_first level at calls [] d))
-
 pub either : (a b : Bool) → (a || b) ≡ true → (a ≡ true) ⊎ (b ≡ true)
 either true b h = inl refl
 either false b h = inr h
@@ -167,12 +112,103 @@ spread_lower rule r m inside lower same = go (is_beside m) inside lower
     go true false false e = cc
     go false y false e = cc
 
+-- ---- what is moved round a loop that arguments leave
+
+-- in front of the loop and behind it
+pub record AreMoved (s : Setting) (asked : AskedOfActions) (turns : List ℕ) (ms : List Move) : Type 0 where
+  pub ins : (env : Env) (bs : List ℕ) → env.turns ≡ turns → each_part (Meets s asked) (map hold_in_term ms) env bs
+  pub outs : (env : Env) (bs : List ℕ) → env.turns ≡ turns → each_part (Meets s asked) (map hold_out_term ms) env bs
+
+module _ (bodies : ℕ → FormBody) (homes : ℕ → Homes) where
+  -- by a call with this first row
+  abbrev pub moved_by : Context → Chain Num → CallInstance → List Move
+  moved_by c h r = held_moves (bodies r.form).arrays (homes r.form).params c.views h.instances (h.first c.ordinal)
+      (leaving_row homes h.loops (Some r))
+
+  abbrev pub Held : Setting → AskedOfActions → (turns : List ℕ) → Context → Option (Chain Num) → Type 0
+  Held s asked turns c None = Unit {0}
+  Held s asked turns c (Some h) = (r : CallInstance) → slice_get h.instances 0 ≡ Some r
+      → AreMoved s asked turns (moved_by c h r)
+
 module _ (s : Setting) (most : Bounds) (bounds : AreBounds most) (last : ℕ) (is_at : ℕ → ℕ → Type 0)
     (machine : IsMachine s most last is_at)
     (bodies : ℕ → FormBody) (homes : ℕ → Homes) (level : ℕ → ℕ) (leveled : AreLeveled s bodies homes level)
     (tabled : AreTabled s most last bodies homes level) where
   pub one_fits : IsValue Long (pos 1)
   one_fits = uses_fit s most bounds last is_at machine 1 bounds.once
+
+  -- ---- a loop that arguments leave
+
+  module _ (asked : AskedOfActions) (at : ℕ) where
+    pub hold_meets : (o : Option (Chain Num)) (lower same : Bool) (calls : List (Bool × ℕ))
+        → Alone level at o lower same calls → AreLevel level at calls → (lower ≡ true → at < last)
+        → (k : ℕ) (c : Context) (env : Env) (inside : Bool) (bs : List ℕ) → Fits s last is_at env at c inside same k
+        → Held bodies homes s asked env.turns c o → (loop : Bool → Context → Term) → Meets s asked (loop inside c) env bs
+        → ((in_env : Env) (more : List ℕ) → in_env.turns ≡ env.turns
+        → Fits s last is_at in_env at (at_child_already c) true same k
+        → Meets s asked (loop true (at_child_already c)) in_env more)
+        → Meets s asked (hold_term (bodies (chain_form o)).arrays (homes (chain_form o)).params (chain_times o)
+        (chain_num o c.ordinal) (leaving_chain homes o) inside c loop) env bs
+    hold_meets None lower same calls alone deep low k c env inside bs h held loop plainly within = plainly
+    hold_meets (Some o) lower same calls alone deep low k c env inside bs h held loop plainly within
+        = go (slice_get o.instances 0) refl
+      where
+        in_env : Env
+        in_env = inside_of s env c.child
+
+        goes : Inside s most bounds last is_at machine in_env (suc at) × IsChild s env c.child
+        goes = goes_in s most bounds last is_at machine env at true inside h.here (λ e. low alone.0)
+            (subst (λ (z : Bool). Way s env last at inside z c.child) alone.1 h.way)
+
+        turns : (p : Option Num) → (inside_of s env p).turns ≡ env.turns
+        turns None = refl
+        turns (Some x) = refl
+
+        already : Fits s last is_at in_env at (at_child_already c) true same k
+        already = record {
+          ordinal = subst (λ (t : List ℕ). IsNumber s t c.ordinal k) (sym (turns c.child)) h.ordinal;
+          has = subst (λ (t : List ℕ). Has s t c.ordinal) (sym (turns c.child)) h.has;
+          way = entered goes.0.level_is refl alone.1;
+          here = goes.0.here;
+        }
+
+        lists : (f : ℕ) → level f ≡ suc at → (ps : List (ℕ × Argument))
+            → AreMoved s asked env.turns
+            (held_moves (bodies f).arrays (homes f).params c.views o.instances (o.first c.ordinal) ps)
+            → Meets s asked (hold_term (bodies f).arrays (homes f).params o.instances (o.first c.ordinal) ps inside c
+            loop) env bs
+        lists f to [] moved = plainly
+        lists f to (p ∷ ps) moved =
+            let new = leaving_buffers (homes f).params (p ∷ ps) in
+            fine_within s asked env bs c.child new _ goes.1
+            (subst (λ (l : ℕ). All (IsBuffer s l) new) (to ∙ sym goes.0.level_is)
+            (leaving_there s (level f) (homes f).params (leveled.params f) (tabled.params f) (p ∷ ps)))
+            (fine_seq s asked in_env (new ++ bs) _ (
+              fine_par s asked in_env (new ++ bs) _ (moved.ins in_env (new ++ bs) (turns c.child)),
+              (
+                within in_env (new ++ bs) (turns c.child) already,
+                (fine_par s asked in_env (new ++ bs) _ (moved.outs in_env (new ++ bs) (turns c.child)), tt),
+              ),
+            ))
+
+        go : (r : Option CallInstance) → slice_get o.instances 0 ≡ r
+            → Meets s asked (hold_term (bodies (row_form r)).arrays (homes (row_form r)).params o.instances
+            (o.first c.ordinal) (leaving_row homes o.loops r) inside c loop) env bs
+        go None e = plainly
+        go (Some r) e = lists r.form (row_level level at true o.instances 0 r (alone.2 deep) e)
+            (leaving_row homes o.loops (Some r)) (held r e)
+
+  -- nothing is asked of what is moved
+  held_fine : (turns : List ℕ) (c : Context) (o : Option (Chain Num)) → Held bodies homes s Nothing turns c o
+  held_fine turns c None = tt
+  held_fine turns c (Some h) = λ r e.
+      let ms = moved_by bodies homes c h r in
+      let rowed = held_rowed (bodies r.form).arrays (homes r.form).params c.views h.instances (h.first c.ordinal)
+      (leaving_row homes h.loops (Some r)) (tabled.rows r.form) one_fits in
+      record {
+        ins = λ env bs t. fine_all s Nothing env bs IsRowed hold_in_term (hold_in_fine s env bs) ms rowed;
+        outs = λ env bs t. fine_all s Nothing env bs IsRowed hold_out_term (hold_out_fine s env bs) ms rowed;
+      }
 
   -- the callees' terms are well formed
   abbrev pub AreFine : (ℕ → Context → Term) → Type 0
@@ -282,74 +318,6 @@ module _ (s : Setting) (most : Bounds) (bounds : AreBounds most) (last : ℕ) (i
               (tabled.params has.arm.form) 0 has.arm.args))
               deep_arm low one_fits h.here h.way)
 
-      -- a loop that arguments leave
-      hold_fine : (o : Option (Chain Num)) (lower same : Bool) (calls : List (Bool × ℕ))
-          → Alone level at o lower same calls → AreLevel level at calls → (lower ≡ true → at < last)
-          → IsValue Long (pos 1)
-          → (k : ℕ) (c : Context) (env : Env) (inside : Bool) (bs : List ℕ) → Fits s last is_at env at c inside same k
-          → (loop : Bool → Context → Term)
-          → ((within_it : Bool) (d : Context) (in_env : Env) (more : List ℕ)
-          → Fits s last is_at in_env at d within_it same k → Fine s (loop within_it d) in_env more)
-          → Fine s (hold_term (bodies (chain_form o)).arrays (homes (chain_form o)).params (chain_times o)
-          (chain_num o c.ordinal) (leaving_chain homes o) inside c loop) env bs
-      hold_fine None lower same calls alone deep low one k c env inside bs h loop is = is inside c env bs h
-      hold_fine (Some o) lower same calls alone deep low one k c env inside bs h loop is
-          = go (slice_get o.instances 0) refl
-        where
-          in_env : Env
-          in_env = inside_of s env c.child
-
-          goes : Inside s most bounds last is_at machine in_env (suc at) × IsChild s env c.child
-          goes = goes_in s most bounds last is_at machine env at true inside h.here (λ e. low alone.0)
-              (subst (λ (z : Bool). Way s env last at inside z c.child) alone.1 h.way)
-
-          turns : (p : Option Num) → (inside_of s env p).turns ≡ env.turns
-          turns None = refl
-          turns (Some x) = refl
-
-          within : Fits s last is_at in_env at (at_child_already c) true same k
-          within = record {
-            ordinal = subst (λ (t : List ℕ). IsNumber s t c.ordinal k) (sym (turns c.child)) h.ordinal;
-            has = subst (λ (t : List ℕ). Has s t c.ordinal) (sym (turns c.child)) h.has;
-            way = entered goes.0.level_is refl alone.1;
-            here = goes.0.here;
-          }
-
-          lists : (f : ℕ) → level f ≡ suc at → (ps : List (ℕ × Argument))
-              → Fine s (hold_term (bodies f).arrays (homes f).params o.instances (o.first c.ordinal) ps inside c loop)
-              env bs
-          lists f to [] = is inside c env bs h
-          lists f to (p ∷ ps) =
-              let new = leaving_buffers (homes f).params (p ∷ ps) in
-              let ms = held_moves (bodies f).arrays (homes f).params c.views o.instances (o.first c.ordinal) (p ∷ ps) in
-              let rowed = held_rowed (bodies f).arrays (homes f).params c.views o.instances (o.first c.ordinal) (p ∷ ps)
-              (tabled.rows f) one in
-              fine_within s Nothing env bs c.child new _ goes.1
-              (subst (λ (l : ℕ). All (IsBuffer s l) new) (to ∙ sym goes.0.level_is)
-              (leaving_there s (level f) (homes f).params (leveled.params f) (tabled.params f) (p ∷ ps)))
-              (fine_seq s Nothing in_env (new ++ bs) _ (
-                fine_par s Nothing in_env (new ++ bs) _
-                    (fine_all s Nothing in_env (new ++ bs) IsRowed hold_in_term (hold_in_fine s in_env (new ++ bs)) ms
-                    rowed),
-                (
-                  is true (at_child_already c) in_env (new ++ bs) within,
-                  (
-                    fine_par s Nothing in_env (new ++ bs) _
-                        (fine_all s Nothing in_env (new ++ bs) IsRowed hold_out_term
-                        (hold_out_fine s in_env (new ++ bs)) ms
-                        rowed),
-                    tt,
-                  ),
-                ),
-              ))
-
-          go : (r : Option CallInstance) → slice_get o.instances 0 ≡ r
-              → Fine s (hold_term (bodies (row_form r)).arrays (homes (row_form r)).params o.instances
-              (o.first c.ordinal) (leaving_row homes o.loops r) inside c loop) env bs
-          go None e = is inside c env bs h
-          go (Some r) e = lists r.form (row_level level at true o.instances 0 r (alone.2 deep) e)
-              (leaving_row homes o.loops (Some r))
-
       module _ (rule : SpreadRule) where
         abbrev built : Statement → TermPart
         built = statement_term bodies homes made rule
@@ -358,7 +326,6 @@ module _ (s : Setting) (most : Bounds) (bounds : AreBounds most) (last : ℕ) (i
         Asked = Tabled most last at
 
         record Agrees (x : Statement) : Type 0 where
-          alone : Alone level at (built x).chain (built x).lower (built x).same (calls_in x)
           low : (m : ℕ) → Asked x m → (built x).lower ≡ true → at < last
           is : (op : Option RedOp) (m k : ℕ) (c : Context) (env : Env) (inside : Bool) (bs : List ℕ)
               → AreLevel level at (calls_in x) → Asked x m → k < m → m ≤ most.uses
@@ -372,18 +339,6 @@ module _ (s : Setting) (most : Bounds) (bounds : AreBounds most) (last : ℕ) (i
 
         abbrev all_built_of : List Known → List TermPart
         all_built_of xs = map built (begun xs)
-
-        alones : (m : LoopKind) (starts : List ℕ) (xs : List Known)
-            → Alone level at (chain_of first_num m starts (chains (all_built_of xs))) (any_lower (all_built_of xs))
-            (any_same (all_built_of xs)) (all_calls (map calls_in (begun xs)))
-        alones loop_kind.Sequential starts [] = tt
-        alones loop_kind.Sequential starts (x ∷ [])
-            = one_alone level at starts (built x.0).chain (built x.0).lower (built x.0).same (calls_in x.0) x.1.alone
-        alones loop_kind.Sequential starts (x ∷ y ∷ xs) = tt
-        alones loop_kind.Parallel starts [] = tt
-        alones loop_kind.Parallel starts (x ∷ xs) = tt
-        alones (loop_kind.Reduction r) starts [] = tt
-        alones (loop_kind.Reduction r) starts (x ∷ xs) = tt
 
         lows : (xs : List Known) (m : ℕ) → all_parts Asked (begun xs) m → any_lower (all_built_of xs) ≡ true → at < last
         lows [] m h e = cc
@@ -480,10 +435,6 @@ module _ (s : Setting) (most : Bounds) (bounds : AreBounds most) (last : ℕ) (i
 
         agrees_step : (y : Statement-F Known) → Agrees (roll-Statement (map-Statement Known Statement (λ q. q.0) y))
         agrees_step (Statement-F.Call lower times) = subst Agrees (sym (b.rolls-Call lower times)) (record {
-          alone = subst (λ (p : TermPart). Alone level at p.chain p.lower p.same (calls_in (b.Call lower times)))
-              (sym (built_call bodies homes made rule lower times))
-              (subst (Alone level at (call_chain lower times) lower (not lower)) (sym (calls_call lower times))
-              (call_alone level at lower times));
           low = λ m h e. (subst (λ (f : AskedOfStatement). f m) (tabled_call most last at lower times) h).2
               (sym (ap (λ (p : TermPart). p.lower) (built_call bodies homes made rule lower times)) ∙ e);
           is = λ op m k c env inside bs deep h l short g.
@@ -497,12 +448,6 @@ module _ (s : Setting) (most : Bounds) (bounds : AreBounds most) (last : ℕ) (i
         })
         agrees_step (Statement-F.Map place m counts starts xs)
             = subst Agrees (sym (b.rolls-Map place m counts starts (begun xs))) (record {
-              alone = subst (λ (p : TermPart). Alone level at p.chain p.lower p.same
-                  (calls_in (b.Map place m counts starts (begun xs))))
-                  (sym (built_map bodies homes made rule place m counts starts (begun xs)))
-                  (subst (Alone level at (chain_of first_num m starts (chains (all_built_of xs)))
-                  (any_lower (all_built_of xs)) (any_same (all_built_of xs)))
-                  (sym (calls_map place m counts starts (begun xs))) (alones m starts xs));
               low = λ n h e. let asked = subst (λ (f : AskedOfStatement). f n)
                   (tabled_map most last at place m counts starts (begun xs)) h in
                   lows xs asked.2 asked.5 (sym
@@ -512,16 +457,20 @@ module _ (s : Setting) (most : Bounds) (bounds : AreBounds most) (last : ℕ) (i
                   let asked = subst (λ (f : AskedOfStatement). f n)
                   (tabled_map most last at place m counts starts (begun xs)) h in
                   let deeper = subst (AreLevel level at) (calls_map place m counts starts (begun xs)) deep in
+                  let fits = subst (λ (z : Bool). Fits s last is_at env at c inside z k)
+                  (ap (λ (p : TermPart). p.same) (built_map bodies homes made rule place m counts starts (begun xs))) g in
                   subst (λ (p : TermPart). Fine s (p.build op inside c) env bs)
                   (sym (built_map bodies homes made rule place m counts starts (begun xs)))
-                  (hold_fine (chain_of first_num m starts (chains (all_built_of xs))) (any_lower (all_built_of xs))
-                  (any_same (all_built_of xs)) (all_calls (map calls_in (begun xs))) (alones m starts xs) deeper
-                  (lows xs asked.2 asked.5) one_fits k c env inside bs
-                  (subst (λ (z : Bool). Fits s last is_at env at c inside z k)
-                  (ap (λ (p : TermPart). p.same) (built_map bodies homes made rule place m counts starts (begun xs))) g)
+                  (hold_meets Nothing at (chain_of first_num m starts (chains (all_built_of xs)))
+                  (any_lower (all_built_of xs)) (any_same (all_built_of xs))
+                  (calls_in (b.Map place m counts starts (begun xs)))
+                  (map_alone level at bodies homes made rule place m counts starts (begun xs)) deep
+                  (lows xs asked.2 asked.5) k c env inside bs fits
+                  (held_fine env.turns c (chain_of first_num m starts (chains (all_built_of xs))))
                   (loop_term rule m counts starts (all_built_of xs))
-                  (λ within_it d in_env more f. map_fine m counts starts xs n k d in_env within_it more deeper asked l
-                  f));
+                  (map_fine m counts starts xs n k c env inside bs deeper asked l fits)
+                  (λ in_env more t f. map_fine m counts starts xs n k (at_child_already c) in_env true more deeper asked
+                  l f));
             })
 
         agrees : (x : Statement) → Agrees x

@@ -6,7 +6,6 @@ use Rattle.std.specs.List.{All}
 use Rattle.sq_num.specs.declared.RedOp.{RedOp}
 use Rattle.sq_num.specs.declared.Elem.TheVariants.{Long}
 use Rattle.sq_num.specs.Elements.{IsValue}
-use Rattle.sq_text.specs.declared.place.Place.{Place}
 use Rattle.sq_text.specs.declared.spread.SpreadRule.{SpreadRule}
 use Rattle.sq_leaf.specs.declared.shape.Shape.{Shape}
 use Rattle.sq_ir.specs.Written.{Setting, Env, value_of, at_turn, at_root, node_of, inside_of}
@@ -22,7 +21,7 @@ use Rattle.sq_spec.specs.declared.statement.CallInstance.{CallInstance}
 use Rattle.sq_spec.specs.declared.statement.Statement.{Statement, roll-Statement}
 use Rattle.sq_spec.specs.declared.statement.Statement.TheVariants as b
 use Rattle.sq_spec.specs.declared.statement.Statement.TheOpen.{Statement-F}
-use Rattle.sq_spec.specs.declared.statement.Statement.TheFolds.{ind-Statement, map-Statement, fold-roll-Statement}
+use Rattle.sq_spec.specs.declared.statement.Statement.TheFolds.{ind-Statement, map-Statement}
 use Rattle.sq_spec.specs.declared.body.Body.{Body}
 use Rattle.sq_spec.specs.declared.body.Body.TheVariants as body
 use Rattle.sq_spec.specs.declared.body.FormBody.{FormBody}
@@ -31,12 +30,12 @@ use Rattle.sq_placed.specs.declared.home.Homes.{Homes}
 use Rattle.sq_term.specs.declared.context.Context.{Context}
 use Rattle.sq_term.specs.declared.context.Move.{Move}
 use Rattle.sq_placed.specs.Trees.{local_buffers}
-use Rattle.sq_placed.specs.Tables.{locals_of, op_of, spread_of, Chain, chain_of, leaving_row, leaving_chain, chain_form}
-use Rattle.sq_placed.specs.Tables.{leaving_args, leaves_loop, placed_locals}
+use Rattle.sq_placed.specs.Tables.{locals_of, op_of, spread_of, chain_of}
+use Rattle.sq_placed.specs.Tables.{placed_locals}
 use Rattle.sq_term.specs.Terms.{numbers, local_view, clear_term, moves_from, buffers_from, in_callee, call_child}
 use Rattle.sq_term.specs.Terms.{arms_of, arm_number, picks, TermPart, any_lower, any_same, chains, all_terms, in_map}
 use Rattle.sq_term.specs.Terms.{map_term, arm_term, arm_of_form, rows_term, count_num, loop_term, statement_term}
-use Rattle.sq_term.specs.Terms.{first_num, chain_times, chain_num, hold_term, body_term, term_of, entry_context}
+use Rattle.sq_term.specs.Terms.{at_child_already, first_num, body_term, term_of, entry_context}
 use Rattle.sq_term.specs.Terms.{entry_row, entry_term, entry_views, buffer_or}
 use Rattle.sq_term.specs.Stands.{below, calls_in_rows, all_calls, calls_in, calls_in_all, calls_of, AreLevel}
 use Rattle.sq_term.specs.Stands.{AreLeveled, Each, none, more}
@@ -55,53 +54,37 @@ use Rattle.sq_term_fit.proofs.Fine.{fine_loop}
 use Rattle.sq_term_fit.proofs.Fine.{fine_spread, fine_case, fine_within, fine_arm}
 use Rattle.sq_term_fit.proofs.Fitting.{call_there, kept_there, uses_fit, Inside, goes_in, begins, in_turn, narrow}
 use Rattle.sq_placed.specs.declared.home.Home.TheVariants.{InPlace}
-use Rattle.sq_term_fit.specs.Rooms.{RowsInside, IsRoomy, IsRoomyMove, IsWhole, AreWhole, FitsInto, HomeFits, ArgFits}
-use Rattle.sq_term_fit.specs.Rooms.{Sees, joined_rows, reached_step, reached_in, reached_of, RowFits, RowsFit, AreRoomy}
+use Rattle.sq_term_fit.specs.Rooms.{RowsInside, IsRoomy, IsRoomyMove, AreWhole, FitsInto, HomeFits, ArgFits}
+use Rattle.sq_term_fit.specs.Rooms.{Sees, joined_rows, reached_in, reached_of, RowFits, RowsFit, AreRoomy}
 use Rattle.sq_term_fit.specs.Rooms.{EntryFits}
+use Rattle.sq_term_fit.specs.Leaves.{left_of, AskedInLoops, each_in, loops_in, Leaves, BodyLeaves, joined_calls, by_call}
+use Rattle.sq_term_fit.specs.Leaves.{AreSame, BodySame}
 use Rattle.sq_term_fit.specs.Laws.{TermIsRoomy, EntryIsRoomy}
 use Rattle.sq_term.proofs.Whole.{heads_refl}
 use Rattle.sq_term_fit.proofs.Blocks.{roomy_buffer, fill_good, bring_good, back_good}
 use Rattle.sq_term_fit.proofs.Rooming.{eight_fits}
-use Rattle.sq_term_fit.proofs.Seeing.{moves_roomy, callee_sees, sees_turn, leaf_good, locals_roomy}
-use Rattle.sq_term_fit.proofs.Meeting.{tabled_call, tabled_map, arm_below, arms_len, picks_len, either, spread_lower}
+use Rattle.sq_term_fit.proofs.Seeing.{moves_roomy, callee_sees, sees_turn, leaf_good, locals_roomy, whole_at, taken}
+use Rattle.sq_term_fit.proofs.Seeing.{row_fits}
+use Rattle.sq_term_fit.proofs.Holding.{some_loops, held_good}
+use Rattle.sq_term_fit.proofs.Chains.{tabled_call, tabled_map, leaves_map, reached_call, reached_map, by_call_map}
+use Rattle.sq_term_fit.proofs.Chains.{map_alone, map_is_led}
+use Rattle.sq_term_fit.proofs.Meeting.{hold_meets, arm_below, arms_len, picks_len, either, spread_lower}
 
 abbrev pub Good : Setting → Term → Env → List ℕ → Type 0
 Good s x env bs = Meets s (RowsInside s) x env bs
-
--- ---- the rows of calls
-
-reached_call : (lower : Bool) (times : List CallInstance) → reached_in (b.Call lower times) ≡ times
-reached_call lower times = ap reached_in (sym (b.rolls-Call lower times))
-    ∙ fold-roll-Statement (List CallInstance) reached_step (Statement-F.Call lower times)
-
-reached_map : (place : Place) (m : LoopKind) (counts starts : List ℕ) (parts : List Statement)
-    → reached_in (b.Map place m counts starts parts) ≡ joined_rows (map reached_in parts)
-reached_map place m counts starts parts = ap reached_in (sym (b.rolls-Map place m counts starts parts))
-    ∙ fold-roll-Statement (List CallInstance) reached_step (Statement-F.Map place m counts starts parts)
-
-whole_at : (xs : List Shape) → AreWhole xs → (i : ℕ) (x : Shape) → slice_get xs i ≡ Some x → IsWhole x
-whole_at [] w i x e = cc
-whole_at (y ∷ xs) w zero x e = let g : y ≡ x = cc in subst IsWhole g w.0
-whole_at (y ∷ xs) w (suc i) x e = whole_at xs w.1 i x e
 
 whole_dropped : (k : ℕ) (xs : List Shape) → AreWhole xs → AreWhole (drop k xs)
 whole_dropped zero xs h = h
 whole_dropped (suc k) [] h = tt
 whole_dropped (suc k) (x ∷ xs) h = whole_dropped k xs h.1
 
-taken : (k : ℕ) (xs : List Shape) (j : ℕ) (y : Shape) → slice_get (take k xs) j ≡ Some y → slice_get xs j ≡ Some y
-taken zero xs j y e = cc
-taken (suc k) [] j y e = cc
-taken (suc k) (x ∷ xs) zero y e = e
-taken (suc k) (x ∷ xs) (suc j) y e = taken k xs j y e
+same_left : (xs ys : List (List CallInstance)) → AreSame (xs ++ ys) → AreSame xs
+same_left [] ys h = tt
+same_left (x ∷ xs) ys h = (h.0, same_left xs ys h.1)
 
--- nothing leaves a loop
-none_leave : (hs : List Home) → ((i loops : ℕ) → leaves_loop loops (get_or hs i InPlace) ≡ false)
-    → (loops i : ℕ) (args : List Argument) → leaving_args loops hs i args ≡ []
-none_leave hs h loops i [] = refl
-none_leave hs h loops i (a ∷ rest)
-    = ap (λ (z : Bool). if z then (i, a) ∷ leaving_args loops hs (suc i) rest else leaving_args loops hs (suc i) rest)
-    (h i loops) ∙ none_leave hs h loops (suc i) rest
+same_right : (xs ys : List (List CallInstance)) → AreSame (xs ++ ys) → AreSame ys
+same_right [] ys h = h
+same_right (x ∷ xs) ys h = same_right xs ys h.1
 
 module _ (s : Setting) (most : Bounds) (bounds : AreBounds most) (last : ℕ) (is_at : ℕ → ℕ → Type 0)
     (machine : IsMachine s most last is_at)
@@ -119,20 +102,6 @@ module _ (s : Setting) (most : Bounds) (bounds : AreBounds most) (last : ℕ) (i
       → RowsFit bodies homes outer ys
   rows_right outer [] ys h = h
   rows_right outer (x ∷ xs) ys h = rows_right outer xs ys h.1
-
-  row_fits : (outer : List Shape) (times : List CallInstance) (k : ℕ) (r : CallInstance)
-      → RowsFit bodies homes outer times → slice_get times k ≡ Some r → RowFits bodies homes outer r
-  row_fits outer [] k r h e = cc
-  row_fits outer (x ∷ times) zero r h e = let g : x ≡ r = cc in subst (RowFits bodies homes outer) g h.0
-  row_fits outer (x ∷ times) (suc k) r h e = row_fits outer times k r h.1 e
-
-  unheld_chain : (o : Option (Chain Num)) → leaving_chain homes o ≡ []
-  unheld_chain None = refl
-  unheld_chain (Some h) = go (slice_get h.instances 0)
-    where
-      go : (r : Option CallInstance) → leaving_row homes h.loops r ≡ []
-      go None = refl
-      go (Some r) = none_leave (homes r.form).params (roomy.unheld r.form) h.loops 0 r.args
 
   -- the callees' terms are well formed
   abbrev pub AreGood : (ℕ → Context → Term) → Type 0
@@ -296,7 +265,7 @@ module _ (s : Setting) (most : Bounds) (bounds : AreBounds most) (last : ℕ) (i
               (call_there s (level has.arm.form) (homes has.arm.form).params (leveled.params has.arm.form)
               (tabled.params has.arm.form) 0 has.arm.args))
               (roomy.params has.arm.form) deep_arm low e (omega (arith, below_m, long)) has.form has.heads
-              (row_fits outer times k r fitting e) h seen)
+              (row_fits bodies homes outer times k r fitting e) h seen)
 
       module _ (rule : SpreadRule) where
         abbrev built : Statement → TermPart
@@ -309,7 +278,8 @@ module _ (s : Setting) (most : Bounds) (bounds : AreBounds most) (last : ℕ) (i
           low : (m : ℕ) → Asked x m → (built x).lower ≡ true → at < last
           is : (op : Option RedOp) (m k : ℕ) (c : Context) (env : Env) (inside : Bool) (bs : List ℕ)
               → AreLevel level at (calls_in x) → Asked x m → k < m → m ≤ most.uses
-              → RowsFit bodies homes outer (reached_in x)
+              → RowsFit bodies homes outer (reached_in x) → AreSame (by_call x)
+              → (loops : List (List ℕ)) → Leaves (left_of homes) x loops
               → Fits s last is_at env at c inside (built x).same k → Sees s env.turns outer c
               → Good s ((built x).build op inside c) env bs
 
@@ -333,19 +303,23 @@ module _ (s : Setting) (most : Bounds) (bounds : AreBounds most) (last : ℕ) (i
             (bs : List ℕ)
             → AreLevel level at (all_calls (map calls_in (begun xs))) → all_parts Asked (begun xs) m → k < m → m
             ≤ most.uses → RowsFit bodies homes outer (joined_rows (map reached_in (begun xs)))
+            → AreSame (joined_calls (map by_call (begun xs)))
+            → (loops : List (List ℕ)) → each_in (Leaves (left_of homes)) (begun xs) loops
             → Fits s last is_at env at c inside (any_same (all_built_of xs)) k → Sees s env.turns outer c
             → each_part (Meets s (RowsInside s)) (all_terms (all_built_of xs) op inside c) env bs
-        all_good [] op m k c env inside bs deep asked l short fitting h seen = tt
-        all_good (x ∷ xs) op m k c env inside bs deep asked l short fitting h seen =
+        all_good [] op m k c env inside bs deep asked l short fitting same loops leave h seen = tt
+        all_good (x ∷ xs) op m k c env inside bs deep asked l short fitting same loops leave h seen =
             let more_same = any_same (all_built_of xs) in (
               x.1.is op m k c env inside bs
                   (level_left level at (calls_in x.0) (all_calls (map calls_in (begun xs))) deep) asked.0 l short
                   (rows_left outer (reached_in x.0) (joined_rows (map reached_in (begun xs))) fitting)
+                  (same_left (by_call x.0) (joined_calls (map by_call (begun xs))) same) loops leave.0
                   (narrow s last is_at env at c inside _ (built x.0).same k (or_left (built x.0).same more_same) h)
                   seen,
               all_good xs op m k c env inside bs
                   (level_right level at (calls_in x.0) (all_calls (map calls_in (begun xs))) deep) asked.1 l short
                   (rows_right outer (reached_in x.0) (joined_rows (map reached_in (begun xs))) fitting)
+                  (same_right (by_call x.0) (joined_calls (map by_call (begun xs))) same) loops leave.1
                   (narrow s last is_at env at c inside _ more_same k (or_rest (built x.0).same more_same) h) seen,
             )
 
@@ -358,9 +332,11 @@ module _ (s : Setting) (most : Bounds) (bounds : AreBounds most) (last : ℕ) (i
             × ((k t : ℕ) → k < n → t < get_or counts k 0 → get_or starts k 0 + t < inner)
             × all_parts Asked (begun xs) inner
             → k < n → RowsFit bodies homes outer (joined_rows (map reached_in (begun xs)))
+            → AreSame (joined_calls (map by_call (begun xs)))
+            → (loops : List (List ℕ)) → each_in (Leaves (left_of homes)) (begun xs) loops
             → Fits s last is_at env at c inside (any_same (all_built_of xs)) k → Sees s env.turns outer c
             → Good s (loop_term rule m counts starts (all_built_of xs) inside c) env bs
-        map_good m counts starts xs n k c env inside bs deep asked l fitting h seen = go chosen refl
+        map_good m counts starts xs n k c env inside bs deep asked l fitting alike loops leave h seen = go chosen refl
           where
             lower : Bool
             lower = any_lower (all_built_of xs)
@@ -399,7 +375,7 @@ module _ (s : Setting) (most : Bounds) (bounds : AreBounds most) (last : ℕ) (i
             body_good spread may t turned =
                 fine_seq s (RowsInside s) (at_turn env t) bs _
                 (all_good xs (op_of m) asked.2 (get_or starts k 0 + t) (in_map spread count starts c) (at_turn env t)
-                (inside || is_some spread) bs deep asked.5 (asked.4 k t l turned) asked.3 fitting
+                (inside || is_some spread) bs deep asked.5 (asked.4 k t l turned) asked.3 fitting alike loops leave
                 (in_turn s most bounds last is_at machine env at c inside same k spread may count times counted few has
                 starts asked.2 t turned asked.3 (asked.4 k t l turned) (asked.1 k t l turned) h)
                 (sees_turn s env.turns outer c spread count starts t
@@ -426,7 +402,7 @@ module _ (s : Setting) (most : Bounds) (bounds : AreBounds most) (last : ℕ) (i
         agrees_step (Statement-F.Call lower times) = subst Agrees (sym (b.rolls-Call lower times)) (record {
           low = λ m h e. (subst (λ (f : AskedOfStatement). f m) (tabled_call most last at lower times) h).2
               (sym (ap (λ (p : TermPart). p.lower) (built_call bodies homes made rule lower times)) ∙ e);
-          is = λ op m k c env inside bs deep h l short fitting g seen.
+          is = λ op m k c env inside bs deep h l short fitting same loops leave g seen.
               let asked = subst (λ (f : AskedOfStatement). f m) (tabled_call most last at lower times) h in
               subst (λ (p : TermPart). Good s (p.build op inside c) env bs)
               (sym (built_call bodies homes made rule lower times))
@@ -442,24 +418,36 @@ module _ (s : Setting) (most : Bounds) (bounds : AreBounds most) (last : ℕ) (i
                   lows xs asked.2 asked.5 (sym
                   (ap (λ (p : TermPart). p.lower) (built_map bodies homes made rule place m counts starts (begun xs)))
                   ∙ e);
-              is = λ op n k c env inside bs deep h l short fitting g seen.
+              is = λ op n k c env inside bs deep h l short fitting same loops leave g seen.
+                  let x = b.Map place m counts starts (begun xs) in
+                  let o = chain_of first_num m starts (chains (all_built_of xs)) in
                   let asked = subst (λ (f : AskedOfStatement). f n)
                   (tabled_map most last at place m counts starts (begun xs)) h in
                   let deeper = subst (AreLevel level at) (calls_map place m counts starts (begun xs)) deep in
+                  let fits = subst (λ (z : Bool). Fits s last is_at env at c inside z k)
+                  (ap (λ (p : TermPart). p.same) (built_map bodies homes made rule place m counts starts (begun xs))) g in
+                  let reached = subst (RowsFit bodies homes outer) (reached_map place m counts starts (begun xs)) fitting in
+                  let alike = subst AreSame (by_call_map place m counts starts (begun xs)) same in
+                  let left = subst (λ (f : AskedInLoops). f loops)
+                  (leaves_map (left_of homes) place m counts starts (begun xs)) leave in
                   subst (λ (p : TermPart). Good s (p.build op inside c) env bs)
                   (sym (built_map bodies homes made rule place m counts starts (begun xs)))
-                  (subst (λ (ps : List (ℕ × Argument)). Good s
-                  (hold_term (bodies (chain_form (chain_of first_num m starts (chains (all_built_of xs))))).arrays
-                  (homes (chain_form (chain_of first_num m starts (chains (all_built_of xs))))).params
-                  (chain_times (chain_of first_num m starts (chains (all_built_of xs))))
-                  (chain_num (chain_of first_num m starts (chains (all_built_of xs))) c.ordinal) ps inside c
-                  (loop_term rule m counts starts (all_built_of xs))) env bs)
-                  (sym (unheld_chain (chain_of first_num m starts (chains (all_built_of xs)))))
-                  (map_good m counts starts xs n k c env inside bs deeper asked l
-                  (subst (RowsFit bodies homes outer) (reached_map place m counts starts (begun xs)) fitting)
-                  (subst (λ (z : Bool). Fits s last is_at env at c inside z k)
-                  (ap (λ (p : TermPart). p.same) (built_map bodies homes made rule place m counts starts (begun xs))) g)
-                  seen));
+                  (hold_meets s most bounds last is_at machine bodies homes level leveled tabled (RowsInside s) at o
+                  (any_lower (all_built_of xs)) (any_same (all_built_of xs)) (calls_in x)
+                  (map_alone level at bodies homes made rule place m counts starts (begun xs)) deep
+                  (lows xs asked.2 asked.5) k c env inside bs fits
+                  (held_good s bodies homes roomy outer env.turns c seen.views o
+                  (some_loops m starts (chains (all_built_of xs))) (reached_in x) (by_call x) (Asked x)
+                  (Leaves (left_of homes) x)
+                  (map_is_led s (left_of homes) most (uses_fit s most bounds last is_at machine) last at bodies homes made
+                  rule place m counts starts (begun xs)) loops leave fitting same n k h l g.ordinal g.has)
+                  (loop_term rule m counts starts (all_built_of xs))
+                  (map_good m counts starts xs n k c env inside bs deeper asked l reached alike
+                  (loops_in m (begun xs) counts loops) left fits seen)
+                  (λ in_env more t f. map_good m counts starts xs n k (at_child_already c) in_env true more deeper asked
+                  l reached alike (loops_in m (begun xs) counts loops) left f
+                  (subst (λ (ts : List ℕ). Sees s ts outer (at_child_already c)) (sym t)
+                  (record { views = seen.views; numbers = seen.numbers; path = seen.path }))));
             })
 
         agrees : (x : Statement) → Agrees x
@@ -479,32 +467,35 @@ module _ (s : Setting) (most : Bounds) (bounds : AreBounds most) (last : ℕ) (i
 
         list_good : 1 ≤ most.uses → (list : List Statement) (c : Context) (env : Env) (bs : List ℕ)
             → AreLevel level at (calls_in_all list) → all_parts Asked list 1
-            → RowsFit bodies homes outer (joined_rows (map reached_in list)) → Fits s last is_at env at c false true 0
-            → Sees s env.turns outer c
+            → RowsFit bodies homes outer (joined_rows (map reached_in list))
+            → AreSame (joined_calls (map by_call list)) → each_in (Leaves (left_of homes)) list []
+            → Fits s last is_at env at c false true 0 → Sees s env.turns outer c
             → Good s (term.Seq (all_terms (map built list) None false c)) env bs
-        list_good used list c env bs deep asked fitting h seen =
+        list_good used list c env bs deep asked fitting same leave h seen =
             fine_seq s (RowsInside s) env bs _
             (subst (λ (xs : List Statement). AreLevel level at (calls_in_all xs) → all_parts Asked xs 1
-            → RowsFit bodies homes outer (joined_rows (map reached_in xs))
+            → RowsFit bodies homes outer (joined_rows (map reached_in xs)) → AreSame (joined_calls (map by_call xs))
+            → each_in (Leaves (left_of homes)) xs []
             → each_part (Meets s (RowsInside s)) (all_terms (map built xs) None false c) env bs) (known_are list)
-            (λ d a z. all_good (known list) None 1 0 c env false bs
-            (subst (AreLevel level at) (calls_joined (begun (known list))) d) a (omega arith) used z
-            (narrow s last is_at env at c false true _ 0 (λ e. absurd (cc)) h) seen) deep asked fitting)
+            (λ d a z y v. all_good (known list) None 1 0 c env false bs
+            (subst (AreLevel level at) (calls_joined (begun (known list))) d) a (omega arith) used z y [] v
+            (narrow s last is_at env at c false true _ 0 (λ e. absurd (cc)) h) seen) deep asked fitting same leave)
 
     body_good : 1 ≤ most.uses → (at : ℕ) (outer : List Shape) (h : Homes) (x : Body) (c : Context) (env : Env)
         (bs : List ℕ) → AreLevel level at (calls_of x) → TabledBody most last at x
-        → RowsFit bodies homes outer (reached_of x) → Fits s last is_at env at c false true 0 → Sees s env.turns outer c
+        → RowsFit bodies homes outer (reached_of x) → BodySame x → BodyLeaves (left_of homes) x
+        → Fits s last is_at env at c false true 0 → Sees s env.turns outer c
         → Good s (body_term bodies homes made h x c) env bs
-    body_good used at outer h (body.Inner list) c env bs deep asked fitting g seen
-        = list_good at outer h.rule used list c env bs deep asked fitting g seen
-    body_good used at outer h (body.Leaf code) c env bs deep asked fitting g seen
+    body_good used at outer h (body.Inner list) c env bs deep asked fitting same leave g seen
+        = list_good at outer h.rule used list c env bs deep asked fitting same leave g seen
+    body_good used at outer h (body.Leaf code) c env bs deep asked fitting same leave g seen
         = fine_act s (RowsInside s) env bs (action.Leaf h.code c.views c.path) (leaf_good s env bs outer c h.code seen)
 
   pub forms_good : (d : ℕ) → AreGood (term_of bodies homes d)
   forms_good zero f c env bs h seen = fine_skip s (RowsInside s) env bs
   forms_good (suc d) f c env bs h seen
       = body_good (term_of bodies homes d) (forms_good d) bounds.once (level f) (bodies f).arrays (homes f)
-      (bodies f).body c env bs (leveled.calls f) (tabled.body f) (roomy.rows f) h seen
+      (bodies f).body c env bs (leveled.calls f) (tabled.body f) (roomy.rows f) (roomy.same f) (roomy.leaves f) h seen
 
   entry_roomy : (shapes : List Shape) (hs : List Home) → AreWhole shapes → EntryFits s hs (take (length hs) shapes)
       → Each (IsRoomy s []) (entry_views shapes hs) (take (length hs) shapes)

@@ -15,8 +15,10 @@ use Rattle.sq_ir.specs.declared.term.LeafView.{LeafView}
 use Rattle.sq_ir.specs.declared.term.Action.TheVariants as action
 use Rattle.sq_blocks.specs.declared.argument.Argument.{Argument}
 use Rattle.sq_spec.specs.declared.statement.CallInstance.{CallInstance}
+use Rattle.sq_spec.specs.declared.body.FormBody.{FormBody}
 use Rattle.sq_placed.specs.declared.home.Home.{Home}
 use Rattle.sq_placed.specs.declared.home.Home.TheVariants.{InPlace, Own, Held, Twin}
+use Rattle.sq_placed.specs.declared.home.Homes.{Homes}
 use Rattle.sq_term.specs.declared.context.Context.{Context}
 use Rattle.sq_term.specs.declared.context.Move.{Move}
 use Rattle.sq_placed.specs.Seats.{firsts, cons_some}
@@ -26,7 +28,7 @@ use Rattle.sq_term.specs.Terms.{bytes_of, bytes_in, move_of, moves_from}
 use Rattle.sq_term.specs.Stands.{Each, none, more, IsNumber}
 use Rattle.sq_term_fit.specs.Fits.{Has}
 use Rattle.sq_term_fit.specs.Rooms.{InView, RowsInside, IsRoomy, IsRoomyMove, IsBelow, HaveSizes, IsWhole, AreWhole}
-use Rattle.sq_term_fit.specs.Rooms.{FitsInto, HomeFits, ArgFits, IsCounted, Sees}
+use Rattle.sq_term_fit.specs.Rooms.{FitsInto, HomeFits, ArgFits, IsCounted, Sees, RowFits, RowsFit}
 use Rattle.sq_term.proofs.Numbers.{lifted_is, turn}
 use Rattle.sq_term.proofs.Turns.{each_left, each_append, AtBoth, neither, two, at_both}
 use Rattle.sq_term.proofs.Arms.{IsHead}
@@ -36,19 +38,41 @@ use Rattle.sq_term_fit.proofs.Views.{view_inside}
 use Rattle.sq_term_fit.proofs.Blocks.{roomy_turn, roomy_buffer, roomy_block}
 
 -- a list has one list of predecessors
-pred_same : (a b : List ℕ) → map suc a ≡ map suc b → a ≡ b
+pub pred_same : (a b : List ℕ) → map suc a ≡ map suc b → a ≡ b
 pred_same [] [] h = refl
 pred_same [] (y ∷ b) h = cc
 pred_same (x ∷ a) [] h = cc
 pred_same (x ∷ a) (y ∷ b) h = let e : suc x ≡ suc y = cc in let f : x ≡ y = omega (arith, e) in let g : map suc a
     ≡ map suc b = cc in ap₂ (λ p q. p ∷ q) f (pred_same a b g)
 
-got : (xs : List Shape) (i : ℕ) (y : Shape) → slice_get xs i ≡ Some y → get_or xs i no_shape ≡ y
+pub got : (xs : List Shape) (i : ℕ) (y : Shape) → slice_get xs i ≡ Some y → get_or xs i no_shape ≡ y
 got [] i y e = cc
 got (x ∷ xs) zero y e = cc
 got (x ∷ xs) (suc i) y e = got xs i y e
 
-own_fits : (s : Setting) (sizes : HaveSizes s) (turns : List ℕ) (x : Shape) → IsWhole x → (h : Home) → HomeFits s h x
+pub map_len : {A B : Type 0} (f : A → B) (xs : List A) → length (map f xs) ≡ length xs
+map_len f [] = refl
+map_len f (x ∷ xs) = ap suc (map_len f xs)
+
+pub whole_at : (xs : List Shape) → AreWhole xs → (i : ℕ) (x : Shape) → slice_get xs i ≡ Some x → IsWhole x
+whole_at [] w i x e = cc
+whole_at (y ∷ xs) w zero x e = let g : y ≡ x = cc in subst IsWhole g w.0
+whole_at (y ∷ xs) w (suc i) x e = whole_at xs w.1 i x e
+
+pub taken : (k : ℕ) (xs : List Shape) (j : ℕ) (y : Shape) → slice_get (take k xs) j ≡ Some y → slice_get xs j ≡ Some y
+taken zero xs j y e = cc
+taken (suc k) [] j y e = cc
+taken (suc k) (x ∷ xs) zero y e = e
+taken (suc k) (x ∷ xs) (suc j) y e = taken k xs j y e
+
+pub row_fits : (bodies : ℕ → FormBody) (homes : ℕ → Homes) (outer : List Shape) (times : List CallInstance) (k : ℕ)
+    (r : CallInstance) → RowsFit bodies homes outer times → slice_get times k ≡ Some r → RowFits bodies homes outer r
+row_fits bodies homes outer [] k r h e = cc
+row_fits bodies homes outer (x ∷ times) zero r h e =
+    let g : x ≡ r = cc in subst (RowFits bodies homes outer) g h.0
+row_fits bodies homes outer (x ∷ times) (suc k) r h e = row_fits bodies homes outer times k r h.1 e
+
+pub own_fits : (s : Setting) (sizes : HaveSizes s) (turns : List ℕ) (x : Shape) → IsWhole x → (h : Home) → HomeFits s h x
     → (v : LeafView) → IsRoomy s turns v x → IsRoomy s turns (own_view x h v) x
 own_fits s sizes turns x w InPlace f v g = g
 own_fits s sizes turns x w (Own b) f v g = roomy_buffer s sizes turns b x w.tops w.shaped w.dims f w.small
@@ -59,10 +83,6 @@ module _ (s : Setting) (sizes : HaveSizes s) (turns : List ℕ) where
   module _ (c : Context) (outer : List Shape) (seen : Each (IsRoomy s turns) c.views outer) (times : List CallInstance)
       (k : ℕ) (r : CallInstance) (at_time : slice_get times k ≡ Some r)
       (long : k < length times) (counted : IsNumber s turns c.ordinal k) (has : Has s turns c.ordinal) where
-    map_len : {A B : Type 0} (f : A → B) (xs : List A) → length (map f xs) ≡ length xs
-    map_len f [] = refl
-    map_len f (x ∷ xs) = ap suc (map_len f xs)
-
     block_roomy : (i : ℕ) (a : Argument) (y : Shape) (v : LeafView) (f : ArgFits outer a y) → slice_get r.args i
         ≡ Some a → slice_get c.views a.array ≡ Some v → IsRoomy s turns v f.x
         → IsRoomy s turns (block_view (offsets c.views times i) c.ordinal y.extents v) y

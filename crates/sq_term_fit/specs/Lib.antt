@@ -1,3 +1,4 @@
 pub mod Fits
+pub mod Leaves
 pub mod Rooms
 pub mod Laws

@@ -1,6 +1,6 @@
 -- Rows inside buffers: what is asked of actions, of views, and of blocks.
 use Rattle.std.specs.Prelude.{◌≡◌, ℕ, suc, ◌+◌, ◌*◌, ◌<◌, ◌≤◌, pos, List, [], ◌∷◌, ◌++◌, map, length, take, drop}
-use Rattle.std.specs.Prelude.{get_or, slice_get, Some, false}
+use Rattle.std.specs.Prelude.{get_or, slice_get, Some}
 use Rattle.std.specs.List.{All, Contains}
 use Rattle.sq_num.specs.declared.Elem.TheVariants.{Long}
 use Rattle.sq_num.specs.Elements.{width, IsValue}
@@ -23,7 +23,6 @@ use Rattle.sq_spec.specs.declared.body.Body.{Body}
 use Rattle.sq_spec.specs.declared.body.Body.TheVariants as body
 use Rattle.sq_spec.specs.declared.body.FormBody.{FormBody}
 use Rattle.sq_placed.specs.declared.home.Homes.{Homes}
-use Rattle.sq_placed.specs.Tables.{leaves_loop}
 use Rattle.sq_term.specs.Terms.{buffer_or}
 use Rattle.sq_placed.specs.declared.home.Home.{Home}
 use Rattle.sq_placed.specs.declared.home.Home.TheVariants.{InPlace, Own, Held, Twin}
@@ -32,6 +31,7 @@ use Rattle.sq_term.specs.declared.context.Move.{Move}
 use Rattle.sq_placed.specs.Seats.{firsts}
 use Rattle.sq_term.specs.Stands.{Each, IsNumber}
 use Rattle.sq_term_fit.specs.Fits.{Has}
+use Rattle.sq_term_fit.specs.Leaves.{left_of, BodyLeaves, BodySame}
 
 -- the row of so many bytes lies inside its buffer, and its number has its value
 pub record InRow (s : Setting) (env : Env) (slot : Slot) (bytes : ℕ) : Type 0 where
@@ -173,7 +173,8 @@ abbrev pub RowsFit : (ℕ → FormBody) → (ℕ → Homes) → (outer : List Sh
 RowsFit bodies homes outer [] = Unit {0}
 RowsFit bodies homes outer (r ∷ rest) = RowFits bodies homes outer r × RowsFit bodies homes outer rest
 
--- Arrays fit into the buffers of their homes, blocks lie inside arrays, and no argument leaves a loop.
+-- Arrays fit into the buffers of their homes, and blocks lie inside arrays; loops that arguments leave have iterations,
+-- and the rows of a call take the same arrays.
 pub record AreRoomy (s : Setting) (bodies : ℕ → FormBody) (homes : ℕ → Homes) : Type 0 where
   pub sizes : HaveSizes s
   pub whole : (f : ℕ) → AreWhole (bodies f).arrays
@@ -181,7 +182,8 @@ pub record AreRoomy (s : Setting) (bodies : ℕ → FormBody) (homes : ℕ → H
       → HomeFits s (get_or (homes f).params i InPlace) x
   pub locals : (f : ℕ) → Each (FitsInto s) (homes f).locals (drop (length (homes f).params) (bodies f).arrays)
   pub rows : (f : ℕ) → RowsFit bodies homes (bodies f).arrays (reached_of (bodies f).body)
-  pub unheld : (f i loops : ℕ) → leaves_loop loops (get_or (homes f).params i InPlace) ≡ false
+  pub leaves : (f : ℕ) → BodyLeaves (left_of homes) (bodies f).body
+  pub same : (f : ℕ) → BodySame (bodies f).body
 
 -- the entry's arrays fit into its buffers
 abbrev pub EntryFits : Setting → List Home → List Shape → Type 0

@@ -14,8 +14,7 @@ pub fn entry_is_fine()
     ensures { EntryIsFine }
 {}
 
-/// The numbers of its actions have their values too, and its rows and views lie inside their buffers, where nothing
-/// leaves a loop.
+/// The numbers of its actions have their values too, and its rows and views lie inside their buffers.
 pub fn term_is_roomy()
     ensures { TermIsRoomy }
 {}

@@ -1,4 +1,4 @@
-use Rattle.sq_homes_fit.proofs.Numbered.{buffers_are_numbered}
+use Rattle.sq_homes_fit.proofs.Ordered.{buffers_are_numbered}
 use Rattle.sq_homes_fit.proofs.buffers_are_numbered.Goals as goal
 
 pub returns : goal.returns

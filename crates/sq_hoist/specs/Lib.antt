@@ -1,0 +1,4 @@
+pub mod Loops
+pub mod Counts
+pub mod Choices
+pub mod Notes

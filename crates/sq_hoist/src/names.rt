@@ -1,0 +1,65 @@
+//! The names that notes give.
+
+ghost use Rattle.std.specs.Prelude.{◌≡◌, IfOk};
+ghost use Rattle.std.specs.Option.{option_copied};
+ghost use Rattle.sq_forms.specs.Resolving.{entry_params};
+ghost use Rattle.sq_homes.specs.Drafts as drafts;
+ghost use Rattle.sq_forms.specs.Tables as tables;
+ghost use Rattle.sq_hoist.specs.Notes as spec;
+
+use sq_ast::{Param, Variant};
+use sq_mapfile::Instance;
+use sq_spec::Resolved;
+use sq_text::Name;
+use sqlite_items::at;
+use std::alloc::{AllocError, Global};
+
+fn instance_at<'a>(r: &Resolved<'a>, form: usize) -> Option<&'a Instance>
+    ensures { option_copied result ≡ drafts.instance_at r.now form }
+{
+    match at(r.forms(), form) {
+        None => None,
+        Some(f) => at(r.mapping().instances.as_slice(), f.instance as usize),
+    }
+}
+
+/// The name of a form's instance.
+pub fn name_at(alloc: Global, r: &Resolved<'_>, form: usize) -> Result<Name, AllocError>
+    ensures { IfOk result (λ n. n ≡ drafts.name_by (drafts.instance_at r.now form)) }
+{
+    match instance_at(r, form) {
+        None => Name::new(alloc, &[]),
+        Some(x) => x.name.copy(alloc),
+    }
+}
+
+fn variant_of<'a>(r: &Resolved<'a>, x: &Instance) -> Option<&'a Variant>
+    ensures { option_copied result ≡ tables.variant_of r.now.typed.now.tasks x.now.task x.now.kind }
+{
+    match r.variant_number(&x.task, x.kind) {
+        None => None,
+        Some(number) => at(r.typed().program().tasks.as_slice(), number),
+    }
+}
+
+fn params_of<'a>(r: &Resolved<'a>, form: usize) -> &'a [Param]
+    ensures { result.now ≡ entry_params r.now.typed.now.tasks (drafts.instance_at r.now form) }
+{
+    let Some(x) = instance_at(r, form) else {
+        return &[];
+    };
+    match variant_of(r, x) {
+        None => &[],
+        Some(v) => v.params.as_slice(),
+    }
+}
+
+/// The name of a form's parameter.
+pub fn param_at(alloc: Global, r: &Resolved<'_>, form: usize, i: usize) -> Result<Name, AllocError>
+    ensures { IfOk result (λ n. n ≡ spec.param_at r.now form i) }
+{
+    match at(params_of(r, form), i) {
+        None => Name::new(alloc, &[]),
+        Some(p) => p.name.copy(alloc),
+    }
+}

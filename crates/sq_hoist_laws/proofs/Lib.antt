@@ -1,0 +1,13 @@
+pub mod Nests
+pub mod Begins
+pub mod Lists
+pub mod Staying
+pub mod Alone
+pub mod Sites
+pub mod Holding
+pub mod Chosen
+pub mod TimesHold
+pub mod Keyed
+pub mod Heads
+pub mod Tables
+pub mod Programs
