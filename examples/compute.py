@@ -29,6 +29,10 @@ def matmul(A, B, C):
                           for old, row in zip(C, A)])}
 
 
+def product(A, B, C):
+    return matmul(A, B, C)
+
+
 def convolution(A, K):
     def window(i, j):
         return sum(K[u][v] * A[i + u][j + v] for u in range(3) for v in range(3))
@@ -103,7 +107,8 @@ def text(arrays):
 def main():
     differ = 0
     examples = (
-        double, blocks, saxpy, matmul, convolution, stencil, prefix, histogram, dot, transpose, pairs, sort, rotate,
+        double, blocks, saxpy, matmul, product, convolution, stencil, prefix, histogram, dot, transpose, pairs, sort,
+        rotate,
     )
     for example in examples:
         folder = HERE / example.__name__

@@ -12,59 +12,64 @@ use Rattle.sq_store.specs.Place.{IsPlaced, IsRefusal, IsOver}
 use Rattle.sq_spec.specs.declared.resolved.Resolved.{Resolved}
 use Rattle.sq_homes.specs.Drafts.{IsDraftOf}
 use Rattle.sq_homes_laws.specs.Simple.{AreMemories, Walked}
-use Rattle.sq_elim.specs.Choices.{all_in_place}
-use Rattle.sq_needs.specs.Needed.{NeedsAreSums, SumsAreNeeds, NeedsAreSmall}
+use Rattle.sq_hoist.specs.Choices.{hoisted}
+use Rattle.sq_hoist.specs.Notes.{notes_of}
+use Rattle.sq_hoist_laws.specs.Laws.{ChoicesAreHoisted, ChoicesHold}
+use Rattle.sq_needs.specs.Needed.{KeepInPlace, NeedsAreSums, SumsAreNeeds, NeedsAreSmall}
 use Rattle.sq_plan_good.specs.Good.{HasNoRace, DraftsCanBePlaced, PlacedAreGood}
 use Rattle.sq_plan_good.specs.Good.{IsGoodFor}
 use Rattle.sq_plan_good.specs.Planned.{memories_of, IsPlacedFor}
-use Rattle.sq_plan_good.proofs.Simple.{in_place_is_simple}
 use Rattle.sq_compile.specs.Capacity.{NoneLacks}
 use Rattle.sq_compile.specs.Compiled.{IsPlanOf, IsRefusedFor}
+use Rattle.sq_compile.proofs.Keeping.{hoisted_keep}
 use Rattle.sq_compile.proofs.Lacking.{none_lacks, first_lack}
 
-module _ (can : DraftsCanBePlaced) (r : Resolved) (d : Draft) (its : IsDraftOf r (all_in_place r) d)
+module _ (can : DraftsCanBePlaced) (are_hoisted : ChoicesAreHoisted) (r : Resolved) (walked : Walked r) (d : Draft) (its : IsDraftOf r (hoisted r) d)
     (nodes : List PlanNode) (are : nodes ≡ memories_of r) (memories : AreMemories r.machine.now.levels nodes) where
   placeable : IsPlaceable d nodes
-  placeable = can r (all_in_place r) (in_place_is_simple r) d its nodes memories
+  placeable = can r (hoisted r) (are_hoisted r walked) d its nodes memories
 
   -- a placed plan, by its own draft
-  of_plan : d.notes ≡ [] → (p : Plan) → IsPlaced d nodes p → IsPlacedFor r p
-  of_plan none p h =
+  of_plan : d.notes ≡ notes_of r → (p : Plan) → IsPlaced d nodes p → IsPlacedFor r p
+  of_plan noted p h =
       let own : p.draft ≡ d = ap (λ (q : Plan). q.draft) h.is in
       record {
-        its = subst (IsDraftOf r (all_in_place r)) (sym own) its;
-        notes = ap (λ (x : Draft). x.notes) own ∙ none;
+        its = subst (IsDraftOf r (hoisted r)) (sym own) its;
+        notes = ap (λ (x : Draft). x.notes) own ∙ noted;
         placed = subst (λ (x : Draft). IsPlaced x (memories_of r) p) (sym own)
             (subst (λ (ns : List PlanNode). IsPlaced d ns p) are h);
       }
 
-  pub good : PlacedAreGood → d.notes ≡ [] → (result : Result Plan StoreFault)
+  pub good : PlacedAreGood → ChoicesHold → d.notes ≡ notes_of r → (result : Result Plan StoreFault)
       → IfOk result (λ plan. IsPlaceable d nodes → IsPlaced d nodes plan)
       → IfOk result (λ p. HasNoRace r → IsPlanOf r p)
-  good law none (Ok p) h = λ race_free. record {
-    placed = of_plan none p (h placeable);
-    good = subst (λ (ns : List PlanNode). IsGoodFor r (all_in_place r) ns p) are
-        (law r race_free (all_in_place r) (in_place_is_simple r) d its nodes memories p (h placeable));
+  good law hold noted (Ok p) h = λ race_free. record {
+    placed = of_plan noted p (h placeable);
+    good = subst (λ (ns : List PlanNode). IsGoodFor r (hoisted r) ns p) are
+        (law r race_free (hoisted r) (are_hoisted r walked) (hold r walked) d its nodes memories p (h placeable));
   }
-  good law none (Err fault) h = tt
+  good law hold noted (Err fault) h = tt
 
-  pub placed : d.notes ≡ [] → (result : Result Plan StoreFault)
+  pub placed : d.notes ≡ notes_of r → (result : Result Plan StoreFault)
       → IfOk result (λ plan. IsPlaceable d nodes → IsPlaced d nodes plan) → IfOk result (λ p. IsPlacedFor r p)
-  placed none (Ok p) h = of_plan none p (h placeable)
-  placed none (Err fault) h = tt
+  placed noted (Ok p) h = of_plan noted p (h placeable)
+  placed noted (Err fault) h = tt
 
   -- what nodes need by the forms that run at them
-  module _ (agree : NeedsAreSums) (sums : SumsAreNeeds) (small : NeedsAreSmall) (w : Walked r)
+  module _ (agree : NeedsAreSums) (sums : SumsAreNeeds) (small : NeedsAreSmall)
       (limits : WithinLimits r.machine.now) where
+    keep : KeepInPlace r (hoisted r)
+    keep = hoisted_keep r (are_hoisted r walked)
+
     pub fits : (result : Result Plan StoreFault) → IfOk result (λ plan. IsPlaceable d nodes → IsPlaced d nodes plan)
         → IfOk result (λ p. NoneLacks r)
-    fits (Ok p) h = none_lacks agree sums small r w limits d its
+    fits (Ok p) h = none_lacks agree sums small r walked limits keep d its
         (subst (HasSpace d) are (h placeable).space)
     fits (Err fault) h = tt
 
     refused : (fault : StoreFault) → IsRefusal d nodes fault → IsRefusedFor r fault
     refused (Capacity node need capacity) h =
-        first_lack agree sums small r w limits d its node need capacity
+        first_lack agree sums small r walked limits keep d its node need capacity
         (subst (λ (ns : List PlanNode). IsOver d ns node need capacity) are h)
     refused NoMemory h = tt
 

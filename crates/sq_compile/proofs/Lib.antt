@@ -1,3 +1,4 @@
+pub mod Keeping
 pub mod Lacking
 pub mod Told
 pub mod Compiles

@@ -1,8 +1,9 @@
 //! Compiling: the passes one after another, and then the places of buffers.
 
-ghost use Rattle.std.specs.Prelude.{◌≡◌, [], IfOk, IfErr};
+ghost use Rattle.std.specs.Prelude.{◌≡◌, IfOk, IfErr};
 ghost use Rattle.sq_machfile.specs.Machines.{WithinLimits};
-ghost use Rattle.sq_elim.specs.Choices.{all_in_place};
+ghost use Rattle.sq_hoist.specs.Choices.{hoisted};
+ghost use Rattle.sq_hoist.specs.Notes.{notes_of};
 ghost use Rattle.sq_homes.specs.Drafts.{IsDraftOf};
 ghost use Rattle.sq_homes_laws.specs.Simple.{AreMemories};
 ghost use Rattle.sq_plan_good.specs.Good.{HasNoRace};
@@ -13,22 +14,25 @@ ghost use Rattle.sq_compile.specs.Compiled.{IsPlanOf, IsRefusedFor};
 use crate::memories::plan_nodes;
 use sq_draft_laws::laws::resolved_programs_were_walked;
 use sq_elim::drop_copies;
+use sq_hoist::hoist;
+use sq_hoist_laws::{choices_are_hoisted, choices_hold};
 use sq_ir::{Draft, Plan, PlanNodes};
 use sq_lower::lower;
 use sq_needs::{needs_are_small, needs_are_sums, sums_are_needs};
-use sq_plan_good::{simple_drafts_can_be_placed, simple_plans_are_good};
+use sq_plan_good::{placed_plans_are_good, placing_succeeds};
 use sq_spec::Resolved;
 use sq_store::{StoreFault, place};
 use std::alloc::{AllocError, Global};
 
 // The draft after all passes.
 fn passed(alloc: Global, r: &Resolved<'_>) -> Result<Draft, AllocError>
-    ensures its { IfOk result (λ d. IsDraftOf r.now (all_in_place r.now) d) }
-    ensures notes { IfOk result (λ d. d.notes ≡ []) }
+    ensures its { IfOk result (λ d. IsDraftOf r.now (hoisted r.now) d) }
+    ensures notes { IfOk result (λ d. d.notes ≡ notes_of r.now) }
 {
     let lowered = lower(alloc, r)?;
     let dropped = drop_copies(alloc, r, lowered)?;
-    Ok(dropped)
+    let hoisted = hoist(alloc, r, dropped)?;
+    Ok(hoisted)
 }
 
 // The memories of the program's machine.
@@ -47,8 +51,8 @@ fn placed(
     draft: Draft,
     nodes: PlanNodes,
 ) -> Result<Plan, StoreFault>
-    requires its { IsDraftOf r.now (all_in_place r.now) draft }
-    requires notes { draft.notes ≡ [] }
+    requires its { IsDraftOf r.now (hoisted r.now) draft }
+    requires notes { draft.notes ≡ notes_of r.now }
     requires nodes { nodes ≡ memories_of r.now }
     requires memories { AreMemories r.now.machine.now.levels nodes }
     requires limits { WithinLimits r.now.machine.now }
@@ -58,15 +62,17 @@ fn placed(
     ensures over { IfErr result (λ fault. IsRefusedFor r.now fault) }
 {
     resolved_programs_were_walked();
-    simple_drafts_can_be_placed();
-    simple_plans_are_good();
+    choices_are_hoisted();
+    choices_hold();
+    placing_succeeds();
+    placed_plans_are_good();
     needs_are_sums();
     sums_are_needs();
     needs_are_small();
     place(alloc, draft, nodes)
 }
 
-/// The plan of a program on its machine, after all passes: the draft of `drop_copies`, with no note, in the machine's
+/// The plan of a program on its machine, after all passes: the draft of `hoist`, with its notes, in the machine's
 /// memories, its buffers stacked. Without a race it is good for the program: well formed, with unordered events
 /// independent, room for its live buffers in each state, a run under picks 0 that ends from every input as the program
 /// means, and one leaf call for each of the program's. Refused exactly where the forms that run at a node need more bytes

@@ -1,34 +1,37 @@
 -- What a node needs is the sum at it, and the sum is what it needs.
-use Rattle.std.proofs.Common.{◌≡◌, ℕ, zero, suc, ◌+◌, ◌<◌, ◌≤◌, ◌==◌, ◌⊎◌, inl, inr, max, Bool, true, false, List, [], ◌∷◌}
-use Rattle.std.proofs.Common.{map, length, slice_get, Option, Some, None, refl, sym, ap, ap₂, subst, ◌∙◌, arith}
+use Rattle.std.proofs.Common.{◌≡◌, ℕ, zero, suc, ◌+◌, ◌<◌, ◌≤◌, Bool, true, false, List, [], ◌∷◌}
+use Rattle.std.proofs.Common.{length, slice_get, Some, refl, sym, ap, ap₂, subst, ◌∙◌, arith}
 use Rattle.std.specs.List.{range_with_len}
 use Rattle.std.proofs.lemmas.List.FromFn.{length-range_with_len}
 use Rattle.sq_mapfile.specs.declared.mapping.Instance.{Instance}
 use Rattle.sq_machfile.specs.declared.node.Node.{Node}
 use Rattle.sq_machfile.specs.Machines.{WithinLimits}
 use Rattle.sq_forms.specs.declared.form.Form.{Form}
+use Rattle.sq_ir.specs.Written.{Setting}
+use Rattle.sq_spec.specs.declared.body.FormBody.{FormBody}
 use Rattle.sq_spec.specs.declared.resolved.Resolved.{Resolved}
 use Rattle.sq_spec.specs.Bodies.{body_of}
-use Rattle.sq_spec_laws.specs.Needs.{Reached, reached_from, IsCall, child_for, StandsAt, RunsAt, entry, beside, below, EndsAt}
+use Rattle.sq_spec_laws.specs.Needs.{Reached, IsCall, child_for, StandsAt, RunsAt, entry, beside, below, EndsAt}
 use Rattle.sq_spec_laws.specs.Needs.{Needs}
 use Rattle.sq_spec_laws.proofs.NeedsHold.{need_is_one}
+use Rattle.sq_placed.specs.declared.home.Homes.{Homes}
 use Rattle.sq_placed.specs.Trees.{callee_node}
 use Rattle.sq_term.specs.Stands as stands
 use Rattle.sq_term.specs.Stands.{Each, none, more}
+use Rattle.sq_homes.specs.declared.choice.Choice.{Choice}
 use Rattle.sq_homes.specs.Drafts.{bodies_of}
 use Rattle.sq_homes_laws.specs.Simple.{Walked}
 use Rattle.sq_homes_laws.proofs.Standing.{map_length}
 use Rattle.sq_needs.specs.Begun.{Begun, calls_of}
 use Rattle.sq_needs.specs.Listed.{IsListed}
 use Rattle.sq_needs.specs.Sums.{child_in, greatest, here, worth, table_sum}
-use Rattle.sq_needs.specs.Needed.{NeedsAreSums, SumsAreNeeds}
+use Rattle.sq_needs.specs.Needed.{KeepInPlace, NeedsAreSums, SumsAreNeeds}
 use Rattle.sq_needs.proofs.Drafts.{sums_are_of_calls}
 use Rattle.sq_needs.proofs.ListedForms.{calls_are_listed}
-use Rattle.sq_needs.proofs.Sizes.{in_place_is_simple}
-use Rattle.sq_needs.proofs.Ends.{EndIs, end_is}
-use Rattle.sq_needs.proofs.Reach.{tasks, instances, nodes, memories, choices, s, bodies, homes, Runs, Ends, sums, Inv}
-use Rattle.sq_needs.proofs.Reach.{inside_of, brings, Step, step, after, stands_there, entry_brings, entry_inv, entry_own}
-use Rattle.sq_needs.proofs.Reach.{entry_there, sum_is_end}
+use Rattle.sq_needs.proofs.Ends.{end_is}
+use Rattle.sq_needs.proofs.Reach.{memories, s, bodies, homes, sums, Inv}
+use Rattle.sq_needs.proofs.Reach.{inside_of, brings, step, after, stands_there, entry_brings, entry_inv}
+use Rattle.sq_needs.proofs.Reach.{sum_is_end}
 
 some_same : {A : Type 0} (x y : A) → Some x ≡ Some y → x ≡ y
 some_same x y h = cc h
@@ -63,9 +66,32 @@ one_child xs ns from r node a b h g =
     let p = some_same h.parent g.parent (sym h.there ∙ g.there) in
     h.is ∙ ap₂ (λ (x : Instance) (n : Node). n.first_child + child_for x.spread n r.turn) i p ∙ sym g.is
 
-module _ (r : Resolved) (w : Walked r) (limits : WithinLimits r.machine.now) (x : ℕ) where
+module _ (r : Resolved) (w : Walked r) (limits : WithinLimits r.machine.now) (choices : List Choice)
+    (keep : KeepInPlace r choices) (x : ℕ) where
   abbrev whole : ℕ
-  whole = table_sum r (choices r w limits x) (memories r w limits x) x
+  whole = table_sum r choices (memories r w limits choices keep x) x
+
+  abbrev setting : Setting
+  setting = s r w limits choices keep x
+
+  abbrev tables : ℕ → FormBody
+  tables = bodies r w limits choices keep x
+
+  abbrev placing : ℕ → Homes
+  placing = homes r w limits choices keep x
+
+  abbrev needed : (n k y : ℕ) → ℕ
+  needed = sums r w limits choices keep x
+
+  abbrev Stood : (k y e : ℕ) → Type 0
+  Stood = Inv r w limits choices keep x
+
+  -- where a call runs, and how much it brings
+  abbrev callee_of : (k y : ℕ) → Begun → ℕ
+  callee_of = inside_of r w limits choices keep x
+
+  abbrev call_brings : Begun → ℕ
+  call_brings = brings r w limits choices keep x
 
   abbrev running : ℕ → ℕ → Type 0
   running = RunsAt r.typed.now.tasks r.mapping.now.instances r.machine.now.nodes r.forms
@@ -75,8 +101,8 @@ module _ (r : Resolved) (w : Walked r) (limits : WithinLimits r.machine.now) (x 
     n : ℕ
     e : ℕ
     enough : length r.forms ≤ n + k
-    inv : Inv r w limits x k y e
-    fits : e + sums r w limits x n k y ≤ whole
+    inv : Stood k y e
+    fits : e + needed n k y ≤ whole
 
   many_bodies : length (bodies_of r) ≡ length r.forms
   many_bodies = map_length (body_of r.typed.now.tasks r.mapping.now.instances r.found.entries) (range_with_len 0 (length r.forms))
@@ -85,10 +111,12 @@ module _ (r : Resolved) (w : Walked r) (limits : WithinLimits r.machine.now) (x 
   entry_fits : Fits 0 0
   entry_fits = record {
     n = length (bodies_of r);
-    e = here 0 x (entry_brings r w limits x);
+    e = here 0 x (entry_brings r w limits choices keep x);
     enough = let z = many_bodies in omega (arith, z);
-    inv = entry_inv r w limits x;
-    fits = let z : whole ≡ here 0 x (entry_brings r w limits x) + sums r w limits x (length (bodies_of r)) 0 0 = refl in omega (arith, z);
+    inv = entry_inv r w limits choices keep x;
+    fits =
+        let z : whole ≡ here 0 x (entry_brings r w limits choices keep x) + needed (length (bodies_of r)) 0 0 = refl in
+        omega (arith, z);
   }
 
   -- what a call of it reaches
@@ -98,10 +126,10 @@ module _ (r : Resolved) (w : Walked r) (limits : WithinLimits r.machine.now) (x 
     round : d.turn ≡ q.turn
     lower : Bool
     is_lower : d.lower ≡ lower
-    fits : Fits d.row.form (inside_of r w limits x k y d)
+    fits : Fits d.row.form (callee_of k y d)
 
-  fits_by : (n e k y m to : ℕ) (weigh size : ℕ) → length r.forms ≤ suc n + k → k < m → Inv r w limits x m to (e + here to x size)
-      → here to x size + sums r w limits x n m to ≤ weigh → e + weigh ≤ whole → Fits m to
+  fits_by : (n e k y m to : ℕ) (weigh size : ℕ) → length r.forms ≤ suc n + k → k < m → Stood m to (e + here to x size)
+      → here to x size + needed n m to ≤ weigh → e + weigh ≤ whole → Fits m to
   fits_by n e k y m to weigh size enough less inv a b = record {
     n = n;
     e = e + here to x size;
@@ -112,7 +140,7 @@ module _ (r : Resolved) (w : Walked r) (limits : WithinLimits r.machine.now) (x 
 
   module _ (k y callee : ℕ) (f to : Form) (q : Reached)
       (call : IsCall r.typed.now.tasks r.mapping.now.instances r.forms k callee f to q) (runs : running k y) where
-    listed : Beside (IsListed r.forms k f) q (calls_of (bodies r w limits x k).body) call.index
+    listed : Beside (IsListed r.forms k f) q (calls_of (tables k).body) call.index
     listed = each_at (calls_are_listed r w k f call.caller_there) call.index q call.among
 
     abbrev d : Begun
@@ -124,35 +152,37 @@ module _ (r : Resolved) (w : Walked r) (limits : WithinLimits r.machine.now) (x 
     to_same : listed.is.to ≡ to
     to_same = some_same listed.is.to to (sym listed.is.there ∙ ap (slice_get r.forms) (sym row) ∙ call.callee_there)
 
-    next_fits : (n e : ℕ) → length r.forms ≤ n + k → Inv r w limits x k y e → e + sums r w limits x n k y ≤ whole
-        → Fits d.row.form (inside_of r w limits x k y d)
+    next_fits : (n e : ℕ) → length r.forms ≤ n + k → Stood k y e → e + needed n k y ≤ whole
+        → Fits d.row.form (callee_of k y d)
     next_fits zero e enough inv g = let z = within r.forms k f call.caller_there in absurd (omega (arith, z, enough))
     next_fits (suc n) e enough inv g =
-        let st = step r w limits x k y e f call.caller_there runs inv q d listed.is call.index call.among in
-        let less = after r w limits x k y e f call.caller_there runs inv q d listed.is call.index call.among in
-        fits_by n e k y d.row.form (inside_of r w limits x k y d) (sums r w limits x (suc n) k y) (brings r w limits x d) enough less st.inv
-        (greatest_has (worth (s r w limits x) (bodies r w limits x) (homes r w limits x) x (sums r w limits x n) (homes r w limits x k).rule y)
-        (calls_of (bodies r w limits x k).body) call.index d listed.there) g
+        let there = call.caller_there in
+        let st = step r w limits choices keep x k y e f there runs inv q d listed.is call.index call.among in
+        let less = after r w limits choices keep x k y e f there runs inv q d listed.is call.index call.among in
+        fits_by n e k y d.row.form (callee_of k y d) (needed (suc n) k y) (call_brings d) enough less st.inv
+        (greatest_has (worth setting (tables) (placing) x (needed n) (placing k).rule y)
+        (calls_of (tables k).body) call.index d listed.there) g
 
-    same_node : to.level ≡ f.level → inside_of r w limits x k y d ≡ y
+    same_node : to.level ≡ f.level → callee_of k y d ≡ y
     same_node lv = by d.lower refl
       where
         by : (v : Bool) → d.lower ≡ v
-            → callee_node (s r w limits x) v y (child_in (homes r w limits x k).rule ((s r w limits x).children y) d.turn) ≡ y
+            → callee_node setting v y (child_in (placing k).rule (setting.children y) d.turn) ≡ y
         by false g = refl
         by true g =
             let a : listed.is.to.level ≡ suc f.level = listed.is.level ∙ ap (λ (v : Bool). stands.below v f.level) g in
             let b = ap (λ (h : Form). h.level) to_same in
             absurd (omega (arith, a, b, lv))
 
-    lower_node : (e : ℕ) → Inv r w limits x k y e → (child : ℕ) → to.level ≡ suc f.level
-        → StandsAt r.mapping.now.instances r.machine.now.nodes f q y child → inside_of r w limits x k y d ≡ child
+    lower_node : (e : ℕ) → Stood k y e → (child : ℕ) → to.level ≡ suc f.level
+        → StandsAt r.mapping.now.instances r.machine.now.nodes f q y child → callee_of k y d ≡ child
     lower_node e inv child lv at = by d.lower refl
       where
         by : (v : Bool) → d.lower ≡ v
-            → callee_node (s r w limits x) v y (child_in (homes r w limits x k).rule ((s r w limits x).children y) d.turn) ≡ child
+            → callee_node setting v y (child_in (placing k).rule (setting.children y) d.turn) ≡ child
         by true g = one_child r.mapping.now.instances r.machine.now.nodes f q y _ child
-            (stands_there r w limits x k y e f call.caller_there runs inv q d listed.is call.index call.among) at
+            (stands_there r w limits choices keep x k y e f call.caller_there runs inv q d listed.is call.index
+            call.among) at
         by false g =
             let a : listed.is.to.level ≡ f.level = listed.is.level ∙ ap (λ (v : Bool). stands.below v f.level) g in
             let b = ap (λ (h : Form). h.level) to_same in
@@ -186,16 +216,16 @@ module _ (r : Resolved) (w : Walked r) (limits : WithinLimits r.machine.now) (x 
       omega (arith, same, is, g)
 
   pub whole_is_need : Needs r.typed.now.tasks r.mapping.now.instances r.machine.now.nodes r.forms x whole
-  whole_is_need = record { greatest = end_fits; is = sum_is_end r w limits x }
+  whole_is_need = record { greatest = end_fits; is = sum_is_end r w limits choices keep x }
 
 pub needs_are_sums : NeedsAreSums
-needs_are_sums r w limits d is node need h =
+needs_are_sums r w limits choices keep d is node need h =
     need_is_one r.typed.now.tasks r.mapping.now.instances r.machine.now.nodes r.forms node need
-    (table_sum r (choices r w limits node) (memories r w limits node) node) h (whole_is_need r w limits node)
-    ∙ sym (sums_are_of_calls r (choices r w limits node) (in_place_is_simple r) d is (memories r w limits node) node)
+    (table_sum r choices (memories r w limits choices keep node) node) h (whole_is_need r w limits choices keep node)
+    ∙ sym (sums_are_of_calls r w choices keep.hoisted d is (memories r w limits choices keep node) node)
 
 pub sums_are_needs : SumsAreNeeds
-sums_are_needs r w limits d is node =
+sums_are_needs r w limits choices keep d is node =
     subst (λ (n : ℕ). Needs r.typed.now.tasks r.mapping.now.instances r.machine.now.nodes r.forms node n)
-    (sym (sums_are_of_calls r (choices r w limits node) (in_place_is_simple r) d is (memories r w limits node) node))
-    (whole_is_need r w limits node)
+    (sym (sums_are_of_calls r w choices keep.hoisted d is (memories r w limits choices keep node) node))
+    (whole_is_need r w limits choices keep node)

@@ -1,7 +1,9 @@
 -- The greatest sum of a form's term, written out, is that of the calls of its tables: its statements.
-use Rattle.std.proofs.Common.{◌≡◌, ℕ, zero, suc, ◌+◌, max, pos, Bool, true, false, not, ◌&&◌, ◌||◌, is_some, List, [], ◌∷◌}
-use Rattle.std.proofs.Common.{◌++◌, map, get_or, slice_get, length, Option, Some, None, refl, sym, ap, ap₂, subst, ◌∙◌, arith}
-use Rattle.std.proofs.Common.{if◌then◌else◌}
+use Rattle.std.proofs.Common.{◌≡◌, ℕ, zero, suc, ◌+◌, ◌<◌, ◌≤◌, ◌⊎◌, inl, inr, max, pos, Bool, true, false}
+use Rattle.std.proofs.Common.{◌||◌, is_some, List, [], ◌∷◌, ◌++◌, map, get_or, slice_get, length, Option, Some, None}
+use Rattle.std.proofs.Common.{refl, sym, ap, ap₂, subst, ◌∙◌, arith, if◌then◌else◌}
+use Rattle.std.proofs.lemmas.Bool.{cases_lt}
+use Rattle.std.proofs.lemmas.Bool.Decides.{nat_tests}
 use Rattle.std.specs.Prelude.{nat_abs}
 use Rattle.std.specs.List.{flat_map, range_with_len}
 use Rattle.sq_num.specs.declared.RedOp.{RedOp}
@@ -9,11 +11,11 @@ use Rattle.sq_text.specs.declared.place.Place.{Place}
 use Rattle.sq_text.specs.declared.spread.SpreadRule.{SpreadRule}
 use Rattle.sq_ir.specs.Written.{Setting, Env, value_of, at_turn}
 use Rattle.sq_ir.specs.declared.num.Num.{Num}
-use Rattle.sq_ir.specs.declared.term.Action.TheVariants as action
 use Rattle.sq_ir.specs.declared.term.Term.{Term}
 use Rattle.sq_ir.specs.declared.term.Term.TheVariants as term
 use Rattle.sq_blocks.specs.declared.argument.Argument.{Argument}
 use Rattle.sq_spec.specs.declared.statement.LoopKind.{LoopKind}
+use Rattle.sq_spec.specs.declared.statement.LoopKind.TheVariants as loop_kind
 use Rattle.sq_spec.specs.declared.statement.CallInstance.{CallInstance}
 use Rattle.sq_spec.specs.declared.statement.Statement.{Statement, roll-Statement}
 use Rattle.sq_spec.specs.declared.statement.Statement.TheVariants as b
@@ -25,43 +27,64 @@ use Rattle.sq_spec.specs.declared.body.FormBody.{FormBody}
 use Rattle.sq_spec_laws.specs.Needs.{Turn, turn_in}
 use Rattle.sq_nests.specs.Nests.{ScopesAt, all_at, each_of, scopes_of}
 use Rattle.sq_nests.specs.Stacks.{total}
+use Rattle.sq_nests.proofs.Chains.{total_append}
 use Rattle.sq_nests.proofs.Equations.{scopes_act, scopes_seq, scopes_loop, scopes_spread, scopes_skip}
-use Rattle.sq_placed.specs.declared.home.Home.{Home}
-use Rattle.sq_placed.specs.declared.home.Home.TheVariants.{InPlace}
 use Rattle.sq_placed.specs.declared.home.Homes.{Homes}
-use Rattle.sq_placed.specs.Tables.{Chain, op_of, spread_of, leaves_loop, leaving_args, leaving_row, leaving_chain}
-use Rattle.sq_placed.specs.Tables.{chain_of, chain_form}
+use Rattle.sq_placed.specs.Tables.{Chain, op_of, spread_of, leaving_row, leaving_chain, chain_of, chain_form, row_form}
+use Rattle.sq_placed.specs.Tables.{locals_of, one_more}
+use Rattle.sq_placed.specs.Trees.{callee_node, local_buffers}
 use Rattle.sq_term.specs.declared.context.Context.{Context}
 use Rattle.sq_term.specs.Terms as terms
 use Rattle.sq_term.specs.Terms.{in_map, hold_term, chain_times, chain_num, first_num, TermPart, all_terms, map_term}
-use Rattle.sq_term.specs.Terms.{count_num, loop_term, map_hold, term_step, statement_term, body_term, term_of}
+use Rattle.sq_term.specs.Terms.{count_num, loop_term, statement_term, body_term, term_of, buffers_from, leaving_buffers}
 use Rattle.sq_term.proofs.Numbers.{count_is}
 use Rattle.sq_term.proofs.Opened.{built_call, built_map}
+use Rattle.sq_term_fit.specs.Fits.{Bounds, AskedOfStatement, HaveCounts, all_parts, Tabled, TabledBody}
+use Rattle.sq_term_fit.specs.Leaves.{Left, left_of, HasTurns, RowLeaves, AskedInLoops, each_in, loops_in}
+use Rattle.sq_term_fit.specs.Leaves.{Leaves, BodyLeaves, joined_calls, by_call, TakeSame, AreSame, BodySame}
+use Rattle.sq_term_fit.proofs.Chains.{tabled_call, tabled_map, leaves_call, leaves_map, by_call_map}
+use Rattle.sq_homes_laws.proofs.Standing.{map_length}
+use Rattle.sq_homes_laws.proofs.Hoisting.{at_index}
 use Rattle.sq_needs.specs.Begun as tables
 use Rattle.sq_needs.specs.Begun.{Begun, BegunPart, calls_in, row_begun, is_spread, begun_step, calls_of}
-use Rattle.sq_needs.specs.Sums.{greatest, worth, sum_of}
-use Rattle.sq_needs.proofs.Terms.{greatest_both, begun_call, begun_map, Begins, turn_begins, of_scopes, of_term}
-use Rattle.sq_needs.proofs.Terms.{each_same, AreSums, rows_sum}
+use Rattle.sq_needs.specs.Sums.{child_in, greatest, params_from, brought, here, worth, sum_of}
+use Rattle.sq_needs.proofs.Terms.{greatest_both, here_both, begun_call, begun_map, Begins, turn_begins, GoesTo}
+use Rattle.sq_needs.proofs.Terms.{goes_in_turn, of_scopes, of_term, each_more, each_same, nothing_here, hold_sum, entered}
+use Rattle.sq_needs.proofs.Terms.{AreSums, row_gives, rows_sum}
+use Rattle.sq_needs.proofs.Held.{LeaveSome, over, some_over, over_next, over_none, none_over}
+use Rattle.sq_needs.proofs.Loops.{InLoops, call, loop, rows_by, IsLooped, chain_is, shape_of}
 
--- no parameter leaves a loop
-pub record NothingLeaves (homes : ℕ → Homes) : Type 0 where
-  pub each : (loops k i : ℕ) → leaves_loop loops (get_or (homes k).params i InPlace) ≡ false
+no_turns : (j : ℕ) → HasTurns (get_or [] j []) → ⊥
+no_turns j h = let z = h.some in omega (arith, z)
 
-none_leave : (loops : ℕ) (hs : List Home) → ((i : ℕ) → leaves_loop loops (get_or hs i InPlace) ≡ false) → (i : ℕ)
-    (args : List Argument) → leaving_args loops hs i args ≡ []
-none_leave loops hs h i [] = refl
-none_leave loops hs h i (a ∷ args) =
-    ap (λ (v : Bool). if v then (i, a) ∷ leaving_args loops hs (suc i) args else leaving_args loops hs (suc i) args) (h i)
-    ∙ none_leave loops hs h (suc i) args
+none_first : (times : List CallInstance) (k : ℕ) (r : CallInstance) → slice_get times 0 ≡ None
+    → slice_get times k ≡ Some r → ⊥
+none_first [] k r e h = absurd (cc h)
+none_first (q ∷ times) k r e h = absurd (cc e)
 
-chain_leaves : {X : Type 0} (homes : ℕ → Homes) → NothingLeaves homes → (o : Option (Chain X))
-    → leaving_chain homes o ≡ []
-chain_leaves homes h None = refl
-chain_leaves homes h (Some u) = by (slice_get u.instances 0)
-  where
-    by : (r : Option CallInstance) → leaving_row homes u.loops r ≡ []
-    by None = refl
-    by (Some r) = none_leave u.loops (homes r.form).params (λ i. h.each u.loops r.form i) 0 r.args
+-- a loop that has a count each time has iterations
+some_turns : (counts : List ℕ) (m k : ℕ) → HasTurns counts → HaveCounts counts m → k < m → 0 < get_or counts k 0
+some_turns counts m k h (inl none) less =
+    absurd (let z = h.some in let n = length counts in grind (arith, nat_tests, z, none))
+some_turns counts m k h (inr many) less = let z = h.each k (omega (arith, less, many)) in omega (arith, z)
+
+same_left : (xs ys : List (List CallInstance)) → AreSame (xs ++ ys) → AreSame xs
+same_left [] ys h = tt
+same_left (x ∷ xs) ys h = (h.0, same_left xs ys h.1)
+
+same_right : (xs ys : List (List CallInstance)) → AreSame (xs ++ ys) → AreSame ys
+same_right [] ys h = h
+same_right (x ∷ xs) ys h = same_right xs ys h.1
+
+none_more : (starts : List ℕ) (o : Option (Chain Num)) → one_more first_num starts o ≡ None → o ≡ None
+none_more starts None h = refl
+none_more starts (Some u) h = absurd (cc h)
+
+none_some : {A : Type 0} (o : Option A) (a : A) → o ≡ None → o ≡ Some a → ⊥
+none_some o a h e = absurd (cc (sym h ∙ e))
+
+itself : (k : ℕ) → k ≡ max k 0
+itself k = omega arith
 
 -- an iteration of a spread map stands in one
 turn_inside : (v : Bool) (rule : SpreadRule) (round : Option Turn) (m t : ℕ)
@@ -71,21 +94,291 @@ turn_inside true rule (Some u) m t = refl
 turn_inside false rule None m t = refl
 turn_inside false rule (Some u) m t = refl
 
-module _ (s : Setting) (x : ℕ) (bodies : ℕ → FormBody) (homes : ℕ → Homes) (nothing : NothingLeaves homes)
+module _ (s : Setting) (x : ℕ) (bodies : ℕ → FormBody) (homes : ℕ → Homes)
+    (some : (f : ℕ) → LeaveSome (homes f).params)
     (made : ℕ → Context → Term) (inside : ℕ → ℕ → ℕ) (callees : AreSums s x bodies homes made inside)
-    (rule : SpreadRule) (node : ℕ) where
+    (rule : SpreadRule) (node : ℕ) (most : Bounds) (last level : ℕ) where
+  abbrev left : Left
+  left = left_of homes
+
   abbrev weigh : Begun → ℕ
   weigh = worth s bodies homes x inside rule node
 
   abbrev built : Statement → TermPart
   built = statement_term bodies homes made rule
 
+  abbrev Asked : Statement → AskedOfStatement
+  Asked = Tabled most last level
+
+  abbrev gives : ℕ → Option CallInstance → ℕ
+  gives = row_gives s x bodies homes made inside callees
+
+  -- ---- a row, with its arguments that leave loops
+
+  row_full : (r : CallInstance) (rest to : ℕ) → rest ≡ over s 0 (homes r.form).params 0 (length r.args)
+      → here to x rest + gives to (Some r) ≡ here to x (total s.size (brought bodies homes r)) + inside r.form to
+  row_full r rest to e =
+      let ends = local_buffers (locals_of (bodies r.form) (homes r.form)) in
+      let own = buffers_from (homes r.form).params 0 r.args in
+      let p = total_append s.size own ends in
+      let q = total_append s.size (params_from (homes r.form).params 0 r.args) ends in
+      let z = over_none s (homes r.form).params (some r.form) 0 r.args in
+      let w : rest + total s.size (own ++ ends) ≡ total s.size (brought bodies homes r) = omega (arith, p, q, z, e) in
+      let u = ap (here to x) w in
+      let v = here_both to x rest (total s.size (own ++ ends)) in
+      omega (arith, u, v)
+
+  -- ---- a lower call in loops
+
+  -- where lower calls go, in this iteration of a spread map
+  abbrev lower_node : Option Turn → ℕ
+  lower_node round = callee_node s true node (child_in rule (s.children node) round)
+
+  -- of a row, what leaves more than n loops
+  abbrev rest : ℕ → Option CallInstance → ℕ
+  rest n None = 0
+  rest n (Some r) = over s n (homes r.form).params 0 (length r.args)
+
+  -- where the call's rows, in these loops, are so, and an iteration of a spread map is round it
+  module _ (times : List CallInstance) (all : List (List ℕ))
+      (rows : (k : ℕ) (r : CallInstance) → slice_get times k ≡ Some r → RowLeaves left all times r)
+      (same : TakeSame times) (round : Option Turn) where
+    abbrev to : ℕ
+    to = lower_node round
+
+    abbrev stays : ℕ → ℕ
+    stays n = rest n (slice_get times 0)
+
+    alike : (n k : ℕ) (r q : CallInstance) → slice_get times 0 ≡ Some r → slice_get times k ≡ Some q
+        → q.form ≡ r.form → rest n (Some r) ≡ rest n (Some q)
+    alike n k r q e h form =
+        let long = ap length (same.same k r q e h) in
+        let a = map_length (λ (y : Argument). y.array) r.args in
+        let c = map_length (λ (y : Argument). y.array) q.args in
+        let many : length r.args ≡ length q.args = sym a ∙ sym long ∙ c in
+        ap₂ (λ (f m : ℕ). over s n (homes f).params 0 m) (sym form) many
+
+    all_alike : (n k : ℕ) (r q : CallInstance) → slice_get times 0 ≡ Some r → slice_get times k ≡ Some q
+        → rest n (Some r) ≡ rest n (Some q)
+    all_alike n k r q e h =
+        by (some_over s n (homes r.form).params 0 (length r.args))
+        (some_over s n (homes q.form).params 0 (length q.args))
+      where
+        by : (rest n (Some r) ≡ 0) ⊎ ((j : ℕ) × (n < left r.form j))
+            → (rest n (Some q) ≡ 0) ⊎ ((j : ℕ) × (n < left q.form j))
+            → rest n (Some r) ≡ rest n (Some q)
+        by (inr j) o = let l = j.1 in alike n k r q e h ((rows 0 r e).one j.0 (omega (arith, l)) k q h)
+        by (inl z) (inr j) = let l = j.1 in alike n k r q e h (sym ((rows k q h).one j.0 (omega (arith, l)) 0 r e))
+        by (inl z) (inl y) = z ∙ sym y
+
+    first_alike : (n k : ℕ) (q : CallInstance) → slice_get times k ≡ Some q → stays n ≡ rest n (Some q)
+    first_alike n k q h = by (slice_get times 0) refl
+      where
+        by : (o : Option CallInstance) → slice_get times 0 ≡ o → rest n o ≡ rest n (Some q)
+        by None e = absurd (none_first times k q e h)
+        by (Some r) e = all_alike n k r q e h
+
+    -- of a row, what leaves just n loops
+    abbrev leaving : ℕ → Option CallInstance → ℕ
+    leaving n o = total s.size (leaving_buffers (homes (row_form o)).params (leaving_row homes n o))
+
+    -- what leaves just one loop more stands round it
+    next : (n : ℕ) → here to x (stays (suc n)) + here to x (leaving (suc n) (slice_get times 0)) ≡ here to x (stays n)
+    next n = sym (here_both to x (stays (suc n)) (leaving (suc n) (slice_get times 0)))
+        ∙ ap (here to x) (by (slice_get times 0))
+      where
+        by : (o : Option CallInstance) → rest (suc n) o + leaving (suc n) o ≡ rest n o
+        by None = refl
+        by (Some r) = over_next s n (homes r.form).params 0 r.args
+
+    -- a loop that something leaves has iterations
+    has_turns : (counts : List ℕ) (n m k : ℕ) → get_or all n [] ≡ counts → HaveCounts counts m → k < m
+        → (here to x (stays n) ≡ 0) ⊎ (0 < get_or counts k 0)
+    has_turns counts n m k at have less = by (slice_get times 0) refl
+      where
+        over_or : (r : CallInstance) → slice_get times 0 ≡ Some r
+            → (rest n (Some r) ≡ 0) ⊎ ((j : ℕ) × (n < left r.form j))
+            → (here to x (rest n (Some r)) ≡ 0) ⊎ (0 < get_or counts k 0)
+        over_or r e (inl z) = inl (ap (here to x) z ∙ nothing_here s x to)
+        over_or r e (inr j) = inr (some_turns counts m k (subst HasTurns at ((rows 0 r e).turns j.0 n j.1)) have less)
+
+        by : (o : Option CallInstance) → slice_get times 0 ≡ o
+            → (here to x (rest n o) ≡ 0) ⊎ (0 < get_or counts k 0)
+        by None e = inl (nothing_here s x to)
+        by (Some r) e = over_or r e (some_over s n (homes r.form).params 0 (length r.args))
+
+    abbrev InLoopsSum : ℕ → Statement → Type 0
+    InLoopsSum n y = (m : ℕ) → Asked y m → (op : Option RedOp) (v : Bool) (k : ℕ) (c : Context) (env : Env) → k < m
+        → GoesTo s env to k c
+        → here to x (stays n) + of_term s x ((built y).build op v c) env
+        ≡ greatest weigh ((tables.begun y).calls round k)
+
+    call_sum : InLoopsSum 0 (b.Call true times)
+    call_sum m asked op v k c env less g =
+        let many = (subst (λ (f : AskedOfStatement). f m) (tabled_call most last level true times) asked).0 in
+        let q = at_index times k (omega (arith, less, many)) in
+        ap (λ (p : TermPart). here to x (stays 0) + of_term s x (p.build op v c) env)
+        (built_call bodies homes made rule true times)
+        ∙ ap (λ (z : ℕ). here to x (stays 0) + z)
+        (rows_sum s x bodies homes made inside callees op true times k c env to g.ordinal g.node_is)
+        ∙ ap (λ (o : Option CallInstance). here to x (stays 0) + gives to o) q.1
+        ∙ row_full q.0 (stays 0) to (first_alike 0 k q.0 q.1)
+        ∙ itself (weigh (record { row = q.0; lower = true; turn = round }))
+        ∙ sym (ap (λ (o : Option CallInstance). greatest weigh (row_begun true round o)) q.1)
+        ∙ sym (ap (λ (p : BegunPart). greatest weigh (p.calls round k)) (begun_call true times))
+
+    -- one loop more, with what leaves just this one standing round it
+    module _ (place : Place) (counts starts : List ℕ) (n : ℕ) (y : Statement) (at : get_or all n [] ≡ counts)
+        (is : InLoops times all n y) (ih : InLoopsSum n y) where
+      abbrev it : Statement
+      it = b.Map place loop_kind.Sequential counts starts (y ∷ [])
+
+      turns_sum : (inner : ℕ) → Asked y inner → (m k : ℕ) → HaveCounts counts m → k < m
+          → ((t : ℕ) → t < get_or counts k 0 → get_or starts k 0 + t < inner)
+          → (v : Bool) (c : Context) (env : Env) → GoesTo s env to k c
+          → here to x (stays n) + of_term s x (loop_term rule loop_kind.Sequential counts starts (built y ∷ []) v c) env
+          ≡ greatest weigh (flat_map (λ t. calls_in (tables.begun y ∷ []) round (get_or starts k 0 + t))
+          (range_with_len 0 (get_or counts k 0)))
+      turns_sum inner asked m k have less below v c env g =
+          ap (λ (f : ScopesAt). here to x (stays n) + of_scopes s x (f env)) (scopes_loop s (count_num counts c) part)
+          ∙ ap (λ z. here to x (stays n)
+          + of_scopes s x (each_of (nat_abs z) (λ t. scopes_of s part (at_turn env t)) 0))
+          (count_is s env counts c k (g.ordinal.value env.level env.nodes))
+          ∙ each_more s x weigh (here to x (stays n)) (get_or counts k 0) (λ t. scopes_of s part (at_turn env t))
+          (λ t. calls_in (tables.begun y ∷ []) round (get_or starts k 0 + t)) 0 (has_turns counts n m k at have less)
+          (λ t low high. one t (omega (arith, high)))
+        where
+          deeper : Context
+          deeper = in_map None (count_num counts c) starts c
+
+          part : Term
+          part = term.Seq ((built y).build None (v || false) deeper ∷ [])
+
+          one : (t : ℕ) → t < get_or counts k 0
+              → here to x (stays n) + of_scopes s x (scopes_of s part (at_turn env t))
+              ≡ greatest weigh (calls_in (tables.begun y ∷ []) round (get_or starts k 0 + t))
+          one t l =
+              let calls = (tables.begun y).calls round (get_or starts k 0 + t) in
+              ap (λ (f : ScopesAt). here to x (stays n) + of_scopes s x (f (at_turn env t)))
+              (scopes_seq s ((built y).build None (v || false) deeper ∷ []))
+              ∙ ap (λ (z : ℕ). here to x (stays n) + z)
+              (sym (itself (of_term s x ((built y).build None (v || false) deeper) (at_turn env t))))
+              ∙ ih inner asked None (v || false) (get_or starts k 0 + t) deeper (at_turn env t) (below t l)
+              (goes_in_turn s env to k c (count_num counts c) starts t g)
+              ∙ itself (greatest weigh calls) ∙ sym (greatest_both weigh calls [])
+
+      gap : (o : Option (Chain Num)) → o ≡ (built it).chain
+          → here to x (stays (suc n))
+          + here to x (total s.size (leaving_buffers (homes (chain_form o)).params (leaving_chain homes o)))
+          ≡ here to x (stays n)
+      gap o e =
+          let u = chain_is left bodies homes made rule (loop place counts starts at is) in
+          ap (λ (h : Option (Chain Num)). here to x (stays (suc n))
+          + here to x (total s.size (leaving_buffers (homes (chain_form h)).params (leaving_chain homes h)))) (e ∙ u.is)
+          ∙ ap₂ (λ (l : ℕ) (qs : List CallInstance). here to x (stays (suc n))
+          + here to x (leaving l (slice_get qs 0))) u.loops u.rows
+          ∙ next n
+
+      loop_more : InLoopsSum (suc n) it
+      loop_more m asked op v k c env less g =
+          let a = subst (λ (f : AskedOfStatement). f m)
+          (tabled_map most last level place loop_kind.Sequential counts starts (y ∷ [])) asked in
+          let o = chain_of first_num loop_kind.Sequential starts (terms.chains (built y ∷ [])) in
+          ap (λ (p : TermPart). here to x (stays (suc n)) + of_term s x (p.build op v c) env)
+          (built_map bodies homes made rule place loop_kind.Sequential counts starts (y ∷ []))
+          ∙ hold_sum s x (bodies (chain_form o)).arrays (homes (chain_form o)).params (chain_times o)
+          (chain_num o c.ordinal) (leaving_chain homes o) v c env to k (here to x (stays n))
+          (here to x (stays (suc n))) _ (loop_term rule loop_kind.Sequential counts starts (built y ∷ [])) g
+          (gap o (sym (ap (λ (p : TermPart). p.chain)
+          (built_map bodies homes made rule place loop_kind.Sequential counts starts (y ∷ [])))))
+          (λ w d e h. turns_sum a.2 a.5.0 m k a.0 less (λ t l. a.4 k t less l) w d e h)
+          ∙ sym (ap (λ (p : BegunPart). greatest weigh (p.calls round k))
+          (begun_map place loop_kind.Sequential counts starts (y ∷ [])))
+
+    in_loops : {n : ℕ} {y : Statement} → InLoops times all n y → InLoopsSum n y
+    in_loops call = call_sum
+    in_loops (loop place counts starts {n = n} {y = y} at is) = loop_more place counts starts n y at is (in_loops is)
+
+  -- ---- statements
+
+  -- what is asked of a statement that is begun so many times, round which stand plain loops with these counts
+  pub record IsAsked (y : Statement) (outer : List (List ℕ)) (m : ℕ) : Type 0 where
+    pub leaves : Leaves left y outer
+    pub plain : ((built y).chain ≡ None) ⊎ (outer ≡ [])
+    pub same : AreSame (by_call y)
+    pub tabled : Asked y m
+
+  abbrev IsSum : Statement → Type 0
+  IsSum y = (outer : List (List ℕ)) (m : ℕ) → IsAsked y outer m → (op : Option RedOp) (round : Option Turn) (k : ℕ)
+      (c : Context) (env : Env) → k < m → Begins s env rule node round k c
+      → of_term s x ((built y).build op (is_some round) c) env ≡ greatest weigh ((tables.begun y).calls round k)
+
+  -- a lower call in the loops that are all that stands round it in its form
+  looped_sum : (y : Statement) → ((outer : List (List ℕ)) → IsLooped left y outer) → IsSum y
+  looped_sum y f outer m asked op round k c env less h =
+      let u = f [] in
+      let leaves : Leaves left y [] = by asked.plain in
+      let rows = u.rows leaves in
+      let same = (subst AreSame (rows_by u.is) asked.same).0 in
+      let sum = in_loops u.times u.all rows same round u.is m asked.tabled op (is_some round) k c env less
+      (record { ordinal = h.ordinal; node_is = entered s x env rule node round k c true h }) in
+      let z = ap (here (lower_node round) x) (none u rows (slice_get u.times 0) refl) in
+      let e = nothing_here s x (lower_node round) in
+      omega (arith, sum, z, e)
+    where
+      by : ((built y).chain ≡ None) ⊎ (outer ≡ []) → Leaves left y []
+      by (inl e) = absurd (none_some (built y).chain _ e (chain_is left bodies homes made rule (f []).is).is)
+      by (inr e) = subst (Leaves left y) e asked.leaves
+
+      most_left : (u : IsLooped left y []) → ((k : ℕ) (r : CallInstance) → slice_get u.times k ≡ Some r
+          → RowLeaves left u.all u.times r) → (r : CallInstance) → slice_get u.times 0 ≡ Some r → (j : ℕ)
+          → left r.form j ≤ u.loops
+      most_left u rows r e j = or (cases_lt u.loops (left r.form j))
+        where
+          or : (u.loops < left r.form j) ⊎ (left r.form j ≤ u.loops) → left r.form j ≤ u.loops
+          or (inl l) =
+              let n = u.loops in
+              let z : n ≡ n + 0 = omega arith in
+              let past : get_or u.all n [] ≡ get_or [] 0 [] = ap (λ (i : ℕ). get_or u.all i []) z ∙ u.behind 0 in
+              absurd (no_turns 0 (subst HasTurns past ((rows 0 r e).turns j n l)))
+          or (inr l) = l
+
+      none : (u : IsLooped left y []) → ((k : ℕ) (r : CallInstance) → slice_get u.times k ≡ Some r
+          → RowLeaves left u.all u.times r) → (o : Option CallInstance) → slice_get u.times 0 ≡ o
+          → rest u.loops o ≡ 0
+      none u rows None e = refl
+      none u rows (Some r) e = none_over s u.loops (homes r.form).params (most_left u rows r e) (length r.args)
+
+  -- a call at the same level, which nothing leaves
+  same_sum : (times : List CallInstance) → IsSum (b.Call false times)
+  same_sum times outer m asked op round k c env less h =
+      let rows = subst (λ (f : AskedInLoops). f outer) (leaves_call left false times) asked.leaves in
+      let many = (subst (λ (f : AskedOfStatement). f m) (tabled_call most last level false times) asked.tabled).0 in
+      let q = at_index times k (omega (arith, less, many)) in
+      let stays = none_over s 0 (homes q.0.form).params (λ j. none_left (rows k q.0 q.1) j) (length q.0.args) in
+      let full = row_full q.0 0 node (sym stays) in
+      let z = nothing_here s x node in
+      ap (λ (p : TermPart). of_term s x (p.build op (is_some round) c) env)
+      (built_call bodies homes made rule false times)
+      ∙ rows_sum s x bodies homes made inside callees op false times k c env node h.ordinal h.node_is
+      ∙ ap (gives node) q.1
+      ∙ (let w : gives node (Some q.0) ≡ weigh (record { row = q.0; lower = false; turn = round })
+      = omega (arith, full, z) in w)
+      ∙ itself (weigh (record { row = q.0; lower = false; turn = round }))
+      ∙ sym (ap (λ (o : Option CallInstance). greatest weigh (row_begun false round o)) q.1)
+      ∙ sym (ap (λ (p : BegunPart). greatest weigh (p.calls round k)) (begun_call false times))
+    where
+      none_left : {r : CallInstance} → RowLeaves left [] times r → (j : ℕ) → left r.form j ≤ 0
+      none_left {r = r} its j = or (cases_lt 0 (left r.form j))
+        where
+          or : (0 < left r.form j) ⊎ (left r.form j ≤ 0) → left r.form j ≤ 0
+          or (inl l) = absurd (no_turns 0 (its.turns j 0 l))
+          or (inr l) = l
+
   record Agrees (y : Statement) : Type 0 where
     lower : (built y).lower ≡ (tables.begun y).lower
     same : (built y).same ≡ (tables.begun y).same
-    sums : (op : Option RedOp) (round : Option Turn) (k : ℕ) (c : Context) (env : Env)
-        → Begins s env rule node round k c
-        → of_term s x ((built y).build op (is_some round) c) env ≡ greatest weigh ((tables.begun y).calls round k)
+    sums : IsSum y
 
   abbrev Known : Type 0
   Known = (y : Statement) × Agrees y
@@ -101,40 +394,65 @@ module _ (s : Setting) (x : ℕ) (bodies : ℕ → FormBody) (homes : ℕ → Ho
   sames [] = refl
   sames (y ∷ ys) = ap₂ (λ u v. u || v) y.1.same (sames ys)
 
-  all_sums : (ys : List Known) (op : Option RedOp) (round : Option Turn) (k : ℕ) (c : Context) (env : Env)
-      → Begins s env rule node round k c
+  abbrev AllPlain : List Statement → List (List ℕ) → Type 0
+  AllPlain [] outer = Unit {0}
+  AllPlain (y ∷ ys) outer = (((built y).chain ≡ None) ⊎ (outer ≡ [])) × AllPlain ys outer
+
+  -- the same of statements beside one another
+  pub record AreAsked (ys : List Statement) (outer : List (List ℕ)) (m : ℕ) : Type 0 where
+    pub leaves : each_in (Leaves left) ys outer
+    pub plain : AllPlain ys outer
+    pub same : AreSame (joined_calls (map by_call ys))
+    pub tabled : all_parts Asked ys m
+
+  all_sums : (ys : List Known) (outer : List (List ℕ)) (m : ℕ) → AreAsked (list_of ys) outer m → (op : Option RedOp)
+      (round : Option Turn) (k : ℕ) (c : Context) (env : Env) → k < m → Begins s env rule node round k c
       → of_scopes s x (all_at (map (scopes_of s) (all_terms (map built (list_of ys)) op (is_some round) c)) env)
       ≡ greatest weigh (calls_in (map tables.begun (list_of ys)) round k)
-  all_sums [] op round k c env h = refl
-  all_sums (y ∷ ys) op round k c env h =
-      ap₂ max (y.1.sums op round k c env h) (all_sums ys op round k c env h)
+  all_sums [] outer m asked op round k c env less h = refl
+  all_sums (y ∷ ys) outer m asked op round k c env less h =
+      let first : IsAsked y.0 outer m = record {
+        leaves = asked.leaves.0;
+        plain = asked.plain.0;
+        same = same_left (by_call y.0) (joined_calls (map by_call (list_of ys))) asked.same;
+        tabled = asked.tabled.0;
+      } in
+      let others : AreAsked (list_of ys) outer m = record {
+        leaves = asked.leaves.1;
+        plain = asked.plain.1;
+        same = same_right (by_call y.0) (joined_calls (map by_call (list_of ys))) asked.same;
+        tabled = asked.tabled.1;
+      } in
+      ap₂ max (y.1.sums outer m first op round k c env less h) (all_sums ys outer m others op round k c env less h)
       ∙ sym (greatest_both weigh ((tables.begun y.0).calls round k)
       (calls_in (map tables.begun (list_of ys)) round k))
 
-  seq_sums : (ys : List Known) (op : Option RedOp) (round : Option Turn) (k : ℕ) (c : Context) (env : Env)
-      → Begins s env rule node round k c
+  seq_sums : (ys : List Known) (outer : List (List ℕ)) (m : ℕ) → AreAsked (list_of ys) outer m → (op : Option RedOp)
+      (round : Option Turn) (k : ℕ) (c : Context) (env : Env) → k < m → Begins s env rule node round k c
       → of_term s x (term.Seq (all_terms (map built (list_of ys)) op (is_some round) c)) env
       ≡ greatest weigh (calls_in (map tables.begun (list_of ys)) round k)
-  seq_sums ys op round k c env h =
-      ap (λ (f : ScopesAt). of_scopes s x (f env)) (scopes_seq s _) ∙ all_sums ys op round k c env h
+  seq_sums ys outer m asked op round k c env less h =
+      ap (λ (f : ScopesAt). of_scopes s x (f env)) (scopes_seq s _) ∙ all_sums ys outer m asked op round k c env less h
 
   -- a loop, spread or not
   map_sum : (v : Bool) (count : Num) (m : ℕ) (y : Term) (env : Env) (g : ℕ → List Begun)
       → value_of s count env ≡ pos m
-      → ((t : ℕ) → of_term s x y (at_turn env t) ≡ greatest weigh (g t))
+      → ((t : ℕ) → t < m → of_term s x y (at_turn env t) ≡ greatest weigh (g t))
       → of_term s x (map_term (if v then Some rule else None) count y) env
       ≡ greatest weigh (flat_map g (range_with_len 0 m))
   map_sum false count m y env g counted h =
       ap (λ (f : ScopesAt). of_scopes s x (f env)) (scopes_loop s count y)
       ∙ ap (λ z. of_scopes s x (each_of (nat_abs z) (λ t. scopes_of s y (at_turn env t)) 0)) counted
-      ∙ each_same s x weigh m (λ t. scopes_of s y (at_turn env t)) g 0 h
+      ∙ each_same s x weigh m (λ t. scopes_of s y (at_turn env t)) g 0 (λ t low high. h t (omega (arith, high)))
   map_sum true count m y env g counted h =
       ap (λ (f : ScopesAt). of_scopes s x (f env)) (scopes_spread s count rule y)
       ∙ ap (λ z. of_scopes s x (each_of (nat_abs z) (λ t. scopes_of s y (at_turn env t)) 0)) counted
-      ∙ each_same s x weigh m (λ t. scopes_of s y (at_turn env t)) g 0 h
+      ∙ each_same s x weigh m (λ t. scopes_of s y (at_turn env t)) g 0 (λ t low high. h t (omega (arith, high)))
 
-  loop_sum : (place : Place) (m : LoopKind) (counts starts : List ℕ) (ys : List Known) (round : Option Turn) (k : ℕ)
-      (c : Context) (env : Env) → Begins s env rule node round k c → (lower same : Bool)
+  loop_sum : (m : LoopKind) (counts starts : List ℕ) (ys : List Known) (outer : List (List ℕ)) (inner : ℕ)
+      → AreAsked (list_of ys) outer inner → (round : Option Turn) (k : ℕ) (c : Context) (env : Env)
+      → ((t : ℕ) → t < get_or counts k 0 → get_or starts k 0 + t < inner)
+      → Begins s env rule node round k c → (lower same : Bool)
       → of_term s x (map_term (spread_of rule m (is_some round) lower same) (count_num counts c)
       (term.Seq (all_terms (map built (list_of ys)) (op_of m)
       (is_some round || is_some (spread_of rule m (is_some round) lower same))
@@ -142,12 +460,12 @@ module _ (s : Setting) (x : ℕ) (bodies : ℕ → FormBody) (homes : ℕ → Ho
       ≡ greatest weigh (flat_map (λ t. calls_in (map tables.begun (list_of ys))
       (turn_in (is_spread m round lower same) round (get_or counts k 0) t) (get_or starts k 0 + t))
       (range_with_len 0 (get_or counts k 0)))
-  loop_sum place m counts starts ys round k c env h lower same =
-      map_sum v count many _ env _ counted (λ t.
+  loop_sum m counts starts ys outer inner asked round k c env below h lower same =
+      map_sum v count many _ env _ counted (λ t l.
       ap (λ (w : Bool). of_term s x (term.Seq (all_terms (map built (list_of ys)) (op_of m) w
       (in_map (if v then Some rule else None) count starts c))) (at_turn env t)) (turn_inside v rule round many t)
-      ∙ seq_sums ys (op_of m) (turn_in v round many t) (get_or starts k 0 + t)
-      (in_map (if v then Some rule else None) count starts c) (at_turn env t)
+      ∙ seq_sums ys outer inner asked (op_of m) (turn_in v round many t) (get_or starts k 0 + t)
+      (in_map (if v then Some rule else None) count starts c) (at_turn env t) (below t l)
       (turn_begins s env rule node round k c count many counted starts t v h))
     where
       v : Bool
@@ -162,17 +480,67 @@ module _ (s : Setting) (x : ℕ) (bodies : ℕ → FormBody) (homes : ℕ → Ho
       counted : value_of s count env ≡ pos many
       counted = count_is s env counts c k (h.ordinal.value env.level env.nodes)
 
-  agrees_call : (lower : Bool) (instances : List CallInstance) → Agrees (b.Call lower instances)
-  agrees_call lower instances = record {
-    lower = ap (λ (p : TermPart). p.lower) (built_call bodies homes made rule lower instances)
-        ∙ sym (ap (λ (p : BegunPart). p.lower) (begun_call lower instances));
-    same = ap (λ (p : TermPart). p.same) (built_call bodies homes made rule lower instances)
-        ∙ sym (ap (λ (p : BegunPart). p.same) (begun_call lower instances));
-    sums = λ op round k c env h.
-        ap (λ (p : TermPart). of_term s x (p.build op (is_some round) c) env)
-        (built_call bodies homes made rule lower instances)
-        ∙ rows_sum s x bodies homes made inside callees op lower instances k c env rule node round h
-        ∙ sym (ap (λ (p : BegunPart). greatest weigh (p.calls round k)) (begun_call lower instances));
+  no_loops_plain : (ys : List Statement) → AllPlain ys []
+  no_loops_plain [] = tt
+  no_loops_plain (y ∷ ys) = (inr refl, no_loops_plain ys)
+
+  -- in a map that no argument leaves
+  parts_plain : (m : LoopKind) (counts starts : List ℕ) (ys : List Statement) (outer : List (List ℕ))
+      → chain_of first_num m starts (terms.chains (map built ys)) ≡ None → AllPlain ys (loops_in m ys counts outer)
+  parts_plain loop_kind.Sequential counts starts [] outer e = tt
+  parts_plain loop_kind.Sequential counts starts (y ∷ []) outer e = (inl (none_more starts (built y).chain e), tt)
+  parts_plain loop_kind.Sequential counts starts (y ∷ z ∷ ys) outer e = no_loops_plain (y ∷ z ∷ ys)
+  parts_plain loop_kind.Parallel counts starts ys outer e = no_loops_plain ys
+  parts_plain (loop_kind.Reduction r) counts starts ys outer e = no_loops_plain ys
+
+  plain_sum : (place : Place) (m : LoopKind) (counts starts : List ℕ) (ys : List Known)
+      → (built (b.Map place m counts starts (list_of ys))).chain ≡ None
+      → IsSum (b.Map place m counts starts (list_of ys))
+  plain_sum place m counts starts ys e outer n asked op round k c env less h =
+      let parts = map built (list_of ys) in
+      let o = chain_of first_num m starts (terms.chains parts) in
+      let is = built_map bodies homes made rule place m counts starts (list_of ys) in
+      let none : o ≡ None = sym (ap (λ (p : TermPart). p.chain) is) ∙ e in
+      let a = subst (λ (f : AskedOfStatement). f n) (tabled_map most last level place m counts starts (list_of ys))
+      asked.tabled in
+      let inside_it : AreAsked (list_of ys) (loops_in m (list_of ys) counts outer) a.2 = record {
+        leaves = subst (λ (f : AskedInLoops). f outer) (leaves_map left place m counts starts (list_of ys))
+            asked.leaves;
+        plain = parts_plain m counts starts (list_of ys) outer none;
+        same = subst AreSame (by_call_map place m counts starts (list_of ys)) asked.same;
+        tabled = a.5;
+      } in
+      ap (λ (p : TermPart). of_term s x (p.build op (is_some round) c) env) is
+      ∙ ap (λ (u : Option (Chain Num)). of_term s x (hold_term (bodies (chain_form u)).arrays
+      (homes (chain_form u)).params (chain_times u) (chain_num u c.ordinal) (leaving_chain homes u) (is_some round) c
+      (loop_term rule m counts starts parts)) env) none
+      ∙ ap₂ (λ (u v : Bool). of_term s x (map_term (spread_of rule m (is_some round) u v) (count_num counts c)
+      (term.Seq (all_terms parts (op_of m) (is_some round || is_some (spread_of rule m (is_some round) u v))
+      (in_map (spread_of rule m (is_some round) u v) (count_num counts c) starts c)))) env)
+      (lowers ys) (sames ys)
+      ∙ loop_sum m counts starts ys (loops_in m (list_of ys) counts outer) a.2 inside_it round k c env
+      (λ t l. a.4 k t less l) h (tables.any_lower (map tables.begun (list_of ys)))
+      (tables.any_same (map tables.begun (list_of ys)))
+      ∙ sym (ap (λ (p : BegunPart). greatest weigh (p.calls round k)) (begun_map place m counts starts (list_of ys)))
+
+  call_sums : (lower : Bool) (times : List CallInstance) → IsSum (b.Call lower times)
+  call_sums false times = same_sum times
+  call_sums true times = looped_sum (b.Call true times) (λ outer. record {
+    times = times;
+    all = outer;
+    loops = 0;
+    is = call;
+    behind = λ j. let z : 0 + j ≡ j = omega arith in ap (λ (i : ℕ). get_or outer i []) z;
+    rows = λ l. subst (λ (f : AskedInLoops). f outer) (leaves_call left true times) l;
+  })
+
+  agrees_call : (lower : Bool) (times : List CallInstance) → Agrees (b.Call lower times)
+  agrees_call lower times = record {
+    lower = ap (λ (p : TermPart). p.lower) (built_call bodies homes made rule lower times)
+        ∙ sym (ap (λ (p : BegunPart). p.lower) (begun_call lower times));
+    same = ap (λ (p : TermPart). p.same) (built_call bodies homes made rule lower times)
+        ∙ sym (ap (λ (p : BegunPart). p.same) (begun_call lower times));
+    sums = call_sums lower times;
   }
 
   agrees_map : (place : Place) (m : LoopKind) (counts starts : List ℕ) (ys : List Known)
@@ -182,26 +550,18 @@ module _ (s : Setting) (x : ℕ) (bodies : ℕ → FormBody) (homes : ℕ → Ho
         ∙ lowers ys ∙ sym (ap (λ (p : BegunPart). p.lower) (begun_map place m counts starts (list_of ys)));
     same = ap (λ (p : TermPart). p.same) (built_map bodies homes made rule place m counts starts (list_of ys))
         ∙ sames ys ∙ sym (ap (λ (p : BegunPart). p.same) (begun_map place m counts starts (list_of ys)));
-    sums = λ op round k c env h.
-        let parts = map built (list_of ys) in
-        let o = chain_of first_num m starts (terms.chains parts) in
-        ap (λ (p : TermPart). of_term s x (p.build op (is_some round) c) env)
-        (built_map bodies homes made rule place m counts starts (list_of ys))
-        ∙ ap (λ ps. of_term s x (hold_term (bodies (chain_form o)).arrays (homes (chain_form o)).params (chain_times o)
-        (chain_num o c.ordinal) ps (is_some round) c (loop_term rule m counts starts parts)) env)
-        (chain_leaves homes nothing o)
-        ∙ ap₂ (λ (u v : Bool). of_term s x (map_term (spread_of rule m (is_some round) u v) (count_num counts c)
-        (term.Seq (all_terms parts (op_of m) (is_some round || is_some (spread_of rule m (is_some round) u v))
-        (in_map (spread_of rule m (is_some round) u v) (count_num counts c) starts c)))) env)
-        (lowers ys) (sames ys)
-        ∙ loop_sum place m counts starts ys round k c env h (tables.any_lower (map tables.begun (list_of ys)))
-        (tables.any_same (map tables.begun (list_of ys)))
-        ∙ sym (ap (λ (p : BegunPart). greatest weigh (p.calls round k)) (begun_map place m counts starts (list_of ys)));
+    sums = by (shape_of left bodies homes made rule (b.Map place m counts starts (list_of ys)));
   }
+    where
+      by : ((built (b.Map place m counts starts (list_of ys))).chain ≡ None)
+          ⊎ ((outer : List (List ℕ)) → IsLooped left (b.Map place m counts starts (list_of ys)) outer)
+          → IsSum (b.Map place m counts starts (list_of ys))
+      by (inl e) = plain_sum place m counts starts ys e
+      by (inr f) = looped_sum (b.Map place m counts starts (list_of ys)) f
 
   agrees_step : (y : Statement-F Known) → Agrees (roll-Statement (map-Statement Known Statement (λ p. p.0) y))
-  agrees_step (Statement-F.Call lower instances)
-      = subst Agrees (sym (b.rolls-Call lower instances)) (agrees_call lower instances)
+  agrees_step (Statement-F.Call lower times)
+      = subst Agrees (sym (b.rolls-Call lower times)) (agrees_call lower times)
   agrees_step (Statement-F.Map place m counts starts ys)
       = subst Agrees (sym (b.rolls-Map place m counts starts (list_of ys))) (agrees_map place m counts starts ys)
 
@@ -216,19 +576,34 @@ module _ (s : Setting) (x : ℕ) (bodies : ℕ → FormBody) (homes : ℕ → Ho
   known_are [] = refl
   known_are (y ∷ ys) = ap (λ zs. y ∷ zs) (known_are ys)
 
-  body_sum : (h : Homes) → h.rule ≡ rule → (d : Body) (c : Context) (env : Env) → Begins s env rule node None 0 c
+  body_sum : (h : Homes) → h.rule ≡ rule → (d : Body) → BodyLeaves left d → BodySame d → TabledBody most last level d
+      → (c : Context) (env : Env) → Begins s env rule node None 0 c
       → of_term s x (body_term bodies homes made h d c) env ≡ greatest weigh (calls_of d)
-  body_sum h is (body.Leaf code) c env g = ap (λ (f : ScopesAt). of_scopes s x (f env)) (scopes_act s _)
-  body_sum h is (body.Inner list) c env g =
+  body_sum h is (body.Leaf code) leaves same tabled c env g =
+      ap (λ (f : ScopesAt). of_scopes s x (f env)) (scopes_act s _)
+  body_sum h is (body.Inner list) leaves same tabled c env g =
       ap (λ (q : SpreadRule). of_term s x
       (term.Seq (all_terms (map (statement_term bodies homes made q) list) None false c)) env) is
-      ∙ subst (λ (ys : List Statement). of_term s x (term.Seq (all_terms (map built ys) None false c)) env
+      ∙ subst (λ (ys : List Statement). AreAsked ys [] 1
+      → of_term s x (term.Seq (all_terms (map built ys) None false c)) env
       ≡ greatest weigh (calls_in (map tables.begun ys) None 0)) (known_are list)
-      (seq_sums (known list) None None 0 c env g)
+      (λ asked. seq_sums (known list) [] 1 asked None None 0 c env (omega arith) g)
+      (record { leaves = leaves; plain = no_loops_plain list; same = same; tabled = tabled })
 
-pub forms_sum : (s : Setting) (x : ℕ) (bodies : ℕ → FormBody) (homes : ℕ → Homes) → NothingLeaves homes → (d : ℕ)
+-- What is asked of the tables and homes of forms: what leaves a loop leaves plain loops that have iterations; the rows
+-- of a call take the same arrays; and each statement has a row for each time that it is begun.
+pub record AreLaid (bodies : ℕ → FormBody) (homes : ℕ → Homes) (most : Bounds) (last : ℕ) (level : ℕ → ℕ) : Type 0 where
+  pub some : (k : ℕ) → LeaveSome (homes k).params
+  pub leaves : (k : ℕ) → BodyLeaves (left_of homes) (bodies k).body
+  pub same : (k : ℕ) → BodySame (bodies k).body
+  pub tabled : (k : ℕ) → TabledBody most last (level k) (bodies k).body
+
+pub forms_sum : (s : Setting) (x : ℕ) (bodies : ℕ → FormBody) (homes : ℕ → Homes) (most : Bounds) (last : ℕ)
+    (level : ℕ → ℕ) → AreLaid bodies homes most last level → (d : ℕ)
     → AreSums s x bodies homes (term_of bodies homes d) (sum_of s bodies homes x d)
-forms_sum s x bodies homes nothing zero f c env node h = ap (λ (g : ScopesAt). of_scopes s x (g env)) (scopes_skip s)
-forms_sum s x bodies homes nothing (suc d) f c env node h =
-    body_sum s x bodies homes nothing (term_of bodies homes d) (sum_of s bodies homes x d)
-    (forms_sum s x bodies homes nothing d) (homes f).rule node (homes f) refl (bodies f).body c env h
+forms_sum s x bodies homes most last level laid zero f c env node h =
+    ap (λ (g : ScopesAt). of_scopes s x (g env)) (scopes_skip s)
+forms_sum s x bodies homes most last level laid (suc d) f c env node h =
+    body_sum s x bodies homes laid.some (term_of bodies homes d) (sum_of s bodies homes x d)
+    (forms_sum s x bodies homes most last level laid d) (homes f).rule node most last (level f) (homes f) refl
+    (bodies f).body (laid.leaves f) (laid.same f) (laid.tabled f) c env h

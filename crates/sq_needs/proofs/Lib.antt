@@ -1,4 +1,6 @@
 pub mod Terms
+pub mod Held
+pub mod Loops
 pub mod Laid
 pub mod Drafts
 pub mod Linked

@@ -1,9 +1,8 @@
 -- The calls that tables begin are those that are listed for nodes, and those that the walk reached, one by one.
-use Rattle.std.proofs.Common.{◌≡◌, ℕ, zero, suc, ◌+◌, ◌<◌, ◌==◌, ◌⊎◌, inl, inr, Bool, true, false, not, ◌&&◌, ◌||◌, List, []}
-use Rattle.std.proofs.Common.{◌∷◌, ◌++◌, map, length, get_or, slice_get, Option, Some, None, is_some, refl, sym, ap, ap₂}
+use Rattle.std.proofs.Common.{◌≡◌, ℕ, zero, suc, ◌+◌, ◌<◌, ◌==◌, ◌⊎◌, inl, inr, Bool, false, not, ◌&&◌, ◌||◌, List, []}
+use Rattle.std.proofs.Common.{◌∷◌, ◌++◌, map, length, get_or, slice_get, Option, Some, None, refl, sym, ap, ap₂}
 use Rattle.std.proofs.Common.{subst, ◌∙◌, arith, append_assoc, append-nil, length-append}
 use Rattle.std.proofs.lemmas.Bool.Decides.{nat_tests}
-use Rattle.std.specs.Prelude.{is_none}
 use Rattle.std.specs.List.{flat_map, range_with_len}
 use Rattle.sq_num.specs.declared.Elem.{Elem}
 use Rattle.sq_text.specs.declared.place.Place.{Place}
@@ -23,23 +22,19 @@ use Rattle.sq_mapfile.specs.declared.mapping.Instance.{Instance}
 use Rattle.sq_blocks.specs.Names.{Numbers}
 use Rattle.sq_blocks.specs.declared.argument.Argument.{Argument}
 use Rattle.sq_forms.specs.declared.form.Found.{Found}
-use Rattle.sq_forms.specs.declared.form.Caller.{Caller}
 use Rattle.sq_forms.specs.Faults.{value_or}
-use Rattle.sq_forms.specs.Steps.{Step, Part, Called, Forms, Key, key_number}
+use Rattle.sq_forms.specs.Steps.{Step, Part, Called, Forms, key_number}
 use Rattle.sq_forms.specs.Args.{Names, use_step, arguments, args_steps}
 use Rattle.sq_forms.specs.Worlds.{Frame, Callee, callee_of}
-use Rattle.sq_forms.specs.Calls.{CallSite, key_of, call_of, served_steps, reached_steps, flags, flags_from}
+use Rattle.sq_forms.specs.Calls.{CallSite, key_of, call_of, served_steps, reached_steps, flags_from}
 use Rattle.sq_forms.specs.Stmts.{Portion, portion, all_of as portions_of, after_calls, calls_of as portion_calls, each}
-use Rattle.sq_forms.specs.Stmts.{opens, outermost, within, iteration_steps, map_steps, bounds, times_of, in_iteration}
+use Rattle.sq_forms.specs.Stmts.{opens, outermost, within, iteration_steps, map_steps, bounds}
 use Rattle.sq_forms.specs.Stmts.{reduced_by}
 use Rattle.sq_forms.specs.Resolving.{frame_in, start}
 use Rattle.sq_forms.proofs.OpenedStmt.{portion_call, portion_map}
 use Rattle.sq_form_laws.specs.Reached.{calls_in, concat, text_calls, or_zero, form_number}
 use Rattle.sq_form_laws.proofs.EachCall.{AllIn, all_front, all_back, text_call, text_map}
-use Rattle.sq_spec.specs.declared.statement.LoopKind.{LoopKind}
 use Rattle.sq_spec.specs.declared.statement.CallInstance.{CallInstance}
-use Rattle.sq_spec.specs.declared.statement.Statement.{Statement}
-use Rattle.sq_spec.specs.declared.statement.Statement.TheVariants as b
 use Rattle.sq_spec.specs.Statements.{number_or, starts_from, iteration_points, count_at, count_rows, call_instance}
 use Rattle.sq_spec.specs.Statements.{loop_kind_of, StatementTable, all_of, call_table, table_of}
 use Rattle.sq_spec.proofs.OpenedStatement.{table_of_call, table_of_map, same_calls}

@@ -1,28 +1,20 @@
 -- The calls that tables begin are those that are listed for nodes.
-use Rattle.std.proofs.Common.{◌≡◌, ℕ, zero, suc, ◌+◌, ◌==◌, ◌⊎◌, inl, inr, Bool, true, false, List, [], ◌∷◌, map, length}
-use Rattle.std.proofs.Common.{slice_get, Option, Some, None, Ok, refl, sym, ap, ap₂, subst, ◌∙◌, arith, if◌then◌else◌}
+use Rattle.std.proofs.Common.{◌≡◌, ℕ, suc, ◌==◌, ◌⊎◌, inl, inr, Bool, true, false, List, []}
+use Rattle.std.proofs.Common.{slice_get, Some, refl, sym, ap, ap₂, subst, ◌∙◌, arith}
 use Rattle.std.proofs.lemmas.Bool.Decides.{nat_tests}
 use Rattle.sq_ast.specs.declared.program.Body.{Body as Text}
 use Rattle.sq_ast.specs.declared.program.Body.TheVariants as text
 use Rattle.sq_ast.specs.declared.program.Variant.{Variant}
-use Rattle.sq_ast.specs.declared.stmt.Call.{Call}
-use Rattle.sq_ast.specs.declared.stmt.Stmt.{Stmt}
 use Rattle.sq_mapfile.specs.declared.mapping.Instance.{Instance}
 use Rattle.sq_forms.specs.declared.form.Found.{Found}
 use Rattle.sq_forms.specs.declared.form.Form.{Form}
-use Rattle.sq_forms.specs.Steps.{Forms, Key, Called}
-use Rattle.sq_forms.specs.Tables.{variant_of}
-use Rattle.sq_forms.specs.Worlds.{Frame, Callee, callee_of}
-use Rattle.sq_forms.specs.Decls.{Scope, params_from, empty_scope}
-use Rattle.sq_forms.specs.Resolving.{Resolving, frame_in, with_locals, body_steps}
-use Rattle.sq_form_laws.specs.Reached.{Ran, CalleeIs, calls_in, steps_of, body_calls, form_number}
-use Rattle.sq_form_laws.specs.Served.{FormRuns, IsServed}
-use Rattle.sq_form_laws.proofs.AnswerHold.{forms_are_found}
-use Rattle.sq_form_laws.proofs.EachCall.{AllIn}
-use Rattle.sq_form_laws.proofs.FitHold.{forms_run}
+use Rattle.sq_forms.specs.Steps.{Key, Called}
+use Rattle.sq_forms.specs.Worlds.{Frame}
+use Rattle.sq_forms.specs.Decls.{Scope}
+use Rattle.sq_forms.specs.Resolving.{frame_in, with_locals, body_steps}
+use Rattle.sq_form_laws.specs.Reached.{CalleeIs, calls_in, steps_of, body_calls, form_number}
+use Rattle.sq_form_laws.specs.Served.{FormRuns}
 use Rattle.sq_form_laws.proofs.RanHold.{as_many_forms}
-use Rattle.sq_form_laws.proofs.ServedHold.{calls_are_served}
-use Rattle.sq_spec.specs.declared.body.Body.{Body}
 use Rattle.sq_spec.specs.declared.body.FormBody.{FormBody}
 use Rattle.sq_spec.specs.declared.resolved.Resolved.{Resolved}
 use Rattle.sq_spec.specs.Bodies.{what_runs, declared_body, scope_body, variant_body, instance_body, found_body, body_of}
@@ -37,7 +29,7 @@ use Rattle.sq_homes.specs.Drafts.{bodies_of}
 use Rattle.sq_homes_laws.specs.Simple.{Walked}
 use Rattle.sq_homes_laws.proofs.Programs.{bodies_are_tables}
 use Rattle.sq_needs.specs.Begun.{Begun, calls_of}
-use Rattle.sq_needs.specs.Listed.{IsListed, CallsAreListed}
+use Rattle.sq_needs.specs.Listed.{IsListed}
 use Rattle.sq_needs.proofs.Linked.{One, Ones, instance_in, none, more, list_linked}
 use Rattle.sq_needs.proofs.Near.{walk, runs_at, near_calls}
 use Rattle.sq_needs.proofs.Unique.{serving, by_instance, by_variant, number_by_key}

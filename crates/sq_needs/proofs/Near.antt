@@ -1,41 +1,21 @@
 -- The calls of a text are served nearby.
-use Rattle.std.proofs.Common.{◌≡◌, ℕ, zero, suc, ◌+◌, ◌==◌, ◌⊎◌, inl, inr, Bool, true, false, List, [], ◌∷◌, map, length}
-use Rattle.std.proofs.Common.{slice_get, Option, Some, None, Ok, refl, sym, ap, ap₂, subst, ◌∙◌, arith, if◌then◌else◌}
-use Rattle.std.proofs.lemmas.Bool.Decides.{nat_tests}
-use Rattle.sq_ast.specs.declared.program.Body.{Body as Text}
-use Rattle.sq_ast.specs.declared.program.Body.TheVariants as text
+use Rattle.std.proofs.Common.{◌≡◌, ℕ, suc, ◌⊎◌, inl, inr, List, [], ◌∷◌}
+use Rattle.std.proofs.Common.{slice_get, Some, refl, ap, ◌∙◌}
 use Rattle.sq_ast.specs.declared.program.Variant.{Variant}
 use Rattle.sq_ast.specs.declared.stmt.Call.{Call}
-use Rattle.sq_ast.specs.declared.stmt.Stmt.{Stmt}
 use Rattle.sq_mapfile.specs.declared.mapping.Instance.{Instance}
 use Rattle.sq_forms.specs.declared.form.Found.{Found}
-use Rattle.sq_forms.specs.declared.form.Form.{Form}
-use Rattle.sq_forms.specs.Steps.{Forms, Key, Called}
+use Rattle.sq_forms.specs.Steps.{Key}
 use Rattle.sq_forms.specs.Tables.{variant_of}
-use Rattle.sq_forms.specs.Worlds.{Frame, Callee, callee_of}
-use Rattle.sq_forms.specs.Decls.{Scope, params_from, empty_scope}
-use Rattle.sq_forms.specs.Resolving.{Resolving, frame_in, with_locals, body_steps}
-use Rattle.sq_form_laws.specs.Reached.{Ran, CalleeIs, calls_in, steps_of, body_calls, form_number}
+use Rattle.sq_forms.specs.Worlds.{Callee}
+use Rattle.sq_forms.specs.Resolving.{Resolving, frame_in}
+use Rattle.sq_form_laws.specs.Reached.{body_calls}
 use Rattle.sq_form_laws.specs.Served.{FormRuns, IsServed}
-use Rattle.sq_form_laws.proofs.AnswerHold.{forms_are_found}
 use Rattle.sq_form_laws.proofs.EachCall.{AllIn}
 use Rattle.sq_form_laws.proofs.FitHold.{forms_run}
-use Rattle.sq_form_laws.proofs.RanHold.{as_many_forms}
 use Rattle.sq_form_laws.proofs.ServedHold.{calls_are_served}
-use Rattle.sq_spec.specs.declared.body.Body.{Body}
-use Rattle.sq_spec.specs.declared.body.FormBody.{FormBody}
 use Rattle.sq_spec.specs.declared.resolved.Resolved.{Resolved}
-use Rattle.sq_spec.specs.Bodies.{what_runs, declared_body, scope_body, variant_body, instance_body, found_body, body_of}
-use Rattle.sq_spec.specs.Statements.{elems_of}
-use Rattle.sq_spec.specs.Works.{shapes_of}
-use Rattle.sq_spec_laws.specs.Needs.{Reached, reached_by_body, reached_where, reached_with, reached_of, reached_from}
-use Rattle.sq_spec_laws.specs.Needs.{frame_at, variant_for}
-use Rattle.sq_term.specs.Terms.{body_in}
-use Rattle.sq_term.specs.Stands.{Each, below}
-use Rattle.sq_term.specs.Stands as stands
-use Rattle.sq_homes.specs.Drafts.{bodies_of}
 use Rattle.sq_homes_laws.specs.Simple.{Walked}
-use Rattle.sq_homes_laws.proofs.Programs.{bodies_are_tables}
 use Rattle.sq_needs.proofs.Linked.{IsNear}
 
 some_same : {A : Type 0} (x y : A) → Some x ≡ Some y → x ≡ y

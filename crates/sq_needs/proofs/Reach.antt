@@ -1,8 +1,9 @@
 -- Where a form runs, and what stands at a node before it: one call more.
-use Rattle.std.proofs.Common.{◌≡◌, ℕ, zero, suc, ◌+◌, ◌<◌, ◌≤◌, ◌==◌, ◌⊎◌, inl, inr, max, Bool, true, false, List, [], ◌∷◌}
-use Rattle.std.proofs.Common.{◌++◌, map, length, get_or, slice_get, Option, Some, None, refl, sym, ap, ap₂, subst, ◌∙◌, arith}
+use Rattle.std.proofs.Common.{◌≡◌, ℕ, zero, suc, ◌+◌, ◌<◌, ◌==◌, ◌⊎◌, inl, inr, max, Bool, true, false, List, [], ◌∷◌}
+use Rattle.std.proofs.Common.{◌++◌, map, length, slice_get, Option, Some, None, refl, sym, ap, ap₂, subst, ◌∙◌, arith}
 use Rattle.std.proofs.Common.{if◌then◌else◌}
 use Rattle.std.specs.Prelude.{nat_le}
+use Rattle.std.proofs.lemmas.Option.{get_or_from_slice_get}
 use Rattle.std.proofs.lemmas.Bool.{leb-true, leb-false}
 use Rattle.std.proofs.lemmas.Bool.Decides.{nat_tests}
 use Rattle.sq_text.specs.declared.spread.SpreadRule.{SpreadRule}
@@ -16,14 +17,13 @@ use Rattle.sq_ir.specs.declared.plan.PlanNode.{PlanNode}
 use Rattle.sq_forms.specs.declared.form.Form.{Form}
 use Rattle.sq_forms.specs.declared.form.Found.{Found}
 use Rattle.sq_forms.specs.Steps.{Key}
-use Rattle.sq_forms.specs.Resolving.{Resolving, with_locals, none_in_place}
-use Rattle.sq_form_laws.specs.Reached.{IsFound}
+use Rattle.sq_forms.specs.Resolving.{with_locals, none_in_place}
 use Rattle.sq_form_laws.proofs.AnswerHold.{forms_are_found, forms_callers_first}
 use Rattle.sq_spec.specs.declared.body.FormBody.{FormBody}
 use Rattle.sq_spec.specs.declared.resolved.Resolved.{Resolved}
 use Rattle.sq_spec.proofs.Rows.{get_or_map}
 use Rattle.sq_spec_laws.specs.Needs.{Turn, Reached, reached_from, own_size, IsCall, child_for, StandsAt, RunsAt, entry, beside}
-use Rattle.sq_spec_laws.specs.Needs.{below, EndsAt, Needs, AtLevel, ends}
+use Rattle.sq_spec_laws.specs.Needs.{below, EndsAt, AtLevel}
 use Rattle.sq_spec_laws.proofs.LevelsHold.{forms_run_at_their_level}
 use Rattle.sq_nests.specs.Stacks.{total}
 use Rattle.sq_placed.specs.declared.home.Homes.{Homes}
@@ -31,20 +31,22 @@ use Rattle.sq_placed.specs.Trees.{callee_node, local_buffers}
 use Rattle.sq_placed.specs.Tables.{locals_of}
 use Rattle.sq_term.specs.Stands as stands
 use Rattle.sq_term.specs.Stands.{Each, none, more}
-use Rattle.sq_term.specs.Terms.{body_in, homes_in}
+use Rattle.sq_term.specs.Terms.{body_in, homes_in, no_homes}
 use Rattle.sq_homes.specs.declared.choice.Choice.{Choice}
-use Rattle.sq_homes.specs.Drafts.{bodies_of, homes_of, entry_of, instance_by, rule_by}
+use Rattle.sq_homes.specs.Numbering.{form_homes}
+use Rattle.sq_homes.specs.Drafts.{bodies_of, homes_of, entry_of, choice_in, instance_at, instance_by, rule_by}
 use Rattle.sq_homes_laws.specs.Simple.{Walked, setting_of}
-use Rattle.sq_homes_fit.proofs.Forms.{drafted, run_of, resolving}
+use Rattle.sq_homes_fit.proofs.Forms.{body_at, body_there, run_of, resolving}
+use Rattle.sq_homes_fit.proofs.Numbers.{first_of, form_is_at}
 use Rattle.sq_homes_fit.proofs.Entry as first
 use Rattle.sq_draft_laws.specs.Memories.{plan_node}
-use Rattle.sq_elim.specs.Choices.{all_in_place}
 use Rattle.sq_needs.specs.Begun.{Begun, calls_of}
 use Rattle.sq_needs.specs.Listed.{IsListed}
+use Rattle.sq_needs.specs.Needed.{KeepInPlace}
 use Rattle.sq_needs.specs.Sums.{child_in, greatest, brought, here, callee_at, worth, sum_of, table_sum}
 use Rattle.sq_needs.proofs.ListedForms.{calls_are_listed}
-use Rattle.sq_needs.proofs.Sizes.{in_place_is_simple, brought_size, entry_size}
-use Rattle.sq_needs.proofs.Ends.{EndIs, one_end, end_is, entry_end, some_end, call_end}
+use Rattle.sq_needs.proofs.Sizes.{brought_size, entry_size}
+use Rattle.sq_needs.proofs.Ends.{EndIs, entry_end, some_end, call_end}
 
 some_same : {A : Type 0} (x y : A) → Some x ≡ Some y → x ≡ y
 some_same x y h = cc h
@@ -95,7 +97,8 @@ none_placed [] i b h = cc
 none_placed (e ∷ extents) zero b h = let z : false ≡ b = cc h in sym z
 none_placed (e ∷ extents) (suc i) b h = none_placed extents i b h
 
-module _ (r : Resolved) (w : Walked r) (limits : WithinLimits r.machine.now) (x : ℕ) where
+module _ (r : Resolved) (w : Walked r) (limits : WithinLimits r.machine.now) (choices : List Choice)
+    (keep : KeepInPlace r choices) (x : ℕ) where
   abbrev pub tasks : List Variant
   tasks = r.typed.now.tasks
 
@@ -107,9 +110,6 @@ module _ (r : Resolved) (w : Walked r) (limits : WithinLimits r.machine.now) (x 
 
   abbrev pub memories : List PlanNode
   memories = map plan_node nodes
-
-  abbrev pub choices : List Choice
-  choices = all_in_place r
 
   abbrev pub s : Setting
   s = setting_of r choices memories (λ b. 0)
@@ -150,8 +150,10 @@ module _ (r : Resolved) (w : Walked r) (limits : WithinLimits r.machine.now) (x 
       → (homes k).rule ≡ i.spread
   rule_is k f i there at =
       let e = forms_are_found tasks r.mapping.now (resolving r) w.through k f there in
-      let d = drafted r w choices (in_place_is_simple r) k e.found e.there in
-      ap (λ (h : Homes). h.rule) d.homes
+      let d = form_is_at r choices k (body_at r k) (body_there r w k e.found e.there) in
+      let rule = rule_by (instance_at r k) in
+      let own = form_homes (first_of r choices k) rule d.code (body_at r k) (choice_in choices k) in
+      ap (λ (h : Homes). h.rule) (get_or_from_slice_get (homes_of r choices) k own no_homes d.homes)
       ∙ ap (λ (o : Option Form). rule_by (instance_by instances o)) there ∙ ap rule_by at
 
   -- ---- sizes
@@ -162,7 +164,7 @@ module _ (r : Resolved) (w : Walked r) (limits : WithinLimits r.machine.now) (x 
       let e = forms_are_found tasks r.mapping.now (resolving r) w.through k f there in
       let run = run_of r w k e.found e.there in
       let same : with_locals e.found.1 run.ran.scope.locals ≡ f = some_same _ f (sym run.ran.kept ∙ there) in
-      brought_size r w memories (λ b. 0) k e.found e.there d.row is
+      brought_size r w choices keep memories (λ b. 0) k e.found e.there d.row is
       (many ∙ sym (ap (λ (g : Form). length g.in_place) same))
       ∙ ap (own_size tasks instances) same
 
@@ -369,7 +371,7 @@ module _ (r : Resolved) (w : Walked r) (limits : WithinLimits r.machine.now) (x 
   entry_brings = total s.size (entry_of r choices ++ local_buffers (locals_of (bodies 0) (homes 0)))
 
   entry_size_is : entry_brings ≡ own_size tasks instances entry_own
-  entry_size_is = entry_size r w memories (λ b. 0) 0 entry_form_ (first.entry r).found refl
+  entry_size_is = entry_size r w choices keep memories (λ b. 0) 0 entry_form_ (first.entry r).found refl
       (λ i b h. none_placed (first.extents r) i b h)
 
   pub entry_inv : Inv 0 0 (here 0 x entry_brings)

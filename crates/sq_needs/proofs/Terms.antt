@@ -1,7 +1,7 @@
 -- The greatest sum of a form's term, written out, is that of the calls of its tables.
-use Rattle.std.proofs.Common.{◌≡◌, ℕ, zero, suc, ◌+◌, ◌*◌, ◌==◌, max, pos, Bool, true, false, not, ◌&&◌, ◌||◌, is_some, List, []}
+use Rattle.std.proofs.Common.{◌≡◌, ℕ, zero, suc, ◌+◌, ◌*◌, ◌==◌, max, pos, Bool, true, false, List, []}
 use Rattle.std.proofs.Common.{◌∷◌, ◌++◌, map, get_or, slice_get, Option, Some, None, refl, sym, ap, ap₂, subst, ◌∙◌, arith}
-use Rattle.std.proofs.Common.{if◌then◌else◌}
+use Rattle.std.proofs.Common.{if◌then◌else◌, ◌<◌, ◌≤◌, ◌⊎◌, inl, inr, ℤ}
 use Rattle.std.proofs.lemmas.Bool.Decides.{nat_tests}
 use Rattle.std.specs.Prelude.{nat_abs}
 use Rattle.std.specs.List.{flat_map, range_with_len}
@@ -9,7 +9,6 @@ use Rattle.sq_num.specs.declared.RedOp.{RedOp}
 use Rattle.sq_text.specs.declared.place.Place.{Place}
 use Rattle.sq_text.specs.declared.spread.SpreadRule.{SpreadRule}
 use Rattle.sq_text.specs.declared.spread.SpreadRule.TheVariants.{Cyclic, Blocked}
-use Rattle.sq_text.specs.Spreading.{child_of}
 use Rattle.sq_ast.specs.declared.program.Mode.{Mode}
 use Rattle.sq_ast.specs.declared.program.Mode.TheVariants.{Input, Output, Both}
 use Rattle.sq_ir.specs.Lifting.{lift}
@@ -17,49 +16,44 @@ use Rattle.sq_ir.specs.Written.{Setting, Env, value_of, count_of, at_turn, at_ch
 use Rattle.sq_ir.specs.declared.num.Num.{Num}
 use Rattle.sq_ir.specs.declared.num.Num.TheVariants as n
 use Rattle.sq_ir.specs.declared.term.Action.{Action}
-use Rattle.sq_ir.specs.declared.term.Action.TheVariants as action
 use Rattle.sq_ir.specs.declared.term.Term.{Term}
 use Rattle.sq_ir.specs.declared.term.Term.TheVariants as term
 use Rattle.sq_ir.proofs.LiftOnce.{lift_one}
+use Rattle.sq_leaf.specs.declared.shape.Shape.{Shape}
 use Rattle.sq_blocks.specs.declared.argument.Argument.{Argument}
 use Rattle.sq_spec.specs.declared.statement.LoopKind.{LoopKind}
 use Rattle.sq_spec.specs.declared.statement.CallInstance.{CallInstance}
-use Rattle.sq_spec.specs.declared.statement.Statement.{Statement, roll-Statement}
+use Rattle.sq_spec.specs.declared.statement.Statement.{Statement}
 use Rattle.sq_spec.specs.declared.statement.Statement.TheVariants as b
 use Rattle.sq_spec.specs.declared.statement.Statement.TheOpen.{Statement-F}
-use Rattle.sq_spec.specs.declared.statement.Statement.TheFolds.{ind-Statement, map-Statement, fold-roll-Statement}
-use Rattle.sq_spec.specs.declared.body.Body.{Body}
-use Rattle.sq_spec.specs.declared.body.Body.TheVariants as body
+use Rattle.sq_spec.specs.declared.statement.Statement.TheFolds.{fold-roll-Statement}
 use Rattle.sq_spec.specs.declared.body.FormBody.{FormBody}
 use Rattle.sq_spec_laws.specs.Needs.{Turn, turn_in}
-use Rattle.sq_nests.specs.Nests.{Nest, Scopes, ScopesAt, End, all_at, each_of, arm_of, arm_at, scopes_of}
+use Rattle.sq_nests.specs.Nests.{Scopes, ScopesAt, all_at, each_of, arm_of, arm_at, scopes_of}
 use Rattle.sq_nests.specs.Stacks.{total, at_node, sum_at}
 use Rattle.sq_nests.proofs.Chains.{total_append}
-use Rattle.sq_nests.proofs.Equations.{scopes_skip, scopes_act, scopes_seq, scopes_par, scopes_loop, scopes_spread}
+use Rattle.sq_nests.proofs.Equations.{scopes_skip, scopes_act, scopes_seq, scopes_par, scopes_loop}
 use Rattle.sq_nests.proofs.Equations.{scopes_case, scopes_within}
 use Rattle.sq_placed.specs.declared.home.Home.{Home}
 use Rattle.sq_placed.specs.declared.home.Home.TheVariants.{InPlace}
 use Rattle.sq_placed.specs.declared.home.Homes.{Homes}
 use Rattle.sq_placed.specs.Placed.{PlacedLocal}
 use Rattle.sq_placed.specs.Trees.{is_moved, buffer_of, local_buffers, callee_node}
-use Rattle.sq_placed.specs.Tables.{Chain, locals_of, op_of, spread_of, leaves_loop, leaving_args, leaving_row}
-use Rattle.sq_placed.specs.Tables.{leaving_chain, chain_of, chain_form}
+use Rattle.sq_placed.specs.Tables.{locals_of}
 use Rattle.sq_term.specs.declared.context.Context.{Context}
 use Rattle.sq_term.specs.declared.context.Move.{Move}
-use Rattle.sq_term.specs.Terms as terms
 use Rattle.sq_term.specs.Terms.{numbers, lift_child, in_map, by_rows, copy_in_term, copy_out_term, clear_term}
 use Rattle.sq_term.specs.Terms.{bring_term_by, bring_term, back_term_by, back_term, local_view, moves_from, buffers_from}
 use Rattle.sq_term.specs.Terms.{in_callee, callee_term, call_parts, call_child, arms_of, arm_number, picks, hold_term}
-use Rattle.sq_term.specs.Terms.{chain_times, chain_num, first_num, TermPart, all_terms, map_term, count_num, loop_term}
-use Rattle.sq_term.specs.Terms.{arm_term, arm_of_form, rows_term, map_hold, term_step, statement_term, body_term, term_of}
+use Rattle.sq_term.specs.Terms.{held_moves, leaving_buffers, hold_in_term_by, hold_in_term, hold_out_term_by}
+use Rattle.sq_term.specs.Terms.{hold_out_term, at_child_already, arm_term, arm_of_form, rows_term}
 use Rattle.sq_term.specs.Stands.{Each, none, more, IsNumber}
-use Rattle.sq_term.proofs.Numbers.{const_is, index_is, mul_is, div_is, rem_is, children_is, table_is, count_is}
+use Rattle.sq_term.proofs.Numbers.{const_is, index_is, mul_is, div_is, rem_is, children_is, table_is}
 use Rattle.sq_term.proofs.Numbers.{lifted_is, constant, turn, sum, picked}
 use Rattle.sq_term.proofs.Arms.{IsHead, arm_of_row, pick_of, picks_are}
-use Rattle.sq_term.proofs.Opened.{built_call, built_map}
 use Rattle.sq_needs.specs.Begun as begun
 use Rattle.sq_needs.specs.Begun.{Begun, BegunPart, calls_in, row_begun, is_spread, begun_step, calls_of}
-use Rattle.sq_needs.specs.Sums.{child_in, greatest, brought, here, callee_at, worth, sum_of}
+use Rattle.sq_needs.specs.Sums.{child_in, greatest, here}
 
 -- ---- numbers
 
@@ -145,6 +139,38 @@ turn_begins s env rule node round k c count m counted starts t v h = by v rule r
       node_is = h.node_is;
     }
 
+-- ---- where lower calls go
+
+-- to this node, from where a statement is begun for the k-th time
+pub record GoesTo (s : Setting) (env : Env) (to k : ℕ) (c : Context) : Type 0 where
+  pub ordinal : IsNumber s env.turns c.ordinal k
+  pub node_is : node_of (inside_of s env c.child) ≡ to
+
+turns_stay : (s : Setting) (env : Env) (o : Option Num) → env.turns ≡ (inside_of s env o).turns
+turns_stay s env None = refl
+turns_stay s env (Some q) = refl
+
+-- inside a loop that arguments leave
+pub goes_entered : (s : Setting) (env : Env) (to k : ℕ) (c : Context) → GoesTo s env to k c
+    → GoesTo s (inside_of s env c.child) to k (at_child_already c)
+goes_entered s env to k c g = record {
+  ordinal = subst (λ (ts : List ℕ). IsNumber s ts c.ordinal k) (turns_stay s env c.child) g.ordinal;
+  node_is = g.node_is;
+}
+
+pub goes_in_turn : (s : Setting) (env : Env) (to k : ℕ) (c : Context) (count : Num) (starts : List ℕ) (t : ℕ)
+    → GoesTo s env to k c → GoesTo s (at_turn env t) to (get_or starts k 0 + t) (in_map None count starts c)
+goes_in_turn s env to k c count starts t g = record {
+  ordinal = sum s (t ∷ env.turns) (n.Pick (numbers starts) (lift 1 c.ordinal)) (n.Index 0) (get_or starts k 0) t
+      (picked s (t ∷ env.turns) starts (lift 1 c.ordinal) k (lifted_is s env.turns c.ordinal k t g.ordinal))
+      (turn s env.turns t);
+  node_is = by c.child g.node_is;
+}
+  where
+    by : (o : Option Num) → node_of (inside_of s env o) ≡ to → node_of (inside_of s (at_turn env t) (lift_child o)) ≡ to
+    by None h = h
+    by (Some q) h = ap (λ (z : ℤ). node_of (at_child s env (nat_abs z))) (lift_one s t q env) ∙ h
+
 -- ---- sums
 
 module _ (s : Setting) (x : ℕ) where
@@ -162,13 +188,35 @@ module _ (s : Setting) (x : ℕ) where
       by true = refl
       by false = refl
 
-  pub each_same : {A : Type 0} (w : A → ℕ) (m : ℕ) (f : ℕ → Scopes) (g : ℕ → List A) (t : ℕ)
-      → ((i : ℕ) → of_scopes (f i) ≡ greatest w (g i))
-      → of_scopes (each_of m f t) ≡ greatest w (flat_map g (range_with_len t m))
+  -- a: what stands round them besides
+  pub each_more : {A : Type 0} (w : A → ℕ) (a m : ℕ) (f : ℕ → Scopes) (g : ℕ → List A) (t : ℕ) → (a ≡ 0) ⊎ (0 < m)
+      → ((i : ℕ) → t ≤ i → i < t + m → a + of_scopes (f i) ≡ greatest w (g i))
+      → a + of_scopes (each_of m f t) ≡ greatest w (flat_map g (range_with_len t m))
   unfolding each_of
-  each_same w zero f g t h = refl
-  each_same w (suc m) f g t h = ap₂ max (h t) (each_same w m f g (t + 1) h)
-      ∙ sym (greatest_both w (g t) (flat_map g (range_with_len (t + 1) m)))
+  each_more w a zero f g t (inl z) h = let q : a + 0 ≡ 0 = omega (arith, z) in q
+  each_more w a zero f g t (inr l) h = absurd (omega (arith, l))
+  each_more w a (suc zero) f g t e h =
+      let x = of_scopes (f t) in
+      let p : a + max x 0 ≡ a + x = omega arith in
+      let q : greatest w (g t) ≡ max (greatest w (g t)) 0 = omega arith in
+      p ∙ h t (omega arith) (omega arith) ∙ q ∙ sym (greatest_both w (g t) [])
+  each_more w a (suc (suc m)) f g t e h =
+      let x = of_scopes (f t) in
+      let y = of_scopes (each_of (suc m) f (t + 1)) in
+      let p : a + max x y ≡ max (a + x) (a + y) = omega arith in
+      p ∙ ap₂ max (h t (omega arith) (omega arith))
+      (each_more w a (suc m) f g (t + 1) (inr (omega arith)) (λ i l u. h i (omega (arith, l)) (omega (arith, u))))
+      ∙ sym (greatest_both w (g t) (flat_map g (range_with_len (t + 1) (suc m))))
+
+  pub each_same : {A : Type 0} (w : A → ℕ) (m : ℕ) (f : ℕ → Scopes) (g : ℕ → List A) (t : ℕ)
+      → ((i : ℕ) → t ≤ i → i < t + m → of_scopes (f i) ≡ greatest w (g i))
+      → of_scopes (each_of m f t) ≡ greatest w (flat_map g (range_with_len t m))
+  each_same w m f g t h =
+      none (of_scopes (each_of m f t))
+      ∙ each_more w 0 m f g t (inl refl) (λ i l u. sym (none (of_scopes (f i))) ∙ h i l u)
+    where
+      none : (k : ℕ) → k ≡ 0 + k
+      none k = omega arith
 
   each_none : (m : ℕ) (f : ℕ → Scopes) (t : ℕ) → ((i : ℕ) → of_scopes (f i) ≡ 0) → of_scopes (each_of m f t) ≡ 0
   unfolding each_of
@@ -212,6 +260,22 @@ module _ (s : Setting) (x : ℕ) where
       by None Output = if_quiet (is_moved m.home) (copy_out_term m) (rows_quiet _ _)
       by None Both = if_quiet (is_moved m.home) (copy_out_term m) (rows_quiet _ _)
 
+  hold_in_quiet : (m : Move) → Quiet (hold_in_term m)
+  hold_in_quiet m = by m.mode
+    where
+      by : (k : Mode) → Quiet (hold_in_term_by k m)
+      by Input = rows_quiet _ _
+      by Output = skip_quiet
+      by Both = rows_quiet _ _
+
+  hold_out_quiet : (m : Move) → Quiet (hold_out_term m)
+  hold_out_quiet m = by m.mode
+    where
+      by : (k : Mode) → Quiet (hold_out_term_by k m)
+      by Input = skip_quiet
+      by Output = rows_quiet _ _
+      by Both = rows_quiet _ _
+
   all_quiet : {A : Type 0} (f : A → Term) → ((y : A) → Quiet (f y)) → (ys : List A) (env : Env)
       → of_scopes (all_at (map (scopes_of s) (map f ys)) env) ≡ 0
   all_quiet f h [] env = refl
@@ -250,6 +314,39 @@ module _ (s : Setting) (x : ℕ) where
       let q = par_quiet back_term back_quiet ms env in
       let r = callee_sum ks y env in omega (arith, p, q, r))
 
+  -- ---- a loop that arguments leave
+
+  pub nothing_here : (node : ℕ) → here node x 0 ≡ 0
+  nothing_here node = by (node == x) 0 refl
+    where
+      by : (v : Bool) (k : ℕ) → k ≡ 0 → (if v then k else 0) ≡ 0
+      by true k e = e
+      by false k e = refl
+
+  -- a: what stands round the loop besides; b: the same without these arguments
+  pub hold_sum : (shapes : List Shape) (hs : List Home) (times : List CallInstance) (number : Num)
+      (ps : List (ℕ × Argument)) (inside : Bool) (c : Context) (env : Env) (to k a b w : ℕ)
+      (loop : Bool → Context → Term) → GoesTo s env to k c → b + here to x (total s.size (leaving_buffers hs ps)) ≡ a
+      → ((v : Bool) (d : Context) (e : Env) → GoesTo s e to k d → a + of_term (loop v d) e ≡ w)
+      → b + of_term (hold_term shapes hs times number ps inside c loop) env ≡ w
+  hold_sum shapes hs times number [] inside c env to k a b w loop g e h =
+      let z = nothing_here to in
+      let is : b ≡ a = omega (arith, z, e) in
+      ap (λ (m : ℕ). m + of_term (loop inside c) env) is ∙ h inside c env g
+  hold_sum shapes hs times number (p ∷ ps) inside c env to k a b w loop g e h =
+      let ms = held_moves shapes hs c.views times number (p ∷ ps) in
+      let bs = leaving_buffers hs (p ∷ ps) in
+      let deeper = inside_of s env c.child in
+      let all = term.Par (map hold_in_term ms) ∷ loop true (at_child_already c) ∷ term.Par (map hold_out_term ms)
+      ∷ [] in
+      let round = within_sum c.child bs (term.Seq all) env in
+      let at = ap (λ (m : ℕ). here m x (total s.size bs)) g.node_is in
+      let parts = ap (λ (f : ScopesAt). of_scopes (f deeper)) (scopes_seq s all) in
+      let ins = par_quiet hold_in_term hold_in_quiet ms deeper in
+      let outs = par_quiet hold_out_term hold_out_quiet ms deeper in
+      let inner = h true (at_child_already c) deeper (goes_entered s env to k c g) in
+      omega (arith, round, at, parts, ins, outs, inner, e)
+
   -- ---- calls
 
   buffers_same : (hs : List Home) (i : ℕ) {xs ys : List Argument} → Each IsHead xs ys → buffers_from hs i ys
@@ -257,7 +354,7 @@ module _ (s : Setting) (x : ℕ) where
   buffers_same hs i none = refl
   buffers_same hs i (more head heads) = ap (buffer_of (get_or hs i InPlace)) (buffers_same hs (suc i) heads)
 
-  entered : (env : Env) (rule : SpreadRule) (node : ℕ) (round : Option Turn) (k : ℕ) (c : Context) (lower : Bool)
+  pub entered : (env : Env) (rule : SpreadRule) (node : ℕ) (round : Option Turn) (k : ℕ) (c : Context) (lower : Bool)
       → Begins s env rule node round k c
       → node_of (inside_of s env (call_child lower c))
       ≡ callee_node s lower node (child_in rule (s.children node) round)
@@ -281,14 +378,14 @@ module _ (s : Setting) (x : ℕ) where
         → of_term (made f c) env ≡ inside f node
 
     module _ (made : ℕ → Context → Term) (inside : ℕ → ℕ → ℕ) (callees : AreSums made inside) where
-      pub arm_sum : (params : List Home) (op : Option RedOp) (lower : Bool) (instances : List CallInstance) (k : ℕ)
-          (r arm : CallInstance) (c : Context) (env : Env) (rule : SpreadRule) (node : ℕ) (round : Option Turn)
-          → r.form ≡ arm.form → Each IsHead r.args arm.args → Begins s env rule node round k c
+      pub arm_sum : (params : List Home) (op : Option RedOp) (lower : Bool) (instances : List CallInstance)
+          (r arm : CallInstance) (c : Context) (env : Env) (to : ℕ) → r.form ≡ arm.form → Each IsHead r.args arm.args
+          → node_of (inside_of s env (call_child lower c)) ≡ to
           → of_term (arm_term bodies homes made params op lower c instances arm) env
-          ≡ here (callee_node s lower node (child_in rule (s.children node) round)) x (total s.size
+          ≡ here to x (total s.size
           (buffers_from params 0 r.args ++ local_buffers (locals_of (bodies r.form) (homes r.form))))
-          + inside r.form (callee_node s lower node (child_in rule (s.children node) round))
-      arm_sum params op lower instances k r arm c env rule node round form heads h =
+          + inside r.form to
+      arm_sum params op lower instances r arm c env to form heads at_node =
           ap (λ (f : ℕ). of_term (arm_term bodies homes made params op lower c instances
           (record { form = f; args = arm.args })) env) (sym form)
           ∙ within_sum (call_child lower c) (buffers_from params 0 arm.args) _ env
@@ -300,12 +397,6 @@ module _ (s : Setting) (x : ℕ) where
         where
           deeper : Env
           deeper = inside_of s env (call_child lower c)
-
-          to : ℕ
-          to = callee_node s lower node (child_in rule (s.children node) round)
-
-          at_node : node_of deeper ≡ to
-          at_node = entered env rule node round k c lower h
 
           ms : List Move
           ms = moves_from op (bodies r.form).arrays params c instances 0 arm.args
@@ -338,14 +429,21 @@ module _ (s : Setting) (x : ℕ) where
               let q = ap (here to x) (total_append s.size (buffers_from params 0 r.args) (local_buffers ks)) in
               omega (arith, p, q)
 
+      -- what a row gives at the node to which its call goes: the buffers that stand just round it, and what it needs
+      abbrev pub row_gives : (to : ℕ) → Option CallInstance → ℕ
+      row_gives to None = 0
+      row_gives to (Some r) =
+          here to x (total s.size
+          (buffers_from (homes r.form).params 0 r.args ++ local_buffers (locals_of (bodies r.form) (homes r.form))))
+          + inside r.form to
+
       pub rows_sum : (op : Option RedOp) (lower : Bool) (instances : List CallInstance) (k : ℕ) (c : Context) (env : Env)
-          (rule : SpreadRule) (node : ℕ) (round : Option Turn) → Begins s env rule node round k c
-          → of_term (rows_term bodies homes made op lower c instances) env
-          ≡ greatest (worth s bodies homes x inside rule node) (row_begun lower round (slice_get instances k))
-      rows_sum op lower instances k c env rule node round h =
+          (to : ℕ) → IsNumber s env.turns c.ordinal k → node_of (inside_of s env (call_child lower c)) ≡ to
+          → of_term (rows_term bodies homes made op lower c instances) env ≡ row_gives to (slice_get instances k)
+      rows_sum op lower instances k c env to ordinal at_node =
           ap (λ (f : ScopesAt). of_scopes (f env)) (scopes_case s _ (term.Skip ∷ map arm (arms_of instances)))
           ∙ ap (λ z. of_scopes (arm_at (map (scopes_of s) (term.Skip ∷ map arm (arms_of instances))) z env))
-          (table_is s env (picks (arms_of instances) instances) c.ordinal k (h.ordinal.value env.level env.nodes)
+          (table_is s env (picks (arms_of instances) instances) c.ordinal k (ordinal.value env.level env.nodes)
           ∙ ap pos (picks_are (arms_of instances) instances k))
           ∙ by (slice_get instances k) refl
         where
@@ -355,13 +453,11 @@ module _ (s : Setting) (x : ℕ) where
           by : (o : Option CallInstance) → slice_get instances k ≡ o
               → of_scopes (arm_of (map (scopes_of s) (term.Skip ∷ map arm (arms_of instances)))
               (pick_of (arms_of instances) o) env)
-              ≡ greatest (worth s bodies homes x inside rule node) (row_begun lower round o)
+              ≡ row_gives to o
           by None e = skip_quiet env
           by (Some r) e =
               let has = arm_of_row instances k r e in
               arm_there arm (arms_of instances) (arm_number (arms_of instances) r) has.arm env has.there
               ∙ ap (λ (f : ℕ). of_term (arm_term bodies homes made (homes f).params op lower c instances has.arm) env)
               (sym has.form)
-              ∙ arm_sum (homes r.form).params op lower instances k r has.arm c env rule node round has.form has.heads h
-              ∙ (let w = worth s bodies homes x inside rule node (record { row = r; lower = lower; turn = round }) in
-              let z : w ≡ max w 0 = omega arith in z)
+              ∙ arm_sum (homes r.form).params op lower instances r has.arm c env to has.form has.heads at_node

@@ -1,5 +1,5 @@
 -- Each form that is found, but the entry, was reached by a call of the form that is its caller.
-use Rattle.std.proofs.Common.{◌≡◌, ℕ, zero, suc, ◌+◌, ◌<◌, Bool, true, false, List, [], ◌∷◌, ◌++◌, length, Option, Some, None, is_some, Ok, Err, if◌then◌else◌, refl, sym, subst, ap, ap₂, ◌∙◌, ◌⊎◌, inl, inr, map, arith}
+use Rattle.std.proofs.Common.{◌≡◌, ℕ, zero, suc, ◌+◌, ◌<◌, Bool, true, false, List, [], ◌∷◌, ◌++◌, length, Option, Some, None, is_some, Ok, Err, if◌then◌else◌, refl, sym, subst, ap, ap₂, ◌∙◌, ◌⊎◌, inl, inr, arith}
 use Rattle.std.specs.Prelude.{slice_get, nat_lt}
 use Rattle.std.proofs.lemmas.Bool.Decides.{nat_tests}
 use Rattle.sq_text.specs.declared.place.Place.{Place}
@@ -17,12 +17,8 @@ use Rattle.sq_form_laws.specs.Reached.{steps_of}
 use Rattle.sq_form_laws.proofs.Passing.{Everywhere}
 use Rattle.sq_ast.specs.declared.program.Body.{Body as Text}
 use Rattle.sq_ast.specs.declared.program.Body.TheVariants as text
-use Rattle.sq_ast.specs.declared.stmt.Call.{Call}
-use Rattle.sq_machfile.specs.declared.level.Level.{Level}
 use Rattle.sq_forms.specs.declared.form.Caller.{Caller}
-use Rattle.sq_forms.specs.declared.form.Form.{Form}
 use Rattle.sq_forms.specs.Calls.{key_of}
-use Rattle.sq_forms.specs.Resolving.{with_locals}
 use Rattle.sq_form_laws.specs.Reached.{calls_in, body_calls, form_number, or_zero}
 use Rattle.sq_form_laws.proofs.KeysFound.{number_kept, entered_number}
 use Rattle.sq_form_laws.proofs.Passing.{of_each}

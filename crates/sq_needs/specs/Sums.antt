@@ -5,9 +5,9 @@ use Rattle.std.specs.Prelude.{if◌then◌else◌}
 use Rattle.sq_text.specs.declared.spread.SpreadRule.{SpreadRule}
 use Rattle.sq_text.specs.Spreading.{child_of}
 use Rattle.sq_ir.specs.Written.{Setting}
-use Rattle.sq_ir.specs.Plans.{placed}
 use Rattle.sq_ir.specs.declared.plan.Draft.{Draft}
 use Rattle.sq_ir.specs.declared.plan.PlanNode.{PlanNode}
+use Rattle.sq_blocks.specs.declared.argument.Argument.{Argument}
 use Rattle.sq_spec.specs.declared.statement.CallInstance.{CallInstance}
 use Rattle.sq_spec.specs.declared.body.FormBody.{FormBody}
 use Rattle.sq_spec.specs.declared.resolved.Resolved.{Resolved}
@@ -19,10 +19,10 @@ use Rattle.sq_placed.specs.declared.home.Home.TheVariants.{InPlace, Own, Held, T
 use Rattle.sq_placed.specs.declared.home.Homes.{Homes}
 use Rattle.sq_placed.specs.Tables.{locals_of}
 use Rattle.sq_placed.specs.Trees.{local_buffers, callee_node}
-use Rattle.sq_term.specs.Terms.{buffers_from, body_in, homes_in}
+use Rattle.sq_term.specs.Terms.{body_in, homes_in}
 use Rattle.sq_homes.specs.declared.choice.Choice.{Choice}
 use Rattle.sq_homes.specs.Drafts.{IsDraftOf, bodies_of, homes_of, entry_of}
-use Rattle.sq_homes_laws.specs.Simple.{AreSimple, setting_of}
+use Rattle.sq_homes_laws.specs.Simple.{Walked, AreHoisted, setting_of}
 use Rattle.sq_needs.specs.Begun.{Begun, calls_of}
 
 -- the child at which a lower call runs: that of its iteration, and child 0 outside of spread maps
@@ -34,10 +34,21 @@ abbrev pub greatest : {A : Type 0} → (A → ℕ) → List A → ℕ
 greatest f [] = 0
 greatest f (x ∷ xs) = max (f x) (greatest f xs)
 
--- the buffers that a call brings, and those of its locals
+-- the buffer of an array that isn't in place, whether it leaves loops or not
+abbrev pub either_buffer : Home → List ℕ → List ℕ
+either_buffer InPlace more = more
+either_buffer (Own b) more = b ∷ more
+either_buffer (Held b loops) more = b ∷ more
+either_buffer (Twin b c) more = more
+
+abbrev pub params_from : List Home → (i : ℕ) → List Argument → List ℕ
+params_from homes i [] = []
+params_from homes i (a ∷ rest) = either_buffer (get_or homes i InPlace) (params_from homes (suc i) rest)
+
+-- the buffers that a call brings, those of what leaves loops round it too, and those of its locals
 abbrev pub brought : (ℕ → FormBody) → (ℕ → Homes) → CallInstance → List ℕ
 brought bodies homes r =
-    buffers_from (homes r.form).params 0 r.args ++ local_buffers (locals_of (bodies r.form) (homes r.form))
+    params_from (homes r.form).params 0 r.args ++ local_buffers (locals_of (bodies r.form) (homes r.form))
 
 -- so many bytes at this node are none at another one
 abbrev pub here : (node x : ℕ) → ℕ → ℕ
@@ -72,8 +83,10 @@ table_sum r choices nodes node =
     entry_sum (setting_of r choices nodes (λ b. 0)) (body_in (bodies_of r)) (homes_in (homes_of r choices)) node
     (length (bodies_of r)) (entry_of r choices)
 
--- Where nothing leaves a loop, what stands within one another at a node of a draft are the buffers of calls within one
--- another.
+-- Where no loop overlaps its transfers, what stands within one another at a node of a draft are the buffers of calls
+-- within one another: each loop that an argument leaves has a call in it, so that the argument's buffer stands where
+-- this call's other buffers do.
 abbrev pub SumsAreOfCalls : Type 0
-SumsAreOfCalls = (r : Resolved) (choices : List Choice) → AreSimple r choices → (d : Draft) → IsDraftOf r choices d
+SumsAreOfCalls = (r : Resolved) → Walked r → (choices : List Choice) → AreHoisted r choices
+    → (d : Draft) → IsDraftOf r choices d
     → (nodes : List PlanNode) (node : ℕ) → nested_sum d nodes node ≡ table_sum r choices nodes node

@@ -55,12 +55,12 @@ use Rattle.sq_plan_laws.specs.Seated.{Sits, at_node}
 use Rattle.sq_plan_laws.specs.Entry.{plan_tree, form_at, held_in, IsPlan, EndsSo, PlansAreSafe}
 use Rattle.sq_plan_laws.specs.LeafCalls.{PlansCount}
 use Rattle.sq_plan_laws.specs.Room.{PlansInside, IsRoomy, HasRoom}
+use Rattle.sq_rooms.specs.Held.{AreHeldInside}
 use Rattle.sq_forms_fit.specs.Rows.{FormsFit}
 use Rattle.sq_forms_fit.proofs.Facts.{passed, passed_at}
 use Rattle.sq_forms_fit.specs.Homes as fit
 use Rattle.sq_forms_fit.specs.Homes.{mays_of}
 use Rattle.sq_forms_fit.specs.Laws.{ProgramsFit}
-use Rattle.sq_plan_room.specs.Buffers.{IsSimple}
 use Rattle.sq_plan_room.specs.Rooms as rooms
 use Rattle.sq_plan_room.specs.Rooms.{RoomIsStowed}
 use Rattle.sq_forms_fit.specs.Entry.{EntryFacts, EntriesSit, EntriesArePlans, EntriesFollow, ReadCodes, AreWhole, IsWhole}
@@ -77,7 +77,7 @@ use Rattle.sq_homes.specs.declared.choice.Choice.{Choice}
 use Rattle.sq_homes.specs.Drafts.{bodies_of, homes_of, args_of, buffers_of, leaves_of, entry_of, program_term, IsDraftOf}
 use Rattle.sq_homes_laws.specs.Given.{HomesAreLeveled, level_at}
 use Rattle.sq_homes_laws.specs.Programs.{BodiesAreTables, PlacedIsProgram, TermIsEntrys}
-use Rattle.sq_homes_laws.specs.Simple.{Walked, AreSimple, AreMemories, setting_of}
+use Rattle.sq_homes_laws.specs.Simple.{Walked, AreHoisted, AreMemories, setting_of}
 use Rattle.sq_homes_fit.specs.Homes.{HomesFitForms, EntriesAreWhole}
 use Rattle.sq_homes_fit.specs.Levels.{BeginsAtRoot, DraftsBeginAtRoot}
 use Rattle.sq_homes_fit.specs.Drafts.{limits, DraftsAreTabled, DraftsAreRoomy, IsRoomyDraft}
@@ -90,8 +90,8 @@ use Rattle.sq_draft_laws.specs.Short.{LeavesAreShort, AreShort, round_of}
 use Rattle.sq_plan_good.specs.Parts.{Placing, Laws}
 use Rattle.sq_plan_good.specs.Good.{HasNoRace, shapes_in, IsInput, EndsAsMeant, HasLeafCalls, LeavesAreAtHome}
 use Rattle.sq_plan_good.specs.Good.{IsGoodFor}
-use Rattle.sq_plan_good.specs.Good.{DraftsCanBePlaced, PlacedAreGood}
-use Rattle.sq_plan_good.proofs.SimpleHomes.{homes_are_simple}
+use Rattle.sq_plan_good.specs.Good.{MayLeave, DraftsCanBePlaced, PlacedAreGood}
+use Rattle.sq_plan_good.proofs.Single.{homes_are_single}
 
 -- ---- the last level
 
@@ -157,7 +157,7 @@ drawn_is r choices d of = λ i. record {
   notes = d.notes;
 }
 
-module _ (placing : Placing) (r : Resolved) (choices : List Choice) (simple : AreSimple r choices) (notes : List Note)
+module _ (placing : Placing) (r : Resolved) (choices : List Choice) (hoisted : AreHoisted r choices) (notes : List Note)
     (nodes : List PlanNode) (memories : AreMemories r.machine.now.levels nodes) where
   w : Walked r
   w = placing.walked r
@@ -169,15 +169,15 @@ module _ (placing : Placing) (r : Resolved) (choices : List Choice) (simple : Ar
   is_draft = record { term = refl; buffers = refl; leaves = refl; entry = refl }
 
   placeable : IsPlaceable d nodes
-  placeable = placing.placeable r w choices simple d is_draft nodes memories
+  placeable = placing.placeable r w choices hoisted d is_draft nodes memories
 
-  module _ (laws : Laws) (race_free : HasNoRace r) (placed : IsPlaced d nodes (record { draft = d; offsets = offsets_of d; nodes = nodes }))
+  module _ (laws : Laws) (race_free : HasNoRace r) (leave : MayLeave r choices) (placed : IsPlaced d nodes (record { draft = d; offsets = offsets_of d; nodes = nodes }))
     where
       last : Last r.machine.now.levels
       last = last_of r.machine.now.levels nodes memories
 
       begins : BeginsAtRoot r choices
-      begins = laws.begins r w choices simple
+      begins = laws.begins r w choices hoisted
 
       abbrev bodies : ℕ → FormBody
       bodies = body_in (bodies_of r)
@@ -233,19 +233,19 @@ module _ (placing : Placing) (r : Resolved) (choices : List Choice) (simple : Ar
       forms_fit = subst (λ (b : ℕ → FormBody). FormsFit leaves b homes mays) (sym bodies_are)
           (laws.fits r.typed.now r.machine.now.levels r.mapping.now w.formed w.faultless w.read
           (record { found = r.found.entries; forms = r.forms; uses = r.uses }) w.through leaves homes
-          (laws.homes r w choices simple) (laws.stand r w choices simple d is_draft))
+          (laws.homes r w choices hoisted) leave (laws.stand r w choices d is_draft))
 
       facts : EntryFacts bodies homes (mays 0) args
-      facts = laws.entries r w choices simple
+      facts = laws.entries r w choices hoisted
 
       tabled : AreTabled s limits last.last bodies homes (level_at r)
-      tabled = laws.tabled r w choices simple last.last last.is nodes offset
+      tabled = laws.tabled r w choices hoisted last.last last.is nodes offset
 
       roomy : IsRoomyDraft r choices s
-      roomy = laws.roomy r w choices simple nodes offset
+      roomy = laws.roomy r w choices hoisted nodes offset
 
       own : OwnsItsBuffers r choices s
-      own = laws.own r w choices simple nodes offset
+      own = laws.own r w choices hoisted nodes offset
 
       machine : IsDraftMachine s nodes last.last
       machine = laws.machines r.machine.now.levels nodes memories last.last last.is (buffers_of r choices) offset
@@ -267,7 +267,7 @@ module _ (placing : Placing) (r : Resolved) (choices : List Choice) (simple : Ar
         entry = own.entry;
         sits = laws.sit leaves bodies homes mays forms_fit n args facts;
         owns = own.owns;
-        lanes = laws.lanes r w choices simple nodes memories offset;
+        lanes = laws.lanes r w choices hoisted nodes memories offset;
         aside = subst AreAside (whole_is ∙ tree_is) (placeable.aside offset);
         normal = subst IsNormal tree_is (normal-entry s entry (program_term r choices) at_root);
         fresh = subst IsFresh tree_is (fresh-entry s entry (program_term r choices) at_root);
@@ -318,7 +318,8 @@ module _ (placing : Placing) (r : Resolved) (choices : List Choice) (simple : Ar
           tabled.body (round_of r) short.paths
 
       near : HomesAreNear bodies homes
-      near = laws.near leaves bodies homes mays forms_fit (homes_are_simple r choices simple)
+      near = laws.near leaves bodies homes mays forms_fit (homes_are_single r choices hoisted)
+          (subst (λ (b : ℕ → FormBody). AreHeldInside b homes) (sym bodies_are) leave.rounds)
 
       small : (node : ℕ) → s.capacity node ≤ 2 ^ 32
       small = small_at nodes (λ i q e. (memories.are.each i q e).capacity)
@@ -419,24 +420,24 @@ module _ (placing : Placing) (r : Resolved) (choices : List Choice) (simple : Ar
 -- ---- any draft
 
 pub drafts_can_be_placed : Placing → DraftsCanBePlaced
-drafts_can_be_placed placing r choices simple d of nodes memories =
+drafts_can_be_placed placing r choices hoisted d of nodes memories =
     subst (λ (x : Draft). IsPlaceable x nodes) (sym (drawn_is r choices d of))
-    (placeable placing r choices simple d.notes nodes memories)
+    (placeable placing r choices hoisted d.notes nodes memories)
 
 -- with its offsets
 abbrev plan_with : List PlanNode → Draft → Plan
 plan_with nodes d = record { draft = d; offsets = offsets_of d; nodes = nodes }
 
-good_with : Placing → Laws → (r : Resolved) → HasNoRace r → (choices : List Choice) → AreSimple r choices
-    → (notes : List Note) (nodes : List PlanNode) → AreMemories r.machine.now.levels nodes
+good_with : Placing → Laws → (r : Resolved) → HasNoRace r → (choices : List Choice) → AreHoisted r choices
+    → MayLeave r choices → (notes : List Note) (nodes : List PlanNode) → AreMemories r.machine.now.levels nodes
     → (d : Draft) → drawn r choices notes ≡ d
     → IsPlaced d nodes (plan_with nodes d) → IsGoodFor r choices nodes (plan_with nodes d)
-good_with placing laws r race_free choices simple notes nodes memories d is =
+good_with placing laws r race_free choices hoisted leave notes nodes memories d is =
     subst (λ (x : Draft). IsPlaced x nodes (plan_with nodes x) → IsGoodFor r choices nodes (plan_with nodes x)) is
-    (λ placed. all_good placing r choices simple notes nodes memories laws race_free placed)
+    (λ placed. all_good placing r choices hoisted notes nodes memories laws race_free leave placed)
 
 pub placed_are_good : Placing → Laws → PlacedAreGood
-placed_are_good placing laws r race_free choices simple d of nodes memories p placed =
+placed_are_good placing laws r race_free choices hoisted leave d of nodes memories p placed =
     subst (IsGoodFor r choices nodes) (sym placed.is)
-    (good_with placing laws r race_free choices simple d.notes nodes memories d (sym (drawn_is r choices d of))
+    (good_with placing laws r race_free choices hoisted leave d.notes nodes memories d (sym (drawn_is r choices d of))
     (subst (IsPlaced d nodes) placed.is placed))

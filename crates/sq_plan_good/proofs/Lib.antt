@@ -1,3 +1,2 @@
 pub mod Good
-pub mod SimpleHomes
-pub mod Simple
+pub mod Single

@@ -7,6 +7,7 @@ use Rattle.sq_leaf.specs.Source.{Arrays}
 use Rattle.sq_blocks.specs.declared.argument.Argument.{Argument}
 use Rattle.sq_work.specs.InTurn.{IsRaceFree}
 use Rattle.sq_spec.specs.declared.resolved.Resolved.{Resolved}
+use Rattle.sq_spec.specs.Bodies.{body_of}
 use Rattle.sq_spec.specs.Works.{work_of, flat}
 use Rattle.sq_ir.specs.Runs.{exec}
 use Rattle.sq_ir.specs.Events as events
@@ -23,13 +24,14 @@ use Rattle.sq_placed_bytes.specs.Codes.{loaded}
 use Rattle.sq_term.specs.Terms.{body_in, homes_in}
 use Rattle.sq_plan_laws.specs.Entry.{held_in, EndsSo}
 use Rattle.sq_forms_fit.specs.Entry.{entry_shapes}
+use Rattle.sq_forms_fit.specs.Held.{HoldsFit}
 use Rattle.sq_forms_fit.specs.LeafCalls.{form_calls}
 use Rattle.sq_nests.specs.Drafts.{IsPlaceable}
 use Rattle.sq_store.specs.Place.{IsPlaced}
 use Rattle.sq_homes.specs.declared.choice.Choice.{Choice}
 use Rattle.sq_homes.specs.Drafts.{bodies_of, homes_of, args_of, IsDraftOf}
 use Rattle.sq_homes_laws.specs.Given.{level_at}
-use Rattle.sq_homes_laws.specs.Simple.{AreSimple, AreMemories}
+use Rattle.sq_homes_laws.specs.Simple.{AreHoisted, AreMemories}
 use Rattle.sq_draft_laws.specs.AtLevels.{IsAtLevel}
 
 -- no two iterations of its maps race
@@ -82,14 +84,19 @@ pub record IsGoodFor (r : Resolved) (choices : List Choice) (nodes : List PlanNo
   pub calls : HasLeafCalls r choices p
   pub at_home : LeavesAreAtHome r choices p
 
--- A draft of a program in which nothing leaves a loop and no loop overlaps its transfers can be placed.
+-- What leaves loops may leave these: it is the same in all of a loop, apart from the other arguments.
+abbrev pub MayLeave : Resolved → List Choice → Type 0
+MayLeave r choices =
+    HoldsFit (body_of r.typed.now.tasks r.mapping.now.instances r.found.entries) (homes_in (homes_of r choices))
+
+-- A draft of a program in which no loop overlaps its transfers can be placed.
 abbrev pub DraftsCanBePlaced : Type 0
-DraftsCanBePlaced = (r : Resolved) (choices : List Choice) → AreSimple r choices
+DraftsCanBePlaced = (r : Resolved) (choices : List Choice) → AreHoisted r choices
     → (d : Draft) → IsDraftOf r choices d → (nodes : List PlanNode) → AreMemories r.machine.now.levels nodes
     → IsPlaceable d nodes
 
 -- And where the program has no race, a plan of it is good.
 abbrev pub PlacedAreGood : Type 0
-PlacedAreGood = (r : Resolved) → HasNoRace r → (choices : List Choice) → AreSimple r choices
+PlacedAreGood = (r : Resolved) → HasNoRace r → (choices : List Choice) → AreHoisted r choices → MayLeave r choices
     → (d : Draft) → IsDraftOf r choices d → (nodes : List PlanNode) → AreMemories r.machine.now.levels nodes
     → (p : Plan) → IsPlaced d nodes p → IsGoodFor r choices nodes p

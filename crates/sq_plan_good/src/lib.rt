@@ -25,8 +25,8 @@ use sq_spec::meaning::{tables_are_free_of_races, tables_mean_the_program};
 use sq_store::laws::the_walk_lays_buffers;
 use sq_work::laws::race_free_maps_are_serial;
 
-/// A draft of a program in which nothing leaves a loop and no loop overlaps its transfers can be placed.
-pub fn simple_drafts_can_be_placed()
+/// A draft of a program in which no loop overlaps its transfers can be placed.
+pub fn placing_succeeds()
     ensures { DraftsCanBePlaced }
 {
     resolved_programs_were_walked();
@@ -34,7 +34,7 @@ pub fn simple_drafts_can_be_placed()
 }
 
 /// Where the program has no race, the plan of such a draft is good for it.
-pub fn simple_plans_are_good()
+pub fn placed_plans_are_good()
     ensures { PlacedAreGood }
 {
     resolved_programs_were_walked();

@@ -7,7 +7,7 @@ ghost use Rattle.sq_race.specs.Race.{IsFirstRace};
 
 use sq_compile::compile;
 use sq_elim::drop_copies;
-use sq_ir::{Plan, PlanNodes};
+use sq_ir::{Draft, Plan, PlanNodes};
 use sq_leaf::TrapKind;
 use sq_lower::lower;
 use sq_machfile::read_machine;
@@ -454,27 +454,35 @@ fn first_of(sums: &[u64]) -> u64 {
     }
 }
 
-// What the root needs for the draft in which every argument has a buffer.
+// What the root needs for this draft.
+fn need_at_root(alloc: Global, draft: &Draft, nodes: &PlanNodes) -> Result<u64, AllocError> {
+    let sums = nested_sums(alloc, draft, nodes)?;
+    Ok(first_of(sums.as_slice()))
+}
+
+// For that in which every argument has a buffer.
 fn lowered_need(
     alloc: Global,
     resolved: &Resolved<'_>,
     nodes: &PlanNodes,
 ) -> Result<u64, AllocError> {
     let draft = lower(alloc, resolved)?;
-    let sums = nested_sums(alloc, &draft, nodes)?;
-    Ok(first_of(sums.as_slice()))
+    need_at_root(alloc, &draft, nodes)
 }
 
-// What it needs where no copy serves an argument in place.
+fn dropped(alloc: Global, resolved: &Resolved<'_>) -> Result<Draft, AllocError> {
+    let draft = lower(alloc, resolved)?;
+    drop_copies(alloc, resolved, draft)
+}
+
+// For that in which no copy serves an argument in place.
 fn dropped_need(
     alloc: Global,
     resolved: &Resolved<'_>,
     nodes: &PlanNodes,
 ) -> Result<u64, AllocError> {
-    let draft = lower(alloc, resolved)?;
-    let draft = drop_copies(alloc, resolved, draft)?;
-    let sums = nested_sums(alloc, &draft, nodes)?;
-    Ok(first_of(sums.as_slice()))
+    let draft = dropped(alloc, resolved)?;
+    need_at_root(alloc, &draft, nodes)
 }
 
 fn needed(

@@ -1,6 +1,6 @@
 //! Offsets, sums, refusals and totals of drafts made by hand, all computed by hand.
 
-use sq_ir::Plan;
+use sq_ir::{Draft, Plan, PlanNodes};
 use sq_store::{StoreFault, greatest_end, offsets_of, place};
 use sq_sums::{event_counts, needs, nested_sums, traffic};
 use sqlite_items::Items;
@@ -296,21 +296,23 @@ fn buffers_lie_behind_those_round_them(rt: HostRuntime) -> Result<(), Fail> {
     Ok(())
 }
 
-// What a memory has to hold: all of its buffers, or one for each array of each instance.
-fn sums(alloc: Global, case: &Case, once: bool) -> Result<Items<u64>, AllocError> {
+// What a memory has to hold for all of its buffers.
+fn sums(alloc: Global, case: &Case) -> Result<Items<u64>, AllocError> {
     let plan = unplaced(alloc, case)?;
-    if once {
-        needs(alloc, &plan.draft, &plan.nodes)
-    } else {
-        nested_sums(alloc, &plan.draft, &plan.nodes)
-    }
+    nested_sums(alloc, &plan.draft, &plan.nodes)
+}
+
+// And where one buffer counts for each array of each instance.
+fn needed(alloc: Global, case: &Case) -> Result<Items<u64>, AllocError> {
+    let plan = unplaced(alloc, case)?;
+    needs(alloc, &plan.draft, &plan.nodes)
 }
 
 #[test]
 fn sums_are_those_of_the_term_written_out(rt: HostRuntime) -> Result<(), Fail> {
     for case in SUMS {
         let wanted = numbers(rt.alloc(), case.4)?;
-        let sums = sums(rt.alloc(), &case, false)?;
+        let sums = sums(rt.alloc(), &case)?;
         assert_eq!(rt; sums.as_slice(), wanted.as_slice());
     }
     Ok(())
@@ -320,7 +322,7 @@ fn sums_are_those_of_the_term_written_out(rt: HostRuntime) -> Result<(), Fail> {
 fn an_array_counts_once_in_what_is_needed(rt: HostRuntime) -> Result<(), Fail> {
     for case in NEEDS {
         let wanted = numbers(rt.alloc(), case.4)?;
-        let sums = sums(rt.alloc(), &case, true)?;
+        let sums = needed(rt.alloc(), &case)?;
         assert_eq!(rt; sums.as_slice(), wanted.as_slice());
     }
     Ok(())
@@ -335,21 +337,29 @@ fn ends(plan: &Plan) -> [u64; 4] {
     ]
 }
 
+fn refusal(fault: &StoreFault) -> Result<[u64; 4], AllocError> {
+    match fault {
+        StoreFault::Capacity {
+            node,
+            need,
+            capacity,
+        } => Ok([u64::from(*node), *need, *capacity, 0]),
+        StoreFault::NoMemory => Err(AllocError),
+    }
+}
+
+fn place_in(alloc: Global, draft: Draft, nodes: PlanNodes) -> Result<[u64; 4], AllocError> {
+    match place(alloc, draft, nodes) {
+        Ok(plan) => Ok(ends(&plan)),
+        Err(fault) => refusal(&fault),
+    }
+}
+
 // The greatest ends at four levels, or the node that is too small with its need and its capacity.
 fn placed(alloc: Global, case: &Case) -> Result<[u64; 4], AllocError> {
     let nodes = memories(alloc, case.0)?;
     let draft = draft(alloc, case.1, case.2, case.3)?;
-    match place(alloc, draft, nodes) {
-        Ok(plan) => Ok(ends(&plan)),
-        Err(
-            StoreFault::Capacity {
-                node,
-                need,
-                capacity,
-            },
-        ) => Ok([u64::from(node), need, capacity, 0]),
-        Err(StoreFault::NoMemory) => Err(AllocError),
-    }
+    place_in(alloc, draft, nodes)
 }
 
 #[test]

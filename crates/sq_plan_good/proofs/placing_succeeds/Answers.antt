@@ -1,5 +1,5 @@
 use Rattle.sq_plan_good.proofs.Good.{drafts_can_be_placed}
-use Rattle.sq_plan_good.proofs.simple_drafts_can_be_placed.Goals as goal
+use Rattle.sq_plan_good.proofs.placing_succeeds.Goals as goal
 
 pub returns : goal.returns
 returns c = drafts_can_be_placed (record {

@@ -1,5 +1,5 @@
 use Rattle.sq_plan_good.proofs.Good.{placed_are_good}
-use Rattle.sq_plan_good.proofs.simple_plans_are_good.Goals as goal
+use Rattle.sq_plan_good.proofs.placed_plans_are_good.Goals as goal
 
 pub returns : goal.returns
 returns c = placed_are_good (record {
