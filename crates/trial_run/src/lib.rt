@@ -1,5 +1,5 @@
-//! Plans are run here: made by hand, and of programs as texts that are compiled. Their control, the numbers of their
-//! terms, their sums and their places are tested here too.
+//! Plans are run here: made by hand, and of programs as texts that are compiled. Their control and the numbers of their
+//! terms are tested here too.
 #![tactic(auto)]
 
 #[cfg(test)]
@@ -10,5 +10,3 @@ mod control_tests;
 mod number_tests;
 #[cfg(test)]
 mod program_tests;
-#[cfg(test)]
-mod store_tests;

@@ -6,10 +6,8 @@ ghost use Rattle.sq_ir.specs.DraftLeaves.{leaves_of};
 ghost use Rattle.sq_race.specs.Race.{IsFirstRace};
 
 use sq_compile::compile;
-use sq_elim::drop_copies;
-use sq_ir::{Draft, Plan, PlanNodes};
+use sq_ir::Plan;
 use sq_leaf::TrapKind;
-use sq_lower::lower;
 use sq_machfile::read_machine;
 use sq_mapfile::read_mapping;
 use sq_port::{FirstOrder, LastOrder, MemSink, Order, SeedOrder};
@@ -18,13 +16,11 @@ use sq_race::laws::without_a_race;
 use sq_source::read_program;
 use sq_spec::{Resolved, resolve};
 use sq_store::StoreFault;
-use sq_sums::nested_sums;
 use sq_tree::{RawBank, RunEnd};
 use std::alloc::{AllocError, Global};
 use std::process::Abort;
 use std::rc::Rc;
 use std::test::Fail;
-use trial_store::memories;
 use trial_tree::{Ran, run_on};
 
 // A program, its mapping and its machine.
@@ -444,71 +440,6 @@ fn runs_end_as_the_program_means_in_each_order(rt: HostRuntime) -> Result<(), Fa
         let ran = run_in(&rt, alloc, &sources, &way, &mut trace)?;
         assert!(rt; ends_so(alloc, &ran, way.2)?);
     }
-    Ok(())
-}
-
-fn first_of(sums: &[u64]) -> u64 {
-    match sums {
-        [first, ..] => *first,
-        [] => 0,
-    }
-}
-
-// What the root needs for this draft.
-fn need_at_root(alloc: Global, draft: &Draft, nodes: &PlanNodes) -> Result<u64, AllocError> {
-    let sums = nested_sums(alloc, draft, nodes)?;
-    Ok(first_of(sums.as_slice()))
-}
-
-// For that in which every argument has a buffer.
-fn lowered_need(
-    alloc: Global,
-    resolved: &Resolved<'_>,
-    nodes: &PlanNodes,
-) -> Result<u64, AllocError> {
-    let draft = lower(alloc, resolved)?;
-    need_at_root(alloc, &draft, nodes)
-}
-
-fn dropped(alloc: Global, resolved: &Resolved<'_>) -> Result<Draft, AllocError> {
-    let draft = lower(alloc, resolved)?;
-    drop_copies(alloc, resolved, draft)
-}
-
-// For that in which no copy serves an argument in place.
-fn dropped_need(
-    alloc: Global,
-    resolved: &Resolved<'_>,
-    nodes: &PlanNodes,
-) -> Result<u64, AllocError> {
-    let draft = dropped(alloc, resolved)?;
-    need_at_root(alloc, &draft, nodes)
-}
-
-fn needed(
-    rt: &impl Abort,
-    alloc: Global,
-    sources: &Sources,
-    is_dropped: bool,
-) -> Result<u64, AllocError> {
-    let machine = read_machine(alloc, sources.2.as_bytes()).expect(rt, "a machine");
-    let typed = read_program(alloc, sources.0.as_bytes()).expect(rt, "a program");
-    let mapping = read_mapping(alloc, sources.1.as_bytes(), &typed, &machine).expect(
-        rt,
-        "a mapping",
-    );
-    let resolved = resolve(alloc, &typed, &mapping, &machine).expect(rt, "forms");
-    let nodes = memories(alloc, "0:64:0").expect(rt, "memory");
-    if is_dropped {
-        return dropped_need(alloc, &resolved, &nodes);
-    }
-    lowered_need(alloc, &resolved, &nodes)
-}
-
-#[test]
-fn arguments_in_place_need_no_copy(rt: HostRuntime) -> Result<(), Fail> {
-    assert_eq!(rt; needed(&rt, rt.alloc(), &IN_PLACE, false)?, 64);
-    assert_eq!(rt; needed(&rt, rt.alloc(), &IN_PLACE, true)?, 32);
     Ok(())
 }
 
