@@ -80,6 +80,13 @@ def rotate(A):
     return {"B": ("byte", [((a << 3) + (a >> 5)) % 256 for a in A])}
 
 
+def overlap(W, A):
+    def towards_zero(n, d):
+        return -(-n // d) if n < 0 else n // d
+    bands = zip(A, A[1:], A[2:])
+    return {"B": ("int", [towards_zero(W[0] * a + W[1] * b + W[2] * c, sum(W)) for a, b, c in bands])}
+
+
 def read(path):
     words = path.read_text().split()
     arrays = {}
@@ -108,7 +115,7 @@ def main():
     differ = 0
     examples = (
         double, blocks, saxpy, matmul, product, convolution, stencil, prefix, histogram, dot, transpose, pairs, sort,
-        rotate,
+        rotate, overlap,
     )
     for example in examples:
         folder = HERE / example.__name__

@@ -1,0 +1,95 @@
+"""The four pages that are tested: what they are made of, and the texts that they have to agree with."""
+import os
+import subprocess
+from dataclasses import dataclass
+from typing import List
+
+TOP = os.path.dirname(os.path.dirname(os.path.dirname(os.path.realpath(__file__))))
+SQ = os.path.abspath(os.environ.get("SQ") or os.path.join(TOP, "sq"))
+os.environ["SQ"] = SQ
+
+
+@dataclass
+class Sample:
+    name: str
+    words: List[str]  # behind tools/picture
+    report: str
+    traces: List[str]
+
+
+def read(path):
+    with open(os.path.join(TOP, path), encoding="utf-8") as file:
+        return file.read()
+
+
+def run_sq(*words):
+    return subprocess.run([SQ, *words], cwd=TOP, capture_output=True, text=True)
+
+
+def from_program(name, folder, files):
+    """A page of what sq prints."""
+    words = [f"examples/{folder}/{file}" for file in ("program.sq", f"{files}.map", f"{files}.mach", "data.txt")]
+    report = run_sq("plan", *words[:3]).stdout
+    traces = [run_sq("run", *words, f"order={order}", "trace=yes").stderr for order in ("first", "last")]
+    return Sample(name, words, report, traces)
+
+
+def from_texts(name, folder, begin, files):
+    """A page of texts that stand beside the example."""
+    words = ["--plan", f"examples/{folder}/{begin}.report"]
+    for order in ("first", "last"):
+        words += ["--trace", f"examples/{folder}/{begin}.{order}"]
+    words += [f"examples/{folder}/{file}" for file in ("program.sq", f"{files}.map", f"{files}.mach")]
+    traces = [read(f"examples/{folder}/{begin}.{order}") for order in ("first", "last")]
+    return Sample(name, words, read(f"examples/{folder}/{begin}.report"), traces)
+
+
+def samples():
+    return [
+        from_program("matmul", "matmul", "three"),
+        from_texts("overlap", "overlap", "overlapped", "two"),
+        from_program("histogram", "histogram", "two"),
+        from_program("uneven", "blocks", "uneven"),
+    ]
+
+
+def make(sample, path):
+    """The page of a sample; what went wrong where it can't be made."""
+    ended = subprocess.run([os.path.join(TOP, "tools", "picture"), *sample.words], cwd=TOP, capture_output=True)
+    with open(path, "wb") as file:
+        file.write(ended.stdout)
+    return ended.stderr.decode("utf-8", "replace") or (f"status {ended.returncode}" if ended.returncode else "")
+
+
+def large(folder, blocks=25000):
+    """A page of more than 100,000 events: the texts of doubling `blocks` blocks of 4 elements on two memories."""
+    size = 16 * blocks
+    written = {
+        "large.map": f"mapping 1; entry top(N = {4 * blocks}); instance top = twice::inner @ host {{ tunable U = 4; "
+        "call twice -> low; } instance low = twice::leaf @ core { }\n",
+        "large.mach": f"machine 1; level host {{ capacity {2 * size}; }} children 2; level core {{ capacity 32; }}\n",
+        "large.report": f"level host nodes 1 capacity {2 * size} need {2 * size} used {2 * size}\n"
+        "level core nodes 2 capacity 32 need 32 used 32\n"
+        f"buffer host 0 {size} top A\nbuffer host {size} {size} top B\nbuffer core 0 16 low A\nbuffer core 16 16 low B\n"
+        f"edge host core down {size} up {size}\nleaves {blocks}\n",
+        "large.first": large_trace(blocks, size, False),
+        "large.last": large_trace(blocks, size, True),
+    }
+    for name, text in written.items():
+        with open(os.path.join(folder, name), "w", encoding="utf-8") as file:
+            file.write(text)
+    words = ["--plan", os.path.join(folder, "large.report")]
+    for order in ("first", "last"):
+        words += ["--trace", os.path.join(folder, f"large.{order}")]
+    words += ["examples/blocks/program.sq", os.path.join(folder, "large.map"), os.path.join(folder, "large.mach")]
+    return Sample("large", words, written["large.report"], [written["large.first"], written["large.last"]])
+
+
+def large_trace(blocks, size, last):
+    lines = [f"fill 0.0:{size} {size}"]
+    for core in (1, 0) if last else (0, 1):
+        for block in range(core, blocks, 2):
+            copied, filled = f"copy 0.0:{16 * block} 1.{core}:0 16", f"fill 1.{core}:16 16"
+            lines += [filled, copied] if last else [copied, filled]
+            lines += [f"leaf 1.{core} low", f"copy 1.{core}:16 0.0:{size + 16 * block} 16"]
+    return "\n".join(lines) + "\n"
