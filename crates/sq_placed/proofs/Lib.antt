@@ -1,3 +1,5 @@
 pub mod Opened
+pub mod Pipes
+pub mod SameWorks
 pub mod Plain
 pub mod ExampleRow

@@ -1,5 +1,5 @@
 -- The equations of a statement's placed form and of its work, one for each variant.
-use Rattle.std.proofs.Common.{◌≡◌, ℕ, Bool, List, map, Option, ap, sym, ◌∙◌}
+use Rattle.std.proofs.Common.{◌≡◌, ℕ, Bool, List, map, ap, sym, ◌∙◌}
 use Rattle.sq_text.specs.declared.place.Place.{Place}
 use Rattle.sq_text.specs.declared.spread.SpreadRule.{SpreadRule}
 use Rattle.sq_spec.specs.declared.statement.LoopKind.{LoopKind}
@@ -13,7 +13,7 @@ use Rattle.sq_work.specs.Work.{Work}
 use Rattle.sq_spec.specs.StatementsWork.{statement_step, statement_work}
 use Rattle.sq_placed.specs.declared.home.Homes.{Homes}
 use Rattle.sq_placed.specs.Placed.{Placed}
-use Rattle.sq_placed.specs.Tables.{PlacedPart, placed_step, statement_placed, Chain}
+use Rattle.sq_placed.specs.Tables.{PlacedPart, placed_step, statement_placed}
 
 pub work_call : (work : ℕ → Work) (lower : Bool) (instances : List CallInstance)
     → statement_work work (b.Call lower instances) ≡ statement_step work (Statement-F.Call lower instances)

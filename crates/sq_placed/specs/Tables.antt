@@ -21,7 +21,7 @@ use Rattle.sq_placed.specs.declared.home.Home.{Home}
 use Rattle.sq_placed.specs.declared.home.Home.TheVariants.{InPlace, Own, Held, Twin}
 use Rattle.sq_placed.specs.declared.home.Homes.{Homes}
 use Rattle.sq_placed.specs.Placed.{Placed, PlacedArg, PlacedLocal, PlacedCall, Nothing, Then, Each, AtOnce, Gathers}
-use Rattle.sq_placed.specs.Placed.{Call, Hold, Leaf}
+use Rattle.sq_placed.specs.Placed.{Call, Hold, Piped, Leaf}
 
 -- ---- the arrays of a callee
 
@@ -173,6 +173,46 @@ abbrev pub holds : List (ℕ × Argument) → Bool
 holds [] = false
 holds (p ∷ ps) = true
 
+-- ---- loops whose transfers overlap
+
+-- the rows of a lower call that is all that stands in a loop, where its form's transfers overlap
+abbrev pub overlapped : {X : Type 0} → (ℕ → Homes) → Option (Chain X) → Option (List CallInstance)
+overlapped homes None = None
+overlapped homes (Some h) = if h.loops == 0 && (homes (chain_form (Some h))).overlaps then Some h.instances else None
+
+abbrev pub overlapped_in : {X : Type 0} → (ℕ → Homes) → List (Option (Chain X)) → Option (List CallInstance)
+overlapped_in homes (h ∷ []) = overlapped homes h
+overlapped_in homes hs = None
+
+-- a `mapseq`, or a `mappar` that is spread by this rule, may overlap its transfers
+abbrev pub lanes_of : LoopKind → Option SpreadRule → Option (Option SpreadRule)
+lanes_of loop_kind.Sequential spread = Some None
+lanes_of loop_kind.Parallel None = None
+lanes_of loop_kind.Parallel (Some rule) = Some (Some rule)
+lanes_of (loop_kind.Reduction r) spread = None
+
+-- such a loop, and the rows of its call
+pub record Pipe : Type 0 where
+  pub spread : Option SpreadRule
+  pub rows : List CallInstance
+
+abbrev pub pipe_by : Option (Option SpreadRule) → Option (List CallInstance) → Option Pipe
+pipe_by None rows = None
+pipe_by (Some spread) None = None
+pipe_by (Some spread) (Some rows) = Some (record { spread = spread; rows = rows })
+
+abbrev pub pipe_of : {X : Type 0} → (ℕ → Homes) → LoopKind → Option SpreadRule → List (Option (Chain X))
+    → Option Pipe
+pipe_of homes m spread hs = pipe_by (lanes_of m spread) (overlapped_in homes hs)
+
+abbrev pub placed_rule : Place → Option SpreadRule → Option (Place × SpreadRule)
+placed_rule place None = None
+placed_rule place (Some rule) = Some (place, rule)
+
+-- of a row that isn't there
+abbrev pub no_call : PlacedCall
+no_call = record { form = 0; lower = true; args = []; locals = [] }
+
 -- ---- statements
 
 -- A statement of a form: whether it has in it, at any depth, a lower call and a same-level one, the call of which it
@@ -204,6 +244,21 @@ module _ (bodies : ℕ → FormBody) (homes : ℕ → Homes) (callee : ℕ → P
   row_placed op lower None = Nothing
   row_placed op lower (Some r) = Call (placed_call bodies homes op lower r) (callee r.form)
 
+  abbrev pub row_call : Option CallInstance → PlacedCall
+  row_call None = no_call
+  row_call (Some r) = placed_call bodies homes None true r
+
+  abbrev pub row_body : Option CallInstance → Placed
+  row_body None = Nothing
+  row_body (Some r) = callee r.form
+
+  -- start: how many iterations began before; loop: what it is where its transfers don't overlap
+  abbrev pub pipe_placed : Option Pipe → Place → (count start : ℕ) → (loop : Placed) → Placed
+  pipe_placed None place count start loop = loop
+  pipe_placed (Some p) place count start loop =
+      Piped (placed_rule place p.spread) count (λ t. row_call (slice_get p.rows (start + t)))
+      (λ t. row_body (slice_get p.rows (start + t)))
+
   -- an iteration's statements stand inside what holds
   abbrev pub map_held : Option (Chain ℕ) → (k : ℕ) → (inside : Bool) → (Bool → Placed) → Placed
   map_held h k inside loop =
@@ -224,8 +279,9 @@ module _ (bodies : ℕ → FormBody) (homes : ℕ → Homes) (callee : ℕ → P
     placed = λ op inside k.
         map_held (chain_of first_of m starts (chains parts)) k inside (λ within_it.
         let spread = spread_of rule m within_it (any_lower parts) (any_same parts) in
-        map_placed m place spread (get_or counts k 0)
-        (λ t. all_placed parts (op_of m) (within_it || is_some spread) (get_or starts k 0 + t)));
+        pipe_placed (pipe_of homes m spread (chains parts)) place (get_or counts k 0) (get_or starts k 0)
+        (map_placed m place spread (get_or counts k 0)
+        (λ t. all_placed parts (op_of m) (within_it || is_some spread) (get_or starts k 0 + t))));
   }
 
   abbrev pub statement_placed : SpreadRule → Statement → PlacedPart

@@ -7,6 +7,8 @@ use Rattle.sq_ast.specs.declared.program.Mode.{Mode}
 use Rattle.sq_ast.specs.declared.program.Mode.TheVariants.{Input, Output, Both}
 use Rattle.sq_blocks.specs.declared.argument.Argument.{Argument}
 use Rattle.sq_spec.specs.declared.statement.CallInstance.{CallInstance}
+pub use Rattle.sq_placed.specs.Pipes.{IsHead}
+use Rattle.sq_placed.specs.Pipes.{AreHeads, no_heads, more_heads}
 use Rattle.sq_term.specs.Terms.{is_mode, is_bool, same_head, same_heads, is_same_arm, arm_number, with_arm, arms_from}
 use Rattle.sq_term.specs.Terms.{arms_of, picks}
 use Rattle.sq_term.specs.Stands.{Each, none, more}
@@ -22,11 +24,6 @@ joins true false h k = k
 joins false b h k = h
 
 -- ---- rows that are alike
-
-pub record IsHead (a b : Argument) : Type 0 where
-  pub mode : a.mode ≡ b.mode
-  pub is_reduced : a.is_reduced ≡ b.is_reduced
-  pub array : a.array ≡ b.array
 
 mode_is : (a b : Mode) → is_mode a b ≡ true → a ≡ b
 mode_is Input Input h = refl
@@ -77,6 +74,10 @@ heads_are [] (y ∷ ys) h = cc
 heads_are (x ∷ xs) [] h = cc
 heads_are (x ∷ xs) (y ∷ ys) h = let p
     = both (same_head x y) (same_heads xs ys) h in more (head_is x y p.0) (heads_are xs ys p.1)
+
+pub heads_each : {xs ys : List Argument} → AreHeads xs ys → Each IsHead xs ys
+heads_each no_heads = none
+heads_each (more_heads h hs) = more h (heads_each hs)
 
 heads_itself : (xs : List Argument) → same_heads xs xs ≡ true
 heads_itself [] = refl

@@ -26,10 +26,12 @@ use Rattle.sq_placed.specs.declared.home.Homes.{Homes}
 use Rattle.sq_placed.specs.Placed.{Placed, Then, Nothing, Call}
 use Rattle.sq_placed.specs.Trees.{tree}
 use Rattle.sq_placed.specs.Tables.{PlacedPart, placed_step, statement_placed, placed_of, entry_call_placed}
+use Rattle.sq_placed.specs.Pipes.{NonePiped}
 use Rattle.sq_term.specs.Terms.{entry_term}
 use Rattle.sq_term.specs.Stands.{calls_in, AreLevel, AreLeveled, AreOf, LocalsOf, calls_of}
 use Rattle.sq_term.specs.Laws.{entry_seats}
 use Rattle.sq_placed.proofs.Opened.{part_call, part_map}
+use Rattle.sq_placed.proofs.Pipes.{none_stand}
 use Rattle.sq_term.proofs.Opened.{calls_call, calls_map}
 use Rattle.sq_term.proofs.Whole.{entry_is_tree}
 
@@ -119,6 +121,11 @@ leveled leaf = record { params = params; locals = locals; calls = calls }
     calls zero = subst (AreLevel level 0) (sym calls_are) (refl, (refl, tt))
     calls (suc f) = tt
 
+free : NonePiped homes
+unfolding homes
+free zero = refl
+free (suc f) = refl
+
 -- ---- the events
 
 spot : ℕ → ℕ → Spot
@@ -153,7 +160,8 @@ nine_events : (leaf : LeafSource)
     (Seq (Act (Fill (spot 0 32) Int 8 (pos 0))) (Par (lane 1 0) (lane 2 1)))
 unfolding setting shape argument rows bodies homes args level spot view lane seq_of par_of
 nine_events leaf =
-    ap (scoped 0 (0 ∷ 1 ∷ [])) (entry_is_tree setting (bodies leaf) homes level (leveled leaf) refl refl 2 args
+    ap (scoped 0 (0 ∷ 1 ∷ [])) (entry_is_tree setting (bodies leaf) homes level (leveled leaf)
+    (none_stand (bodies leaf) homes free) refl refl 2 args
     ∙ ap (λ (p : PlacedPart). tree setting
     (Call (entry_call_placed (bodies leaf 0) (homes 0) args) (Then (p.placed None false 0) Nothing)) 0 0
     (entry_seats setting (bodies leaf 0).arrays (homes 0).params) [])

@@ -1,7 +1,9 @@
 -- Loops that arguments leave, written out.
 use Rattle.std.proofs.Common.{◌≡◌, ℕ, zero, suc, ◌+◌, ◌*◌, ◌≤◌, Bool, true, false, not, ◌||◌, List, [], ◌∷◌, ◌++◌, map}
-use Rattle.std.proofs.Common.{get_or, slice_get, Option, Some, None, refl, sym, ap, ap₂, subst, ◌∙◌, arith}
+use Rattle.std.proofs.Common.{◌==◌, ◌&&◌, if◌then◌else◌, get_or, slice_get, Option, Some, None, refl, sym, ap, ap₂}
+use Rattle.std.proofs.Common.{subst, ◌∙◌, arith}
 use Rattle.sq_num.specs.Elements.{width}
+use Rattle.sq_text.specs.declared.spread.SpreadRule.{SpreadRule}
 use Rattle.sq_rect.specs.Placing.{offset}
 use Rattle.sq_ir.specs.Tree as tree
 use Rattle.sq_ir.specs.Tree.{seq}
@@ -27,7 +29,7 @@ use Rattle.sq_placed.specs.Trees as trees
 use Rattle.sq_placed.specs.Trees.{seq_all, par_all, hold_in, hold_out, held_of, held_buffers, hold_tree}
 use Rattle.sq_placed.specs.Tables.{no_shape, Chain, one_more, chain_of, call_chain, first_of, leaving_row}
 use Rattle.sq_placed.specs.Tables.{leaving_chain, row_rect, held_arg, chain_form, row_form, chain_row, hold_placed}
-use Rattle.sq_placed.specs.Tables.{holds}
+use Rattle.sq_placed.specs.Tables.{holds, overlapped, lanes_of, pipe_by, pipe_of}
 use Rattle.sq_term.specs.Terms.{numbers, unless_zero, with_table, first_num, held_bytes, held_view, held_move}
 use Rattle.sq_term.specs.Terms.{held_moves, leaving_buffers, hold_in_term, hold_out_term, at_child_already, chain_times}
 use Rattle.sq_term.specs.Terms.{chain_num, hold_term}
@@ -68,6 +70,20 @@ map_chains s loop_kind.Parallel starts none = no_chain
 map_chains s loop_kind.Parallel starts (more c e) = no_chain
 map_chains s (loop_kind.Reduction r) starts none = no_chain
 map_chains s (loop_kind.Reduction r) starts (more c e) = no_chain
+
+overlapped_same : (s : Setting) (homes : ℕ → Homes) {o : Option (Chain Num)} {u : Option (Chain ℕ)} → SameChain s o u
+    → overlapped homes o ≡ overlapped homes u
+overlapped_same s homes no_chain = refl
+overlapped_same s homes (a_chain h u l t f) = ap₂ (λ (n : ℕ) (ts : List CallInstance).
+    if n == 0 && (homes (row_form (slice_get ts 0))).overlaps then Some ts else None) l t
+
+-- a loop is taken in both
+pub same_pipe : (s : Setting) (homes : ℕ → Homes) (m : LoopKind) (spread : Option SpreadRule)
+    {hs : List (Option (Chain Num))} {us : List (Option (Chain ℕ))} → Each (SameChain s) hs us
+    → pipe_of homes m spread hs ≡ pipe_of homes m spread us
+same_pipe s homes m spread none = refl
+same_pipe s homes m spread (more c none) = ap (pipe_by (lanes_of m spread)) (overlapped_same s homes c)
+same_pipe s homes m spread (more c (more d e)) = refl
 
 -- the statement of a chain has no same-level call, and its rows' forms stand at the next level
 abbrev pub IsAlone : (level : ℕ → ℕ) → (at : ℕ) → Option (Chain ℕ) → (same : Bool) → List (Bool × ℕ) → Type 0

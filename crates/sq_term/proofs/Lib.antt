@@ -1,12 +1,17 @@
 pub mod Opened
+pub mod Chained
 pub mod Numbers
 pub mod Turns
+pub mod Lanes
+pub mod Pipelines
 pub mod Rows
 pub mod Arms
 pub mod Calls
 pub mod Maps
 pub mod Holds
+pub mod Piped
 pub mod Same
 pub mod Whole
 pub mod ExampleTables
 pub mod ExampleHeld
+pub mod ExamplePiped

@@ -39,13 +39,14 @@ use Rattle.sq_placed.specs.Trees as trees
 use Rattle.sq_placed.specs.Trees.{seq_all, par_all, callee_node, callee_seats, call_buffers}
 use Rattle.sq_placed.specs.Tables as tables
 use Rattle.sq_placed.specs.Tables.{placed_args, locals_of, op_of, spread_of, map_placed, Chain, call_chain, chain_of}
-use Rattle.sq_placed.specs.Tables.{first_of, PlacedPart, all_placed, row_placed, placed_step, statement_placed}
-use Rattle.sq_placed.specs.Tables.{body_placed, placed_of}
+use Rattle.sq_placed.specs.Tables.{first_of, Pipe, pipe_of, pipe_placed, PlacedPart, all_placed, row_placed}
+use Rattle.sq_placed.specs.Tables.{placed_step, statement_placed, body_placed, placed_of}
+use Rattle.sq_placed.specs.Pipes.{all_loops, loop_round, call_loops, call_loops_of, LoopsStand, PipesStand}
 use Rattle.sq_term.specs.Terms as terms
 use Rattle.sq_term.specs.Terms.{numbers, local_view, moves_from, buffers_from, in_callee, call_parts, call_child}
 use Rattle.sq_term.specs.Terms.{call_term, arms_of, arm_number, picks, TermPart, all_terms, in_map, map_term, arm_term}
 use Rattle.sq_term.specs.Terms.{arm_of_form, rows_term, count_num, term_step, statement_term, first_num, body_term}
-use Rattle.sq_term.specs.Terms.{term_of}
+use Rattle.sq_term.specs.Terms.{pipe_term, term_of}
 use Rattle.sq_term.specs.Stands.{Each, none, more, IsNumber, IsSeat, IsSeated, Goes, to_child, entered, Stands, AreOf}
 use Rattle.sq_term.specs.Stands.{LocalsOf, below, calls_in_rows, all_calls, calls_in, calls_in_all, calls_of, AreLevel}
 use Rattle.sq_term.specs.Stands.{AreLeveled}
@@ -55,8 +56,10 @@ use Rattle.sq_term.proofs.Arms.{IsHead, arm_of_row, pick_of, picks_are}
 use Rattle.sq_term.proofs.Calls.{Entered, enters, seat_inside, kept_are, moves_are, buffers_are, inside_is}
 use Rattle.sq_term.proofs.Maps.{MayBe, may_be, child_at, in_turn, narrow, tree_map, map_is}
 use Rattle.sq_term.proofs.Holds.{SameChain, call_chains, map_chains, IsAlone, call_alone, one_alone, row_level}
-use Rattle.sq_term.proofs.Holds.{hold_same}
+use Rattle.sq_term.proofs.Holds.{same_pipe, hold_same}
+use Rattle.sq_term.proofs.Piped.{AreSame, lanes_same}
 use Rattle.sq_placed.proofs.Opened.{part_call, part_map}
+use Rattle.sq_placed.proofs.Pipes.{loops_left, loops_right, IsTaken, taken, loop_of, piped, map_loops, chains_placed}
 use Rattle.sq_term.proofs.Opened.{built_call, built_map, calls_call, calls_map}
 
 -- ---- arms
@@ -86,13 +89,8 @@ or_rest true b h = cc
 or_rest false b h = h
 
 module _ (s : Setting) (bodies : ℕ → FormBody) (homes : ℕ → Homes) (level : ℕ → ℕ) where
-  -- the callees' terms are their trees
-  abbrev pub AreSame : (ℕ → Context → Term) → (ℕ → Placed) → Type 0
-  AreSame made laid_out = (f : ℕ) (c : Context) (env : Env) (node : ℕ) (seats : List Seat) (path : List ℕ)
-      → Stands s env (level f) c false true 0 node 0 seats path
-      → written s (made f c) env ≡ trees.tree s (laid_out f) node 0 seats path
-
-  module _ (made : ℕ → Context → Term) (laid_out : ℕ → Placed) (callees : AreSame made laid_out) where
+  module _ (made : ℕ → Context → Term) (laid_out : ℕ → Placed)
+      (callees : AreSame s bodies homes level made laid_out) where
     abbrev called_with : List Home → Option RedOp → Bool → CallInstance → PlacedCall
     called_with params op lower r = record {
       form = r.form;
@@ -223,7 +221,8 @@ module _ (s : Setting) (bodies : ℕ → FormBody) (homes : ℕ → Homes) (leve
           alone : IsAlone level at (part x).chain (part x).same (calls_in x)
           is : (op : Option RedOp) (k : ℕ) (c : Context) (env : Env) (inside : Bool) (node child : ℕ)
               (seats : List Seat) (path : List ℕ)
-              → AreLevel level at (calls_in x) → Stands s env at c inside (part x).same k node child seats path
+              → AreLevel level at (calls_in x) → LoopsStand homes (call_loops x).loops
+              → Stands s env at c inside (part x).same k node child seats path
               → written s ((built x).build op inside c) env
               ≡ trees.tree s ((part x).placed op inside k) node child seats path
 
@@ -261,23 +260,27 @@ module _ (s : Setting) (bodies : ℕ → FormBody) (homes : ℕ → Homes) (leve
         all_same : (xs : List Known) (op : Option RedOp) (k : ℕ) (c : Context) (env : Env) (inside : Bool)
             (node child : ℕ) (seats : List Seat) (path : List ℕ)
             → AreLevel level at (all_calls (map calls_in (begun xs)))
+            → LoopsStand homes (all_loops (map call_loops (begun xs)))
             → Stands s env at c inside (tables.any_same (map part (begun xs))) k node child seats path
             → seq_parts (map (written s) (all_terms (map built (begun xs)) op inside c)) env
             ≡ trees.tree s (all_placed (map part (begun xs)) op inside k) node child seats path
-        all_same [] op k c env inside node child seats path deep h = refl
-        all_same (x ∷ xs) op k c env inside node child seats path deep h =
+        all_same [] op k c env inside node child seats path deep loops h = refl
+        all_same (x ∷ xs) op k c env inside node child seats path deep loops h =
             let more_same = tables.any_same (map part (begun xs)) in
             ap₂ seq
             (x.1.is op k c env inside node child seats path
             (level_left level at (calls_in x.0) (all_calls (map calls_in (begun xs))) deep)
+            (loops_left homes (call_loops x.0).loops (all_loops (map call_loops (begun xs))) loops)
             (narrow s env at c inside _ (part x.0).same k node child seats path (or_left (part x.0).same more_same) h))
             (all_same xs op k c env inside node child seats path
             (level_right level at (calls_in x.0) (all_calls (map calls_in (begun xs))) deep)
+            (loops_right homes (call_loops x.0).loops (all_loops (map call_loops (begun xs))) loops)
             (narrow s env at c inside _ more_same k node child seats path (or_rest (part x.0).same more_same) h))
 
         map_same : (place : Place) (m : LoopKind) (counts starts : List ℕ) (xs : List Known) (k : ℕ) (c : Context)
             (env : Env) (inside : Bool) (node child : ℕ) (seats : List Seat) (path : List ℕ)
             → AreLevel level at (all_calls (map calls_in (begun xs)))
+            → LoopsStand homes (all_loops (map call_loops (begun xs)))
             → Stands s env at c inside (tables.any_same (map part (begun xs))) k node child seats path
             → (spread : Option SpreadRule) → spread
             ≡ spread_of rule m inside (tables.any_lower (map part (begun xs))) (tables.any_same (map part (begun xs)))
@@ -290,7 +293,7 @@ module _ (s : Setting) (bodies : ℕ → FormBody) (homes : ℕ → Homes) (leve
             (λ t. all_placed (map part (begun xs)) (op_of m)
             (inside || is_some (spread_of rule m inside (tables.any_lower (map part (begun xs)))
             (tables.any_same (map part (begun xs))))) (get_or starts k 0 + t))) node child seats path
-        map_same place m counts starts xs k c env inside node child seats path deep h spread e =
+        map_same place m counts starts xs k c env inside node child seats path deep loops h spread e =
             ap (λ (o : Option SpreadRule). written s
             (map_term o count (term.Seq (all_terms (map built (begun xs)) (op_of m) (inside || is_some o)
             (in_map o count starts c)))) env) e
@@ -299,7 +302,7 @@ module _ (s : Setting) (bodies : ℕ → FormBody) (homes : ℕ → Homes) (leve
             ap (λ f. f (at_turn env t)) (written_seq s _)
             ∙ all_same xs (op_of m) (get_or starts k 0 + t) (in_map chosen count starts c) (at_turn env t)
             (inside || is_some chosen) node (child_at chosen (get_or counts k 0) (s.children node) child t) seats
-            (path ++ t ∷ []) deep
+            (path ++ t ∷ []) deep loops
             (in_turn s env at c inside any k node child seats path chosen may count (get_or counts k 0) counted starts t
             h))
             ∙ sym (tree_map s rule m inside (tables.any_lower (map part (begun xs))) any place (get_or counts k 0)
@@ -322,26 +325,110 @@ module _ (s : Setting) (bodies : ℕ → FormBody) (homes : ℕ → Homes) (leve
             counted : value_of s count env ≡ pos (get_or counts k 0)
             counted = count_is s env counts c k (h.ordinal.value env.level env.nodes)
 
+        -- a loop whose transfers overlap
+        piped_same : (place : Place) (m : LoopKind) (counts starts : List ℕ) (xs : List Statement) (k : ℕ) (c : Context)
+            (env : Env) (inside : Bool) (node child : ℕ) (seats : List Seat) (path : List ℕ)
+            → AreLevel level at (all_calls (map calls_in xs))
+            → LoopsStand homes (loop_round m counts starts (map call_loops xs))
+            → Stands s env at c inside (tables.any_same (map part xs)) k node child seats path
+            → (spread : Option SpreadRule) → MayBe spread inside → (p : Pipe) → IsTaken homes m spread xs p
+            → (loop : Term) (w : Placed)
+            → written s (pipe_term bodies homes made (Some p) counts starts c loop) env
+            ≡ trees.tree s (pipe_placed bodies homes laid_out (Some p) place (get_or counts k 0) (get_or starts k 0) w)
+            node child seats path
+        piped_same place m counts starts xs k c env inside node child seats path deep loops h spread may p is loop w =
+            lanes_same s bodies homes level made laid_out callees leveled at (loop_of m counts starts p)
+            (piped homes m spread xs p is counts starts loops)
+            (subst (AreLevel level at) (calls_call true p.rows)
+            (level_left level at (calls_in (b.Call true p.rows)) []
+            (subst (λ (ys : List Statement). AreLevel level at (all_calls (map calls_in ys))) is.one deep)))
+            k seats path place m spread p.spread is.lanes c env inside node child
+            (λ r e. on_level (may.free r e) h.goes)
+            (subst (λ (z : Bool). Stands s env at c inside z k node child seats path)
+            (ap (λ (ys : List Statement). tables.any_same (map part ys)) is.one
+            ∙ ap (λ (q : PlacedPart). q.same || false) (part_call bodies homes laid_out rule true p.rows)) h)
+          where
+            on_level : {z : Bool} {o : Option Num} → inside ≡ false → Goes s env at node child inside z o
+                → env.level ≡ at
+            on_level e (to_child x l v) = l
+            on_level e (entered l there i alone) = let f : ⊥ = cc in absurd f
+
+        run_same : (place : Place) (m : LoopKind) (counts starts : List ℕ) (xs : List Known) (k : ℕ) (c : Context)
+            (env : Env) (inside : Bool) (node child : ℕ) (seats : List Seat) (path : List ℕ)
+            → AreLevel level at (all_calls (map calls_in (begun xs)))
+            → LoopsStand homes (loop_round m counts starts (map call_loops (begun xs)))
+            → LoopsStand homes (all_loops (map call_loops (begun xs)))
+            → Stands s env at c inside (tables.any_same (map part (begun xs))) k node child seats path
+            → (spread : Option SpreadRule) → spread
+            ≡ spread_of rule m inside (tables.any_lower (map part (begun xs))) (tables.any_same (map part (begun xs)))
+            → written s (pipe_term bodies homes made
+            (pipe_of homes m spread (terms.chains (map built (begun xs))))
+            counts starts c (map_term spread (count_num counts c)
+            (term.Seq (all_terms (map built (begun xs)) (op_of m) (inside || is_some spread)
+            (in_map spread (count_num counts c) starts c))))) env
+            ≡ trees.tree s (pipe_placed bodies homes laid_out (pipe_of homes m
+            (spread_of rule m inside (tables.any_lower (map part (begun xs))) (tables.any_same (map part (begun xs))))
+            (tables.chains (map part (begun xs)))) place (get_or counts k 0) (get_or starts k 0) (map_placed m place
+            (spread_of rule m inside (tables.any_lower (map part (begun xs)))
+            (tables.any_same (map part (begun xs)))) (get_or counts k 0)
+            (λ t. all_placed (map part (begun xs)) (op_of m)
+            (inside || is_some (spread_of rule m inside (tables.any_lower (map part (begun xs)))
+            (tables.any_same (map part (begun xs))))) (get_or starts k 0 + t)))) node child seats path
+        run_same place m counts starts xs k c env inside node child seats path deep round loops h spread e =
+            ap (λ (o : Option Pipe). written s (pipe_term bodies homes made o counts starts c (loop_by spread)) env)
+            (ap (λ (o : Option SpreadRule). pipe_of homes m o (terms.chains (map built (begun xs)))) e
+            ∙ same_pipe s homes m chosen (chains xs))
+            ∙ go (pipe_of homes m chosen (tables.chains (map part (begun xs)))) refl
+          where
+            chosen : Option SpreadRule
+            chosen = spread_of rule m inside (tables.any_lower (map part (begun xs)))
+                (tables.any_same (map part (begun xs)))
+
+            loop_by : Option SpreadRule → Term
+            loop_by o = map_term o (count_num counts c)
+                (term.Seq (all_terms (map built (begun xs)) (op_of m) (inside || is_some o)
+                (in_map o (count_num counts c) starts c)))
+
+            loop : Placed
+            loop = map_placed m place chosen (get_or counts k 0)
+                (λ t. all_placed (map part (begun xs)) (op_of m) (inside || is_some chosen) (get_or starts k 0 + t))
+
+            go : (o : Option Pipe) → pipe_of homes m chosen (tables.chains (map part (begun xs))) ≡ o
+                → written s (pipe_term bodies homes made o counts starts c (loop_by spread)) env
+                ≡ trees.tree s (pipe_placed bodies homes laid_out o place (get_or counts k 0) (get_or starts k 0) loop)
+                node child seats path
+            go None f = map_same place m counts starts xs k c env inside node child seats path deep loops h spread e
+            go (Some p) f = piped_same place m counts starts (begun xs) k c env inside node child seats path deep round
+                h chosen
+                (may_be rule m inside (tables.any_lower (map part (begun xs)))
+                (tables.any_same (map part (begun xs)))) p
+                (taken homes m chosen (chains_placed bodies homes laid_out rule (begun xs)) p f) (loop_by spread) loop
+
         held_same : (place : Place) (m : LoopKind) (counts starts : List ℕ) (xs : List Known) (op : Option RedOp)
             (k : ℕ) (c : Context) (env : Env) (inside : Bool) (node child : ℕ) (seats : List Seat) (path : List ℕ)
             → AreLevel level at (all_calls (map calls_in (begun xs)))
+            → LoopsStand homes (loop_round m counts starts (map call_loops (begun xs)))
+            → LoopsStand homes (all_loops (map call_loops (begun xs)))
             → Stands s env at c inside (tables.any_same (map part (begun xs))) k node child seats path
             → written s ((term_step bodies homes made rule
             (Statement-F.Map place m counts starts (map built (begun xs)))).build op inside c) env
             ≡ trees.tree s ((placed_step bodies homes laid_out rule
             (Statement-F.Map place m counts starts (map part (begun xs)))).placed op inside k) node child seats path
-        held_same place m counts starts xs op k c env inside node child seats path deep h =
+        held_same place m counts starts xs op k c env inside node child seats path deep round loops h =
             hold_same s bodies homes level leveled at (map_chains s m starts (chains xs))
             (tables.any_same (map part (begun xs))) (all_calls (map calls_in (begun xs))) (alones m starts xs) deep
             k c env inside node child seats path h _
-            (λ within_it. map_placed m place
+            (λ within_it. pipe_placed bodies homes laid_out (pipe_of homes m
+            (spread_of rule m within_it (tables.any_lower (map part (begun xs)))
+            (tables.any_same (map part (begun xs)))) (tables.chains (map part (begun xs)))) place (get_or counts k 0)
+            (get_or starts k 0) (map_placed m place
             (spread_of rule m within_it (tables.any_lower (map part (begun xs)))
             (tables.any_same (map part (begun xs)))) (get_or counts k 0)
             (λ t. all_placed (map part (begun xs)) (op_of m)
             (within_it || is_some (spread_of rule m within_it (tables.any_lower (map part (begun xs)))
-            (tables.any_same (map part (begun xs))))) (get_or starts k 0 + t)))
-            (λ within_it d in_env g. map_same place m counts starts xs k d in_env within_it node child seats path deep g
-            _ (ap₂ (spread_of rule m within_it) (lowers xs) (sames xs)))
+            (tables.any_same (map part (begun xs))))) (get_or starts k 0 + t))))
+            (λ within_it d in_env g. run_same place m counts starts xs k d in_env within_it node child seats path deep
+            round loops g _ (ap₂ (spread_of rule m within_it) (lowers xs) (sames xs)))
 
         agrees_step : (y : Statement-F Known) → Agrees (roll-Statement (map-Statement Known Statement (λ p. p.0) y))
         agrees_step (Statement-F.Call lower instances) = subst Agrees (sym (b.rolls-Call lower instances)) (record {
@@ -358,7 +445,7 @@ module _ (s : Setting) (bodies : ℕ → FormBody) (homes : ℕ → Homes) (leve
               (sym (part_call bodies homes laid_out rule lower instances))
               (subst (IsAlone level at (call_chain lower instances) (not lower)) (sym (calls_call lower instances))
               (call_alone level at lower instances));
-          is = λ op k c env inside node child seats path deep h.
+          is = λ op k c env inside node child seats path deep loops h.
               ap (λ (p : TermPart). written s (p.build op inside c) env)
               (built_call bodies homes made rule lower instances)
               ∙ rows_same op lower instances k c env inside node child seats path
@@ -391,11 +478,12 @@ module _ (s : Setting) (bodies : ℕ → FormBody) (homes : ℕ → Homes) (leve
                   (subst (IsAlone level at (chain_of first_of m starts (tables.chains (map part (begun xs))))
                   (tables.any_same (map part (begun xs)))) (sym (calls_map place m counts starts (begun xs)))
                   (alones m starts xs));
-              is = λ op k c env inside node child seats path deep h.
+              is = λ op k c env inside node child seats path deep loops h.
+                  let both = map_loops homes place m counts starts (begun xs) loops in
                   ap (λ (p : TermPart). written s (p.build op inside c) env)
                   (built_map bodies homes made rule place m counts starts (begun xs))
                   ∙ held_same place m counts starts xs op k c env inside node child seats path
-                  (subst (AreLevel level at) (calls_map place m counts starts (begun xs)) deep)
+                  (subst (AreLevel level at) (calls_map place m counts starts (begun xs)) deep) both.0 both.1
                   (subst (λ (z : Bool). Stands s env at c inside z k node child seats path)
                   (ap (λ (p : PlacedPart). p.same)
                   (part_map bodies homes laid_out rule place m counts starts (begun xs)))
@@ -420,33 +508,37 @@ module _ (s : Setting) (bodies : ℕ → FormBody) (homes : ℕ → Homes) (leve
         calls_joined (x ∷ xs) = ap (λ l. calls_in x ++ l) (calls_joined xs)
 
         list_same : (list : List Statement) (c : Context) (env : Env) (node : ℕ) (seats : List Seat) (path : List ℕ)
-            → AreLevel level at (calls_in_all list) → Stands s env at c false true 0 node 0 seats path
+            → AreLevel level at (calls_in_all list) → LoopsStand homes (all_loops (map call_loops list))
+            → Stands s env at c false true 0 node 0 seats path
             → written s (term.Seq (all_terms (map built list) None false c)) env
             ≡ trees.tree s (all_placed (map part list) None false 0) node 0 seats path
-        list_same list c env node seats path deep h =
+        list_same list c env node seats path deep loops h =
             ap (λ f. f env) (written_seq s _)
             ∙ subst (λ (xs : List Statement). AreLevel level at (calls_in_all xs)
+            → LoopsStand homes (all_loops (map call_loops xs))
             → seq_parts (map (written s) (all_terms (map built xs) None false c)) env
             ≡ trees.tree s (all_placed (map part xs) None false 0) node 0 seats path)
             (known_are list)
-            (λ d. all_same (known list) None 0 c env false node 0 seats path
-            (subst (AreLevel level at) (calls_joined (begun (known list))) d)
-            (narrow s env at c false true _ 0 node 0 seats path (λ e. absurd (cc)) h)) deep
+            (λ d g. all_same (known list) None 0 c env false node 0 seats path
+            (subst (AreLevel level at) (calls_joined (begun (known list))) d) g
+            (narrow s env at c false true _ 0 node 0 seats path (λ e. absurd (cc)) h)) deep loops
 
       body_same : (h : Homes) (bd : FormBody) (c : Context) (env : Env) (node : ℕ) (seats : List Seat) (path : List ℕ)
-          → AreLevel level at (calls_of bd.body) → Stands s env at c false true 0 node 0 seats path
+          → AreLevel level at (calls_of bd.body) → LoopsStand homes (call_loops_of bd.body)
+          → Stands s env at c false true 0 node 0 seats path
           → written s (body_term bodies homes made h bd.body c) env
           ≡ trees.tree s (body_placed bodies homes laid_out h bd.arrays bd.body) node 0 seats path
-      body_same h bd c env node seats path deep g = go bd.body deep
+      body_same h bd c env node seats path deep loops g = go bd.body deep loops
         where
           on_node : {o : Option Num} → Goes s env at node 0 false true o → node_of env ≡ node
           on_node (to_child k is v) = ap env.nodes is ∙ g.node_is
           on_node (entered is there i alone) = cc
 
-          go : (x : Body) → AreLevel level at (calls_of x) → written s (body_term bodies homes made h x c) env
+          go : (x : Body) → AreLevel level at (calls_of x) → LoopsStand homes (call_loops_of x)
+              → written s (body_term bodies homes made h x c) env
               ≡ trees.tree s (body_placed bodies homes laid_out h bd.arrays x) node 0 seats path
-          go (body.Inner list) d = list_same h.rule list c env node seats path d g
-          go (body.Leaf code) d =
+          go (body.Inner list) d ls = list_same h.rule list c env node seats path d ls g
+          go (body.Leaf code) d ls =
               ap (λ f. f env) (written_act s (action.Leaf h.code c.views c.path))
               ∙ ap₂ (λ v p. tree.Act (LeafEvent (node_of env) h.code v p)) views numbers_are
               ∙ ap (λ (z : ℕ). tree.Act (LeafEvent z h.code (map (λ q. q.view) seats) path)) (on_node g.goes)
@@ -467,10 +559,10 @@ module _ (s : Setting) (bodies : ℕ → FormBody) (homes : ℕ → Homes) (leve
                   (λ x k i. ap nat_abs (i.value env.level env.nodes)) g.numbers
 
 pub forms_same : (s : Setting) (bodies : ℕ → FormBody) (homes : ℕ → Homes) (level : ℕ → ℕ)
-    → AreLeveled s bodies homes level → (d : ℕ)
+    → AreLeveled s bodies homes level → PipesStand bodies homes → (d : ℕ)
     → AreSame s bodies homes level (term_of bodies homes d) (placed_of bodies homes d)
-forms_same s bodies homes level leveled zero f c env node seats path h = ap (λ x. x env) (written_skip s)
-forms_same s bodies homes level leveled (suc d) f c env node seats path h =
+forms_same s bodies homes level leveled stand zero f c env node seats path h = ap (λ x. x env) (written_skip s)
+forms_same s bodies homes level leveled stand (suc d) f c env node seats path h =
     body_same s bodies homes level (term_of bodies homes d) (placed_of bodies homes d)
-    (forms_same s bodies homes level leveled d) leveled (level f) (homes f) (bodies f) c env node seats path
-    (leveled.calls f) h
+    (forms_same s bodies homes level leveled stand d) leveled (level f) (homes f) (bodies f) c env node seats path
+    (leveled.calls f) (stand.each f) h

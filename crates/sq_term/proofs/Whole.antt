@@ -34,9 +34,9 @@ views_are s zero_is (x ∷ shapes) (h ∷ hs) o
     (views_are s zero_is shapes hs o.1)
 
 pub entry_is_tree : EntryIsTree
-entry_is_tree s bodies homes level leveled first root d args =
+entry_is_tree s bodies homes level leveled stand first root d args =
     arm_same s bodies homes level (term_of bodies homes d) (placed_of bodies homes d)
-    (forms_same s bodies homes level leveled d) [] None false (entry_row args ∷ []) 0 (entry_row args) []
+    (forms_same s bodies homes level leveled stand d) [] None false (entry_row args ∷ []) 0 (entry_row args) []
     (entry_context (bodies 0) (homes 0)) at_root 0 false 0 0 (entry_seats s (bodies 0).arrays (homes 0).params) [] tt
     (subst (λ (l : ℕ). LocalsOf s l (homes 0).locals) first (leveled.locals 0)) first refl (entry_row args) refl
     (heads_refl args)
@@ -50,5 +50,5 @@ entry_is_tree s bodies homes level leveled first root d args =
     })
 
 pub term_is_tree : TermIsTree
-term_is_tree s bodies homes level leveled d k c env node seats path h
-    = forms_same s bodies homes level leveled d k c env node seats path h
+term_is_tree s bodies homes level leveled stand d k c env node seats path h
+    = forms_same s bodies homes level leveled stand d k c env node seats path h

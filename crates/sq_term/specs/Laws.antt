@@ -10,6 +10,7 @@ use Rattle.sq_term.specs.declared.context.Context.{Context}
 use Rattle.sq_placed.specs.Seats.{Seat, buffer_seat}
 use Rattle.sq_placed.specs.Trees.{tree}
 use Rattle.sq_placed.specs.Tables.{placed_of, entry_placed}
+use Rattle.sq_placed.specs.Pipes.{PipesStand}
 use Rattle.sq_term.specs.Terms.{term_of, entry_term, buffer_or}
 use Rattle.sq_term.specs.Stands.{Stands, AreLeveled}
 
@@ -17,7 +18,7 @@ use Rattle.sq_term.specs.Stands.{Stands, AreLeveled}
 abbrev pub TermIsTree : Type 0
 TermIsTree =
     (s : Setting) (bodies : ℕ → FormBody) (homes : ℕ → Homes) (level : ℕ → ℕ) → AreLeveled s bodies homes level
-    → (n k : ℕ) (c : Context) (env : Env) (node : ℕ) (seats : List Seat) (path : List ℕ)
+    → PipesStand bodies homes → (n k : ℕ) (c : Context) (env : Env) (node : ℕ) (seats : List Seat) (path : List ℕ)
     → Stands s env (level k) c false true 0 node 0 seats path
     → written s (term_of bodies homes n k c) env ≡ tree s (placed_of bodies homes n k) node 0 seats path
 
@@ -32,7 +33,7 @@ entry_seats s (x ∷ shapes) (h ∷ hs) = buffer_seat s 0 (buffer_or h) x ∷ en
 abbrev pub EntryIsTree : Type 0
 EntryIsTree =
     (s : Setting) (bodies : ℕ → FormBody) (homes : ℕ → Homes) (level : ℕ → ℕ) → AreLeveled s bodies homes level
-    → level 0 ≡ 0 → s.level 0 ≡ 0
+    → PipesStand bodies homes → level 0 ≡ 0 → s.level 0 ≡ 0
     → (n : ℕ) (args : List Argument)
     → written s (entry_term bodies homes n args) at_root
     ≡ tree s (entry_placed bodies homes n args) 0 0 (entry_seats s (bodies 0).arrays (homes 0).params) []

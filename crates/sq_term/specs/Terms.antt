@@ -1,5 +1,5 @@
 -- The term of a form, with its loops kept, from the tables of forms and the homes of their arrays.
-use Rattle.std.specs.Prelude.{◌≡◌, ℕ, zero, suc, ◌+◌, ◌*◌, ◌==◌, ℤ, pos, Bool, true, false, not, ◌&&◌, ◌||◌, List, []}
+use Rattle.std.specs.Prelude.{ℕ, zero, suc, ◌*◌, ◌==◌, ℤ, pos, Bool, true, false, not, ◌&&◌, ◌||◌, List, []}
 use Rattle.std.specs.Prelude.{◌∷◌, ◌++◌, length, map, get_or, slice_get, Option, Some, None, is_some, if◌then◌else◌}
 use Rattle.std.specs.List.{list_any, list_all}
 use Rattle.sq_num.specs.declared.RedOp.{RedOp}
@@ -23,7 +23,6 @@ use Rattle.sq_ir.specs.declared.term.Term.{Term}
 use Rattle.sq_ir.specs.declared.term.Term.TheVariants as term
 use Rattle.sq_blocks.specs.declared.argument.Argument.{Argument}
 use Rattle.sq_spec.specs.declared.statement.LoopKind.{LoopKind}
-use Rattle.sq_spec.specs.declared.statement.LoopKind.TheVariants as loop_kind
 use Rattle.sq_spec.specs.declared.statement.CallInstance.{CallInstance}
 use Rattle.sq_spec.specs.declared.statement.Statement.{Statement}
 use Rattle.sq_spec.specs.declared.statement.Statement.TheOpen.{Statement-F}
@@ -36,12 +35,13 @@ use Rattle.sq_placed.specs.declared.home.Home.{Home}
 use Rattle.sq_placed.specs.declared.home.Home.TheVariants.{InPlace, Own, Held, Twin}
 use Rattle.sq_placed.specs.declared.home.Homes.{Homes}
 use Rattle.sq_term.specs.declared.context.Context.{Context}
+use Rattle.sq_term.specs.declared.context.Lane.{Lane}
 use Rattle.sq_term.specs.declared.context.Move.{Move}
 use Rattle.sq_placed.specs.Placed.{PlacedLocal}
 use Rattle.sq_placed.specs.Seats.{firsts, cons_some}
-use Rattle.sq_placed.specs.Trees.{is_moved, buffer_of, held_of, local_buffers}
+use Rattle.sq_placed.specs.Trees.{is_moved, is_held, buffer_of, held_of, twin_of, home_in_set, local_buffers}
 use Rattle.sq_placed.specs.Tables.{no_shape, locals_of, op_of, spread_of, Chain, call_chain, chain_of, chain_form}
-use Rattle.sq_placed.specs.Tables.{leaving_row, leaving_chain, row_rect}
+use Rattle.sq_placed.specs.Tables.{leaving_chain, row_rect, row_form, Pipe, pipe_of}
 
 -- ---- one loop further in
 
@@ -362,6 +362,129 @@ hold_term shapes homes instances number (p ∷ ps) inside c loop =
     (term.Seq (term.Par (map hold_in_term ms) ∷ loop true (at_child_already c) ∷ term.Par (map hold_out_term ms)
     ∷ []))
 
+-- ---- loops whose transfers overlap
+
+abbrev pub lift_context : Context → Context
+lift_context c = record {
+  ordinal = lift 1 c.ordinal;
+  child = lift_child c.child;
+  path = map (lift 1) c.path;
+  views = map lift_view c.views;
+}
+
+abbrev pub lift_lane : Lane → Lane
+lift_lane l = record { first = lift 1 l.first; step = lift 1 l.step; many = lift 1 l.many }
+
+-- all iterations
+abbrev pub whole_lane : (count : Num) → Lane
+whole_lane count = record { first = n.Const (pos 0); step = n.Const (pos 1); many = count }
+
+-- of so many iterations, those at the children before the c-th of f: the rounded-up f-th part of c times as many
+abbrev pub lane_start : (count f c : Num) → Num
+lane_start count f c = n.Div (n.Add (n.Mul c count) (n.Sub f (n.Const (pos 1)))) f
+
+-- those that the rule gives to the c-th of f children
+abbrev pub lane_at : SpreadRule → (count f c : Num) → Lane
+lane_at Cyclic count f c = record {
+  first = c;
+  step = f;
+  many = n.Div (n.Sub (n.Add count (n.Sub f (n.Const (pos 1)))) c) f;
+}
+lane_at Blocked count f c = record {
+  first = lane_start count f c;
+  step = n.Const (pos 1);
+  many = n.Sub (lane_start count f (n.Add c (n.Const (pos 1)))) (lane_start count f c);
+}
+
+-- the iteration at this position
+abbrev pub iteration : Lane → (position : Num) → Num
+iteration l p = n.Add l.first (n.Mul l.step p)
+
+-- in this iteration of a loop, at the child that its call goes to; starts: how many began before, each time that the
+-- loop is begun
+abbrev pub at_iteration : (starts : List ℕ) → (number : Num) → Context → Context
+at_iteration starts t c = record {
+  ordinal = n.Add (n.Pick (numbers starts) c.ordinal) t;
+  child = None;
+  path = c.path ++ t ∷ [];
+  views = c.views;
+}
+
+-- the two sets in turn
+abbrev pub by_set : (position : Num) → (ℕ → Term) → Term
+by_set p f = term.Case (n.Rem p (n.Const (pos 2))) (f 0 ∷ f 1 ∷ [])
+
+-- nothing where the number is 0
+abbrev pub where_some : Num → Term → Term
+where_some k x = term.Case (n.Min k (n.Const (pos 1))) (term.Skip ∷ x ∷ [])
+
+-- the buffers of a set, from the i-th argument on
+abbrev pub set_buffers_from : (set : ℕ) → List Home → (i : ℕ) → List Argument → List ℕ
+set_buffers_from set homes i [] = []
+set_buffers_from set homes i (a ∷ rest) =
+    twin_of set (get_or homes i InPlace) (set_buffers_from set homes (suc i) rest)
+
+abbrev pub come_in_term : Move → Term
+come_in_term m = if is_held m.home then term.Skip else bring_term m
+
+abbrev pub fill_held_term : Move → Term
+fill_held_term m = if is_held m.home then bring_term m else term.Skip
+
+-- what comes in, and what goes out, for these arguments
+abbrev pub come_term : List Move → Term
+come_term ms = term.Par (map come_in_term ms)
+
+abbrev pub leave_term : List Move → Term
+leave_term ms = term.Par (map back_term ms)
+
+abbrev pub row_args : Option CallInstance → List Argument
+row_args None = []
+row_args (Some r) = r.args
+
+-- In a lane, what stands at a position: what is made of the set and of where the iteration stands.
+abbrev pub at_position : (starts : List ℕ) → Lane → Context → (position : Num) → (ℕ → Context → Term) → Term
+at_position starts l c p f = by_set p (λ set. f set (at_iteration starts (iteration l p) c))
+
+-- the work at the position of the loop, beside the transfers of the other set
+abbrev pub turn_term : (starts : List ℕ) → Lane → Context → (come work leave : ℕ → Context → Term) → Term
+turn_term starts l c come work leave =
+    term.Par
+    (at_position starts l c (n.Index 0) work
+    ∷ term.Seq
+    (where_some (n.Index 0) (at_position starts l c (n.Sub (n.Index 0) (n.Const (pos 1))) leave)
+    ∷ where_some (n.Sub (n.Sub l.many (n.Const (pos 1))) (n.Index 0))
+    (at_position starts l c (n.Add (n.Index 0) (n.Const (pos 1))) come)
+    ∷ [])
+    ∷ [])
+
+-- all positions of a lane, one after another
+abbrev pub lane_term : (starts : List ℕ) → Lane → Context → (come work leave : ℕ → Context → Term) → Term
+lane_term starts l c come work leave =
+    where_some l.many
+    (term.Seq
+    (come 0 (at_iteration starts l.first c)
+    ∷ term.Loop l.many (turn_term starts (lift_lane l) (lift_context c) come work leave)
+    ∷ at_position starts l c (n.Sub l.many (n.Const (pos 1))) leave
+    ∷ []))
+
+-- For each child of the node in force, one part: in it `Index 0` is the child, and `Index 1` how many there are. Of the
+-- iterations of the loop all but the last are nothing.
+abbrev pub each_child : Term → Term
+each_child x =
+    term.Loop (n.Add n.Children (n.Const (pos 1)))
+    (term.Case (n.Div (n.Index 0) n.Children) (term.Skip ∷ term.Spread (n.Index 0) Cyclic x ∷ []))
+
+-- the loop at its child, or of a map that is spread at each, with the two sets round it
+abbrev pub lanes_term : Option SpreadRule → (count : Num) → (starts buffers : List ℕ) → Context
+    → (come work leave : ℕ → Context → Term) → Term
+lanes_term None count starts bs c come work leave =
+    term.Within c.child bs (lane_term starts (whole_lane count) c come work leave)
+lanes_term (Some rule) count starts bs c come work leave =
+    each_child
+    (term.Within (Some (n.Index 0)) bs
+    (lane_term starts (lane_at rule (lift 1 (lift 1 count)) (n.Index 1) (n.Index 0)) (lift_context (lift_context c))
+    come work leave))
+
 -- ---- statements
 
 -- as in the placed source, with what each statement's term is
@@ -419,6 +542,42 @@ module _ (bodies : ℕ → FormBody) (homes : ℕ → Homes) (callee : ℕ → C
       term.Case (n.Pick (numbers (picks (arms_of instances) instances)) c.ordinal) (term.Skip
       ∷ map (arm_of_form op lower c instances) (arms_of instances))
 
+  -- the arguments of a loop's call, which has these rows, in one of the two sets
+  abbrev pub pipe_moves : List CallInstance → (set : ℕ) → Context → List Move
+  pipe_moves rows set c =
+      let form = row_form (slice_get rows 0) in
+      moves_from None (bodies form).arrays (map (home_in_set set) (homes form).params) c rows 0
+      (row_args (slice_get rows 0))
+
+  -- the callee, with the fills of what is held
+  abbrev pub pipe_work : List CallInstance → (set : ℕ) → Context → Term
+  pipe_work rows set c =
+      let form = row_form (slice_get rows 0) in
+      let ms = pipe_moves rows set c in
+      let ks = locals_of (bodies form) (homes form) in
+      term.Seq (term.Par (map fill_held_term ms) ∷ callee_term ks (callee form (in_callee c ms ks)) ∷ [])
+
+  abbrev pub twin_sets : List CallInstance → List ℕ
+  twin_sets rows =
+      let params = (homes (row_form (slice_get rows 0))).params in
+      let args = row_args (slice_get rows 0) in
+      set_buffers_from 0 params 0 args ++ set_buffers_from 1 params 0 args
+
+  -- loop: what it is where its transfers don't overlap
+  abbrev pub pipe_term : Option Pipe → (counts starts : List ℕ) → Context → (loop : Term) → Term
+  pipe_term None counts starts c loop = loop
+  pipe_term (Some p) counts starts c loop =
+      lanes_term p.spread (count_num counts c) starts (twin_sets p.rows) c
+      (λ set at. come_term (pipe_moves p.rows set at)) (pipe_work p.rows)
+      (λ set at. leave_term (pipe_moves p.rows set at))
+
+  -- a map whose transfers overlap or don't
+  abbrev pub run_term : SpreadRule → LoopKind → (counts starts : List ℕ) → List TermPart → (inside : Bool) → Context
+      → Term
+  run_term rule m counts starts parts inside c =
+      pipe_term (pipe_of homes m (spread_of rule m inside (any_lower parts) (any_same parts)) (chains parts)) counts
+      starts c (loop_term rule m counts starts parts inside c)
+
   abbrev pub map_hold : Option (Chain Num) → (inside : Bool) → Context → (Bool → Context → Term) → Term
   map_hold h inside c loop =
       hold_term (bodies (chain_form h)).arrays (homes (chain_form h)).params (chain_times h) (chain_num h c.ordinal)
@@ -436,7 +595,7 @@ module _ (bodies : ℕ → FormBody) (homes : ℕ → Homes) (callee : ℕ → C
     same = any_same parts;
     chain = chain_of first_num m starts (chains parts);
     build = λ op inside c.
-        map_hold (chain_of first_num m starts (chains parts)) inside c (loop_term rule m counts starts parts);
+        map_hold (chain_of first_num m starts (chains parts)) inside c (run_term rule m counts starts parts);
   }
 
   abbrev pub statement_term : SpreadRule → Statement → TermPart

@@ -28,3 +28,12 @@ pub struct Move {
     pub outside: LeafView,
     pub own: LeafView,
 }
+
+/// The iterations of a loop that stand at one child, in turn: the first one, each further one so many behind, and how
+/// many there are.
+#[derive(Drop)]
+pub struct Lane {
+    pub first: Num,
+    pub step: Num,
+    pub many: Num,
+}

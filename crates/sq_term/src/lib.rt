@@ -4,4 +4,4 @@
 mod context;
 pub mod laws;
 
-pub use context::{Context, Move};
+pub use context::{Context, Lane, Move};
