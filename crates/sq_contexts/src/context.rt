@@ -31,7 +31,8 @@ fn ordinal_in(alloc: Global, starts: &[usize], ordinal: &Num) -> Result<Num, All
     Num::sum(alloc, start, Num::Index(0))
 }
 
-fn lift_child(alloc: Global, child: &Option<Num>) -> Result<Option<Num>, AllocError>
+/// A child under one loop more.
+pub fn lift_child(alloc: Global, child: &Option<Num>) -> Result<Option<Num>, AllocError>
     ensures { IfOk result (λ o. o ≡ terms.lift_child child.now) }
 {
     match child {

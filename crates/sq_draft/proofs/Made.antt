@@ -19,12 +19,12 @@ use Rattle.sq_spec.specs.declared.body.FormBody.{FormBody}
 use Rattle.sq_placed.specs.declared.home.Home.{Home}
 use Rattle.sq_placed.specs.declared.home.Homes.{Homes}
 use Rattle.sq_term.specs.declared.context.Context.{Context}
-use Rattle.sq_placed.specs.Tables.{op_of, spread_of, Chain, chain_of, leaving_args, leaving_row, row_form}
+use Rattle.sq_placed.specs.Tables.{op_of, spread_of, Chain, chain_of, leaving_args, leaving_row, row_form, pipe_of}
 use Rattle.sq_term.specs.Terms.{arm_term, entry_context, entry_row, entry_term, body_in, homes_in, no_homes, body_term}
 use Rattle.sq_term.specs.Terms.{term_of, TermPart, any_lower, any_same, all_terms, in_map, map_term, count_num}
-use Rattle.sq_term.specs.Terms.{rows_term, statement_term, chains, first_num, loop_term, hold_term, map_hold}
+use Rattle.sq_term.specs.Terms.{rows_term, statement_term, chains, first_num, loop_term, hold_term, map_hold, run_term}
 use Rattle.sq_tables.specs.Loops.{any_of, lower_in, same_in, chain_in}
-use Rattle.sq_draft.specs.Building.{callee_in, holding_args, holding_row, holding_of, hold_by}
+use Rattle.sq_draft.specs.Building.{callee_in, holding_args, holding_row, holding_of, hold_by, pipe_by, run_in}
 use Rattle.sq_spec.specs.Bodies.{no_body}
 use Rattle.sq_tables.proofs.Lists.{an_item}
 use Rattle.sq_term.proofs.Opened.{built_call, built_map}
@@ -88,6 +88,10 @@ module _ (bodies : ℕ → FormBody) (homes : ℕ → Homes) (callee : ℕ → C
   all_the_same [] = refl
   all_the_same (x ∷ xs) = ap₂ (λ u v. u || v) (knows x).same (all_the_same xs)
 
+  all_chains : (xs : List Statement) → chains (map built xs) ≡ map chain_in xs
+  all_chains [] = refl
+  all_chains (x ∷ xs) = ap₂ (λ u v. u ∷ v) (knows x).chain (all_chains xs)
+
   pub call_made : (x : Statement) (lower : Bool) (instances : List CallInstance) (op : Option RedOp) (inside : Bool)
       (c : Context) → x ≡ b.Call lower instances
       → rows_term bodies homes callee op lower c instances ≡ (built x).build op inside c
@@ -146,14 +150,36 @@ module _ (bodies : List FormBody) (homes : List Homes) (depth : ℕ) (rule : Spr
           by_args (body_in bodies r.form).arrays (homes_in homes r.form).params h.instances (h.first c.ordinal)
           (leaving_args h.loops (homes_in homes r.form).params 0 r.args) inside c loop
 
+  module _ (m : LoopKind) (counts starts : List ℕ) (list : List Statement) where
+    abbrev run_by : (lower same : Bool) → List (Option (Chain Num)) → Bool → Context → Term
+    run_by lower same hs inside c =
+        pipe_by bodies homes depth (pipe_of (homes_in homes) m (spread_of rule m inside lower same) hs) counts starts c
+        (loop_term rule m counts starts (map parts list) inside c)
+
+    abbrev run_of_parts : Bool → Context → Term
+    run_of_parts = run_term (body_in bodies) (homes_in homes) (callee_in bodies homes depth) rule m counts starts
+        (map parts list)
+
+    run_made : run_in bodies homes depth rule m counts starts list ≡ run_of_parts
+    run_made =
+        sym (ap (λ (b : Bool). run_by b (any_same (map parts list)) (chains (map parts list)))
+        (all_lower (body_in bodies) (homes_in homes) (callee_in bodies homes depth) rule list)
+        ∙ ap (λ (b : Bool). run_by (any_of (map lower_in list)) b (chains (map parts list)))
+        (all_the_same (body_in bodies) (homes_in homes) (callee_in bodies homes depth) rule list)
+        ∙ ap (run_by (any_of (map lower_in list)) (any_of (map same_in list)))
+        (all_chains (body_in bodies) (homes_in homes) (callee_in bodies homes depth) rule list))
+
   pub map_made : (x : Statement) (place : Place) (m : LoopKind) (counts starts : List ℕ) (list : List Statement)
       (op : Option RedOp) (inside : Bool) (c : Context) → x ≡ b.Map place m counts starts list
-      → hold_by (holding_of bodies homes (chain_in x) c) inside c (loop_term rule m counts starts (map parts list))
+      → hold_by (holding_of bodies homes (chain_in x) c) inside c (run_in bodies homes depth rule m counts starts list)
       ≡ (parts x).build op inside c
   map_made x place m counts starts list op inside c is =
-      by_rows (chain_in x) inside c (loop_term rule m counts starts (map parts list))
+      let run = run_of_parts m counts starts list in
+      by_rows (chain_in x) inside c (run_in bodies homes depth rule m counts starts list)
+      ∙ ap (λ (loop : Bool → Context → Term). map_hold (body_in bodies) (homes_in homes) (callee_in bodies homes depth)
+      (chain_in x) inside c loop) (run_made m counts starts list)
       ∙ ap (λ (h : Option (Chain Num)). map_hold (body_in bodies) (homes_in homes) (callee_in bodies homes depth) h
-      inside c (loop_term rule m counts starts (map parts list)))
+      inside c run)
       (sym (knows (body_in bodies) (homes_in homes) (callee_in bodies homes depth) rule x).chain
       ∙ ap (λ (p : TermPart). p.chain)
       (ap parts is ∙ built_map (body_in bodies) (homes_in homes) (callee_in bodies homes depth) rule place m counts

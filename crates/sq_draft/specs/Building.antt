@@ -12,12 +12,26 @@ use Rattle.sq_spec.specs.declared.statement.Statement.{Statement}
 use Rattle.sq_spec.specs.declared.body.FormBody.{FormBody}
 use Rattle.sq_placed.specs.declared.home.Home.{Home}
 use Rattle.sq_placed.specs.declared.home.Homes.{Homes}
-use Rattle.sq_placed.specs.Tables.{Chain, leaving_args}
+use Rattle.sq_placed.specs.Tables.{Chain, leaving_args, spread_of, Pipe, pipe_of}
 use Rattle.sq_term.specs.declared.context.Context.{Context}
 use Rattle.sq_term.specs.Terms.{TermPart, statement_term, loop_term, term_of, body_in, homes_in, chain_num}
-use Rattle.sq_term.specs.Terms.{held_moves, leaving_buffers, hold_in_term, hold_out_term, at_child_already}
-use Rattle.sq_tables.specs.Loops.{rows_of_chain, loops_of_chain}
+use Rattle.sq_term.specs.declared.context.Move.{Move}
+use Rattle.sq_term.specs.Terms.{held_moves, leaving_buffers, hold_in_term, hold_out_term, at_child_already, pipe_term}
+use Rattle.sq_term.specs.Terms.{bring_term, back_term, come_in_term, fill_held_term}
+use Rattle.sq_tables.specs.Loops.{rows_of_chain, loops_of_chain, any_of, lower_in, same_in, chain_in}
 use Rattle.sq_draft.specs.declared.forms.Holding.{Holding}
+use Rattle.sq_draft.specs.declared.transfers.Transfer.{Transfer}
+use Rattle.sq_draft.specs.declared.transfers.Transfer.TheVariants.{Bring, Back, Come, Fill, HoldIn, HoldOut}
+
+-- ---- what is done for an argument
+
+abbrev pub transfer_term : Transfer → Move → Term
+transfer_term Bring = bring_term
+transfer_term Back = back_term
+transfer_term Come = come_in_term
+transfer_term Fill = fill_held_term
+transfer_term HoldIn = hold_in_term
+transfer_term HoldOut = hold_out_term
 
 -- ---- forms by their places in two lists
 
@@ -32,6 +46,25 @@ abbrev pub loop_in : List FormBody → List Homes → (depth : ℕ) → SpreadRu
     → List Statement → (inside : Bool) → Context → Term
 loop_in bodies homes depth rule kind counts starts list =
     loop_term rule kind counts starts (map (part_in bodies homes depth rule) list)
+
+-- ---- loops whose transfers overlap
+
+-- the map as such a loop, if it is one
+abbrev pub pipe_in : List Homes → SpreadRule → LoopKind → List Statement → (inside : Bool) → Option Pipe
+pipe_in homes rule kind list inside =
+    pipe_of (homes_in homes) kind (spread_of rule kind inside (any_of (map lower_in list)) (any_of (map same_in list)))
+    (map chain_in list)
+
+abbrev pub pipe_by : List FormBody → List Homes → (depth : ℕ) → Option Pipe → (counts starts : List ℕ) → Context
+    → (loop : Term) → Term
+pipe_by bodies homes depth = pipe_term (body_in bodies) (homes_in homes) (callee_in bodies homes depth)
+
+-- a map whose transfers overlap or don't
+abbrev pub run_in : List FormBody → List Homes → (depth : ℕ) → SpreadRule → LoopKind → (counts starts : List ℕ)
+    → List Statement → (inside : Bool) → Context → Term
+run_in bodies homes depth rule kind counts starts list inside c =
+    pipe_by bodies homes depth (pipe_in homes rule kind list inside) counts starts c
+    (loop_in bodies homes depth rule kind counts starts list inside c)
 
 -- ---- loops that arguments leave
 

@@ -9,14 +9,13 @@ ghost use Rattle.sq_tables.specs.Loops as loops;
 ghost use Rattle.sq_draft.specs.Building as building;
 
 use crate::args::moves;
-use crate::forms::{
-    CalleeArrays, Forms, Holding, MapTable, Round, local_shapes, round_in, round_of_held,
-};
+use crate::forms::{CalleeArrays, Forms, Holding, MapTable, Round, local_shapes, round_in};
 use crate::held::holding;
 use crate::parts::{
     call_scope, case_term, child_scope, leaf_term, locals_scope, map_term, push_fills,
-    push_hold_ins, push_hold_outs, push_ins, push_outs,
 };
+use crate::pipes::pipe_in;
+use crate::transfers::{Transfer, push_transfers};
 use sq_contexts::{LocalArrays, at_child_already, count_num, in_callee, in_map};
 use sq_ir::{Num, Term, Terms};
 use sq_num::RedOp;
@@ -114,11 +113,11 @@ fn map_of(
 ) -> Result<Term, AllocError>
     ensures { IfOk result (λ t. t ≡ building.hold_by
         (building.holding_of forms.now.bodies.now forms.now.homes.now (loops.chain_in x.now) c.now)
-        round.inside c.now (building.loop_in forms.now.bodies.now forms.now.homes.now forms.now.depth round.rule
+        round.inside c.now (building.run_in forms.now.bodies.now forms.now.homes.now forms.now.depth round.rule
         table.now.kind table.now.counts.now table.now.starts.now table.now.body.now)) }
 {
     match holding(alloc, forms, x, c)? {
-        None => loop_term(alloc, left, forms, round, table, c),
+        None => run_term(alloc, left, forms, round, table, c),
         Some(held) => hold(alloc, left, forms, round, held, table, c),
     }
 }
@@ -134,7 +133,7 @@ fn hold(
     c: &Context,
 ) -> Result<Term, AllocError>
     ensures { IfOk result (λ t. t ≡ building.hold_by (Some held) round.inside c.now
-        (building.loop_in forms.now.bodies.now forms.now.homes.now forms.now.depth round.rule
+        (building.run_in forms.now.bodies.now forms.now.homes.now forms.now.depth round.rule
         table.now.kind table.now.counts.now table.now.starts.now table.now.body.now)) }
 {
     let parts = hold_parts(alloc, left, forms, round, held.moves.as_slice(), table, c)?;
@@ -154,15 +153,15 @@ fn hold_parts(
     c: &Context,
 ) -> Result<Terms, AllocError>
     ensures { IfOk result (λ ts. ts ≡ term.Par (map terms.hold_in_term ms.now)
-        ∷ building.loop_in forms.now.bodies.now forms.now.homes.now forms.now.depth round.rule
+        ∷ building.run_in forms.now.bodies.now forms.now.homes.now forms.now.depth round.rule
         table.now.kind table.now.counts.now table.now.starts.now table.now.body.now true (terms.at_child_already c.now)
         ∷ term.Par (map terms.hold_out_term ms.now) ∷ []) }
 {
     let mut parts = Items::new(alloc);
-    push_hold_ins(alloc, &mut parts, ms)?;
+    push_transfers(alloc, &mut parts, Transfer::HoldIn, ms)?;
     let made = held_loop(alloc, left, forms, round, table, c)?;
     parts.push(made)?;
-    push_hold_outs(alloc, &mut parts, ms)?;
+    push_transfers(alloc, &mut parts, Transfer::HoldOut, ms)?;
     Ok(parts)
 }
 
@@ -176,13 +175,38 @@ fn held_loop(
     table: &MapTable<'_>,
     c: &Context,
 ) -> Result<Term, AllocError>
-    ensures { IfOk result (λ t. t ≡ building.loop_in forms.now.bodies.now forms.now.homes.now forms.now.depth
+    ensures { IfOk result (λ t. t ≡ building.run_in forms.now.bodies.now forms.now.homes.now forms.now.depth
         round.rule table.now.kind table.now.counts.now table.now.starts.now table.now.body.now true
         (terms.at_child_already c.now)) }
 {
     let inner = at_child_already(alloc, c)?;
-    let made = loop_term(alloc, left, forms, round_of_held(round), table, &inner)?;
+    let held = Round {
+        rule: round.rule,
+        op: round.op,
+        spread: None,
+        inside: true,
+    };
+    let made = run_term(alloc, left, forms, held, table, &inner)?;
     Ok(made)
+}
+
+// A map. One whose transfers overlap isn't made yet, and no draft has one.
+#[cycle(build)]
+fn run_term(
+    alloc: Global,
+    left: u32,
+    forms: &Forms<'_>,
+    round: Round,
+    table: &MapTable<'_>,
+    c: &Context,
+) -> Result<Term, AllocError>
+    ensures { IfOk result (λ t. t ≡ building.run_in forms.now.bodies.now forms.now.homes.now forms.now.depth
+        round.rule table.now.kind table.now.counts.now table.now.starts.now table.now.body.now round.inside c.now) }
+{
+    match pipe_in(forms.homes, round, table) {
+        None => loop_term(alloc, left, forms, round, table, c),
+        Some(_) => Err(AllocError),
+    }
 }
 
 // A map in the context in which it stands.
@@ -374,10 +398,10 @@ fn call_parts(
         (terms.in_callee c.now ms.now (tables.placed_locals locals.now.shapes.now locals.now.buffers.now)))) }
 {
     let mut parts = Items::new(alloc);
-    push_ins(alloc, &mut parts, ms)?;
+    push_transfers(alloc, &mut parts, Transfer::Bring, ms)?;
     let made = called(alloc, left, forms, form, ms, locals, c)?;
     parts.push(made)?;
-    push_outs(alloc, &mut parts, ms)?;
+    push_transfers(alloc, &mut parts, Transfer::Back, ms)?;
     Ok(parts)
 }
 

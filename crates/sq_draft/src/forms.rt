@@ -80,16 +80,3 @@ pub fn round_in(round: Round, kind: LoopKind, spread: Option<SpreadRule>) -> Rou
         inside: round.inside || spread.is_some(),
     }
 }
-
-/// What stands round a loop that arguments leave.
-pub fn round_of_held(round: Round) -> Round
-    ensures rule { result.rule ≡ round.rule }
-    ensures inside { result.inside ≡ true }
-{
-    Round {
-        rule: round.rule,
-        op: round.op,
-        spread: None,
-        inside: true,
-    }
-}

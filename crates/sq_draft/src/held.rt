@@ -12,10 +12,8 @@ ghost use Rattle.sq_draft.specs.Building as building;
 
 use crate::args::{move_from, shape_at};
 use crate::forms::{CalleeArrays, Forms, Holding};
-use crate::moves::copy_term;
-use sq_ast::Mode;
 use sq_contexts::{block_view, start_table};
-use sq_ir::{BufferIds, LeafView, Num, Term, Terms};
+use sq_ir::{BufferIds, LeafView, Num};
 use sq_placed::Home;
 use sq_spec::{CallInstance, LoopKind, Statement};
 use sq_tables::{Left, held_offsets, home_at, leaving_args, loops_in, rows_in};
@@ -111,48 +109,6 @@ fn leaving_buffers(
         push_buffer(&mut out, home_at(homes, left.position))?;
     }
     Ok(out)
-}
-
-fn hold_in_term(alloc: Global, m: &Move) -> Result<Term, AllocError>
-    ensures { IfOk result (λ x. x ≡ terms.hold_in_term m.now) }
-{
-    match m.mode {
-        Mode::Output => Ok(Term::Skip),
-        Mode::Input | Mode::Both => copy_term(alloc, &m.own, &m.outside, &m.own),
-    }
-}
-
-fn hold_out_term(alloc: Global, m: &Move) -> Result<Term, AllocError>
-    ensures { IfOk result (λ x. x ≡ terms.hold_out_term m.now) }
-{
-    match m.mode {
-        Mode::Input => Ok(Term::Skip),
-        Mode::Output | Mode::Both => copy_term(alloc, &m.own, &m.own, &m.outside),
-    }
-}
-
-/// What comes in before a loop.
-pub fn hold_ins(alloc: Global, ms: &[Move]) -> Result<Terms, AllocError>
-    ensures { IfOk result (λ ts. ts ≡ map terms.hold_in_term ms.now) }
-{
-    let mut out = Vec::new(alloc);
-    for m in ms {
-        let term = hold_in_term(alloc, m)?;
-        out.push(term)?;
-    }
-    Ok(Items::from_vec(out))
-}
-
-/// What goes out after it.
-pub fn hold_outs(alloc: Global, ms: &[Move]) -> Result<Terms, AllocError>
-    ensures { IfOk result (λ ts. ts ≡ map terms.hold_out_term ms.now) }
-{
-    let mut out = Vec::new(alloc);
-    for m in ms {
-        let term = hold_out_term(alloc, m)?;
-        out.push(term)?;
-    }
-    Ok(Items::from_vec(out))
 }
 
 fn first_num(alloc: Global, starts: &[usize], ordinal: Num) -> Result<Num, AllocError>

@@ -8,5 +8,7 @@ mod forms;
 mod held;
 mod moves;
 mod parts;
+mod pipes;
+mod transfers;
 
 pub use entry::draft_term;

@@ -10,8 +10,7 @@ ghost use Rattle.sq_term.specs.Terms as terms;
 ghost use Rattle.sq_tables.specs.Cases as cases;
 
 use crate::args::call_buffers;
-use crate::held::{hold_ins, hold_outs};
-use crate::moves::{back_term, bring_term, fill_term};
+use crate::moves::fill_term;
 use sq_blocks::Argument;
 use sq_contexts::{LocalArrays, buffer_view, call_child, copy_lists, pick_at, push_local_buffers};
 use sq_ir::{Action, BufferIds, Num, Term, Terms};
@@ -19,32 +18,10 @@ use sq_leaf::Shape;
 use sq_placed::Home;
 use sq_spec::CallInstance;
 use sq_tables::{Arms, picks};
-use sq_term::{Context, Move};
+use sq_term::Context;
 use sq_text::SpreadRule;
 use sqlite_items::{Boxed as Box, Items};
 use std::alloc::{AllocError, Global};
-
-fn brings(alloc: Global, ms: &[Move]) -> Result<Terms, AllocError>
-    ensures { IfOk result (λ ts. ts ≡ map terms.bring_term ms.now) }
-{
-    let mut out = Vec::new(alloc);
-    for m in ms {
-        let term = bring_term(alloc, m)?;
-        out.push(term)?;
-    }
-    Ok(Items::from_vec(out))
-}
-
-fn backs(alloc: Global, ms: &[Move]) -> Result<Terms, AllocError>
-    ensures { IfOk result (λ ts. ts ≡ map terms.back_term ms.now) }
-{
-    let mut out = Vec::new(alloc);
-    for m in ms {
-        let term = back_term(alloc, m)?;
-        out.push(term)?;
-    }
-    Ok(Items::from_vec(out))
-}
 
 fn clear_local(alloc: Global, buffer: u32, shape: &Shape) -> Result<Term, AllocError>
     ensures { IfOk result (λ x. x ≡ terms.clear_term (terms.local_view (record { shape = shape.now; buffer = buffer }))) }
@@ -93,6 +70,23 @@ fn local_buffers(alloc: Global, locals: &LocalArrays<'_>) -> Result<BufferIds, A
     Ok(out)
 }
 
+/// A part with buffers in scope, at a child or not.
+pub fn within(
+    alloc: Global,
+    child: Option<Num>,
+    buffers: BufferIds,
+    part: Term,
+) -> Result<Term, AllocError>
+    ensures { IfOk result (λ x. x ≡ term.Within child buffers part) }
+{
+    let body = Box::new(alloc, part)?;
+    Ok(Term::Within {
+        child,
+        buffers,
+        body,
+    })
+}
+
 // Parts in sequence, with buffers in scope.
 fn scope(
     alloc: Global,
@@ -102,12 +96,7 @@ fn scope(
 ) -> Result<Term, AllocError>
     ensures { IfOk result (λ x. x ≡ term.Within child buffers (term.Seq parts)) }
 {
-    let body = Box::new(alloc, Term::Seq(parts))?;
-    Ok(Term::Within {
-        child,
-        buffers,
-        body,
-    })
+    within(alloc, child, buffers, Term::Seq(parts))
 }
 
 /// The same at the child that a call goes to.
@@ -183,24 +172,6 @@ pub fn case_term(
     Ok(Term::Case { pick, arms: parts })
 }
 
-/// What brings the parameters in.
-pub fn push_ins(alloc: Global, out: &mut Terms, ms: &[Move]) -> Result<(), AllocError>
-    ensures { OnOk result (out.new ≡ out.old ++ term.Par (map terms.bring_term ms.now) ∷ []) }
-{
-    let parts = brings(alloc, ms)?;
-    out.push(Term::Par(parts))?;
-    Ok(())
-}
-
-/// What gives them back.
-pub fn push_outs(alloc: Global, out: &mut Terms, ms: &[Move]) -> Result<(), AllocError>
-    ensures { OnOk result (out.new ≡ out.old ++ term.Par (map terms.back_term ms.now) ∷ []) }
-{
-    let parts = backs(alloc, ms)?;
-    out.push(Term::Par(parts))?;
-    Ok(())
-}
-
 /// The fills of locals.
 pub fn push_fills(
     alloc: Global,
@@ -237,22 +208,4 @@ pub fn map_term(
         Some(rule) => Ok(Term::Spread { count, rule, body }),
         None => Ok(Term::Loop { count, body }),
     }
-}
-
-/// What comes in before a loop.
-pub fn push_hold_ins(alloc: Global, out: &mut Terms, ms: &[Move]) -> Result<(), AllocError>
-    ensures { OnOk result (out.new ≡ out.old ++ term.Par (map terms.hold_in_term ms.now) ∷ []) }
-{
-    let parts = hold_ins(alloc, ms)?;
-    out.push(Term::Par(parts))?;
-    Ok(())
-}
-
-/// What goes out after it.
-pub fn push_hold_outs(alloc: Global, out: &mut Terms, ms: &[Move]) -> Result<(), AllocError>
-    ensures { OnOk result (out.new ≡ out.old ++ term.Par (map terms.hold_out_term ms.now) ∷ []) }
-{
-    let parts = hold_outs(alloc, ms)?;
-    out.push(Term::Par(parts))?;
-    Ok(())
 }

@@ -30,6 +30,9 @@ abbrev pub same_in : Statement → Bool
 same_in = fold-Statement Bool same_step
 
 -- the call that a statement is a loop of
+abbrev pub chain_of_call : (lower : Bool) → List CallInstance → Option (Chain Num)
+chain_of_call lower instances = call_chain lower instances
+
 abbrev pub chain_step : Statement-F (Option (Chain Num)) → Option (Chain Num)
 chain_step (Statement-F.Call lower instances) = call_chain lower instances
 chain_step (Statement-F.Map place m counts starts parts) = chain_of first_num m starts parts

@@ -6,6 +6,7 @@ mod cases;
 mod inside;
 mod leaving;
 mod loops;
+mod pipes;
 mod tables;
 
 pub use blocks::held_offsets;
@@ -13,4 +14,5 @@ pub use cases::{Arm, Arms, arms_of, picks};
 pub use inside::{any_lower, any_same};
 pub use leaving::{Left, home_at, leaving_args};
 pub use loops::{loops_in, op_of, rows_in, spread_of};
+pub use pipes::{Pipe, pipe_of};
 pub use tables::{CallTable, table_of, tables_of};

@@ -46,17 +46,20 @@ decreases-rows_term l = 24 * l.left + 11
 abbrev pub decreases-loop_term : goal.decreases-loop_term
 decreases-loop_term l = 24 * l.left + 3
 
+abbrev pub decreases-run_term : goal.decreases-run_term
+decreases-run_term l = 24 * l.left + 13
+
 abbrev pub decreases-held_loop : goal.decreases-held_loop
-decreases-held_loop l = 24 * l.left + 4
+decreases-held_loop l = 24 * l.left + 14
 
 abbrev pub decreases-hold_parts : goal.decreases-hold_parts
-decreases-hold_parts l = 24 * l.left + 5
+decreases-hold_parts l = 24 * l.left + 15
 
 abbrev pub decreases-hold : goal.decreases-hold
-decreases-hold l = 24 * l.left + 6
+decreases-hold l = 24 * l.left + 16
 
 abbrev pub decreases-map_of : goal.decreases-map_of
-decreases-map_of l = 24 * l.left + 7
+decreases-map_of l = 24 * l.left + 17
 
 abbrev pub invariant-statements-loop-x : goal.invariant-statements-loop-x
 invariant-statements-loop-x l =
