@@ -199,7 +199,7 @@ module _ (bodies : ℕ → FormBody) (homes : ℕ → Homes) where
     pub each : (j : ℕ) (p : PlacedArg) → slice_get H j ≡ Some p
         → EachOf (λ r. slice_get (row_args r) (at j) ≡ Some p) calls
     pub all : EachOf (λ r. (i : ℕ) (p : PlacedArg) → slice_get (row_args r) i ≡ Some p → Beyond l p.home → (j : ℕ)
-        × (slice_get H j ≡ Some p)) calls
+        × (slice_get H j ≡ Some p) × (at j ≡ i)) calls
     pub clear : EachOf (λ r. (i : ℕ) (p : PlacedArg) → slice_get (row_args r) i ≡ Some p → Beyond l p.home
         → StandsApart r.args i) calls
 
@@ -401,14 +401,16 @@ module _ (bodies : ℕ → FormBody) (homes : ℕ → Homes) where
             (λ a. each_map _ _ calls (λ r f. ap (slice_get (row_args r)) a.2 ∙ f) (carried.each a.0 p a.1))
             (split leaving j p e);
         all = each_from _ calls (λ k r at i p e x. ⊎_elim
-            (λ y. let h = each_at _ calls k r carried.all at i p e y in behind (map as_held leaving) h.0 p h.1)
+            (λ y. let h = each_at _ calls k r carried.all at i p e y in
+            let b = behind leaving h.0 p h.1 in (b.0, b.1, b.2 ∙ h.2))
             (λ w. let q = among k r at i p e w.0 w.1 in
+            let z : i ≡ 0 + i = omega arith in
             let is : p ≡ as_held (0 + i, q.0) = same_some (sym e
-            ∙ (let z : i ≡ 0 + i = omega arith in ap (slice_get (row_args r)) z
-            ∙ has q.1 (0 + i, q.0) q.2 k r at)) in (
+            ∙ (ap (slice_get (row_args r)) z ∙ has q.1 (0 + i, q.0) q.2 k r at)) in (
               q.1,
               in_front (map as_held leaving) q.1 (as_held (0 + i, q.0)) (at_mapped as_held leaving q.1 (0 + i, q.0) q.2)
                   ∙ ap Some (sym is),
+              place_there leaving q.1 (0 + i, q.0) q.2 ∙ sym z,
             )) (beyond_or l p.home x));
         clear = each_from _ calls (λ k r at i p e x. ⊎_elim
             (λ y. each_at _ calls k r carried.clear at i p e y)
@@ -440,7 +442,13 @@ module _ (bodies : ℕ → FormBody) (homes : ℕ → Homes) where
           in_front (y ∷ xs) zero x e = e
           in_front (y ∷ xs) (suc i) x e = in_front xs i x e
 
-          behind : (xs : List PlacedArg) (i : ℕ) (x : PlacedArg) → slice_get H i ≡ Some x → (j : ℕ)
-              × (slice_get (xs ++ H) j ≡ Some x)
-          behind [] i x e = (i, e)
-          behind (y ∷ xs) i x e = let h = behind xs i x e in (suc h.0, h.1)
+          behind : (qs : List (ℕ × Argument)) (i : ℕ) (x : PlacedArg) → slice_get H i ≡ Some x → (j : ℕ)
+              × (slice_get (map as_held qs ++ H) j ≡ Some x) × (place_at qs carried.at j ≡ carried.at i)
+          behind [] i x e = (i, e, refl)
+          behind (y ∷ qs) i x e = let h = behind qs i x e in (suc h.0, h.1, h.2)
+
+          place_there : (qs : List (ℕ × Argument)) (m : ℕ) (q : ℕ × Argument) → slice_get qs m ≡ Some q
+              → place_at qs carried.at m ≡ q.0
+          place_there [] m q e = cc
+          place_there (y ∷ qs) zero q e = ap (λ (z : ℕ × Argument). z.0) (same_some e)
+          place_there (y ∷ qs) (suc m) q e = place_there qs m q e

@@ -20,6 +20,7 @@ use Rattle.sq_forms_fit.specs.Facts.{ArgFacts, RowFacts}
 use Rattle.sq_forms_fit.specs.Rows.{without_block, RowFits, TableFits, ListFits, FormsFit, IsFit}
 use Rattle.sq_forms_fit.proofs.Facts.{facts_fit}
 use Rattle.sq_forms_fit.proofs.Rows.{tables_fit}
+use Rattle.sq_forms_fit.proofs.Unpiped.{unpiped_fits}
 use Rattle.sq_text.specs.declared.place.Place.{Place}
 use Rattle.sq_text.specs.declared.place.Span.{Span}
 use Rattle.sq_text.specs.declared.spread.SpreadRule.TheVariants.{Cyclic}
@@ -40,17 +41,17 @@ use Rattle.sq_forms_fit.specs.Held.{Begun, begun_step, begun, loops_of, StandsAp
 use Rattle.sq_forms_fit.specs.Held.{HoldsFit}
 use Rattle.sq_forms_fit.proofs.Loops.{Nest, a_call, a_loop, as_statement, nest_fold, nest_is, nest_begun, nothing_more, chain, each_at}
 
-abbrev line : ℕ → Place
+abbrev pub line : ℕ → Place
 line n = record { line = n; col = 3 }
 
-abbrev element : ℕ → List Span
+abbrev pub element : ℕ → List Span
 element at = record { lo = at; hi = at + 1 } ∷ []
 
 -- one element of an array
-abbrev argument : Mode → (array at : ℕ) → Argument
+abbrev pub argument : Mode → (array at : ℕ) → Argument
 argument mode array at = record { mode = mode; is_reduced = false; array = array; rect = element at }
 
-abbrev ints : ℕ → Shape
+abbrev pub ints : ℕ → Shape
 ints n = record { elem = Int; extents = n ∷ [] }
 
 -- the first form has these loops alone, and arrays of these shapes; another has these homes, and single elements
@@ -90,7 +91,7 @@ module _ (c : Nest) (params : List Home) (arrays : List Shape) where
       in_loops (suc f) = tt
 
 -- where each argument is of an array of its own, each stands apart
-apart_by : (args : List Argument) → ((i : ℕ) (x : Argument) → slice_get args i ≡ Some x → x.array ≡ i) → (i : ℕ)
+pub apart_by : (args : List Argument) → ((i : ℕ) (x : Argument) → slice_get args i ≡ Some x → x.array ≡ i) → (i : ℕ)
     → StandsApart args i
 apart_by args own i = record {
   others = λ j x y ne ex ey sh. absurd (ne (sym (own j y ey) ∙ (sym sh.array ∙ own i x ex)));
@@ -415,11 +416,12 @@ module _ (leaves : Leaves Cause) where
     full = ap (λ (g : ℕ → Bool). g 0 && true) (nest_is (ℕ → Bool) filled_step two_loops);
     rounds = two_fit.rounds 0;
     loops = two_fit.loops 0;
+    pipes = (unpiped_fits two_bodies two_homes (λ f. refl)).loops 0;
   }
 
   two_forms : FormsFit leaves two_bodies two_homes two_mays
   two_forms zero = two_list
-  two_forms (suc f) = record { tables = λ i t e. cc; ones = refl; full = refl; rounds = tt; loops = tt }
+  two_forms (suc f) = record { tables = λ i t e. cc; ones = refl; full = refl; rounds = tt; loops = tt; pipes = tt }
 
   -- so what is placed of them fits
   two_placed : (n k : ℕ) → IsFit leaves two_bodies two_homes two_mays k (placed_of two_bodies two_homes n k)

@@ -1,6 +1,6 @@
 -- The leaf calls of what is placed of tables are those of the tables.
-use Rattle.std.proofs.Common.{◌≡◌, ℕ, zero, suc, ◌+◌, Bool, false, ◌||◌, is_some, List, [], ◌∷◌, ◌++◌, map}
-use Rattle.std.proofs.Common.{get_or, Option, Some, None, refl, sym, ap, ap₂, ◌∙◌, subst}
+use Rattle.std.proofs.Common.{◌≡◌, ℕ, zero, suc, ◌+◌, Bool, true, false, ◌||◌, is_some, List, [], ◌∷◌, ◌++◌, map}
+use Rattle.std.proofs.Common.{get_or, Option, Some, None, refl, sym, ap, ap₂, ◌∙◌, subst, arith}
 use Rattle.std.specs.Prelude.{slice_get}
 use mathlib.Core.Path.{fun_ext}
 use Rattle.sq_num.specs.declared.RedOp.{RedOp}
@@ -22,8 +22,9 @@ use Rattle.sq_placed.specs.declared.home.Homes.{Homes}
 use Rattle.sq_placed.specs.Placed.{Placed, PlacedArg}
 use Rattle.sq_placed.specs.Tables.{map_placed, op_of, spread_of, first_of, chain_of, leaving_chain, hold_placed, holds}
 use Rattle.sq_placed.specs.Tables.{PlacedPart, chains, any_lower, any_same, all_placed, row_placed, statement_placed}
-use Rattle.sq_placed.specs.Tables.{body_placed, placed_of}
+use Rattle.sq_placed.specs.Tables.{body_placed, placed_of, Pipe, pipe_of, pipe_placed, row_body}
 use Rattle.sq_placed.proofs.Opened.{part_call, part_map}
+use Rattle.sq_placed.proofs.Pipes.{taken, chains_placed}
 use Rattle.sq_cells.specs.Leaves.{sum_below}
 use Rattle.sq_plan_laws.specs.LeafCalls.{calls_of}
 use Rattle.sq_forms_fit.specs.LeafCalls.{FormWeight, row_calls, all_calls, calls_step, statement_calls, body_calls}
@@ -79,6 +80,35 @@ module _ (weight : ℕ → List ℕ → ℕ) where
       of_all [] op inside k path = refl
       of_all (x ∷ xs) op inside k path = ap₂ (λ m n. m + n) (x.1 op inside k path) (of_all xs op inside k path)
 
+      -- a loop whose transfers overlap has the calls of the loop
+      of_pipe : (o : Option Pipe) (m : LoopKind) (place : Place) (spread : Option SpreadRule) (xs : List Known)
+          → pipe_of homes m spread (chains (map part (statements xs))) ≡ o
+          → (inside : Bool) (n start : ℕ) (path : List ℕ)
+          → calls_of weight (pipe_placed bodies homes callee o place n start (map_placed m place spread n
+          (λ t. all_placed (map part (statements xs)) (op_of m) inside (start + t)))) path
+          ≡ sum_below n (λ t. all_calls (map (statement_calls done) (statements xs)) (start + t) (path ++ t ∷ []))
+      of_pipe None m place spread xs e inside n start path =
+          of_map m place spread n _ path
+          ∙ ap (sum_below n) (fun_ext (λ t. of_all xs (op_of m) inside (start + t) (path ++ t ∷ [])))
+      of_pipe (Some p) m place spread xs e inside n start path =
+          let one = taken homes m spread (chains_placed bodies homes callee rule (statements xs)) p e in
+          ap (sum_below n) (fun_ext (λ t. of_body (slice_get p.rows (start + t)) (path ++ t ∷ [])
+          ∙ its (start + t) (path ++ t ∷ [])))
+          ∙ ap (λ (l : List Statement). sum_below n (λ t. all_calls (map (statement_calls done) l) (start + t)
+          (path ++ t ∷ []))) (sym one.one)
+        where
+          of_body : (o : Option CallInstance) (path : List ℕ) → calls_of weight (row_body bodies homes callee o) path
+              ≡ row_calls done o path
+          of_body None path = refl
+          of_body (Some r) path = same r.form path
+
+          its : (k : ℕ) (path : List ℕ) → row_calls done (slice_get p.rows k) path
+              ≡ all_calls (map (statement_calls done) (b.Call true p.rows ∷ [])) k path
+          its k path =
+              let z : row_calls done (slice_get p.rows k) path ≡ row_calls done (slice_get p.rows k) path + 0
+              = omega arith in
+              z ∙ ap (λ (f : ℕ → List ℕ → ℕ). f k path + 0) (sym (calls_call done true p.rows))
+
       step : (y : Statement-F Known) → Counts (roll-Statement (map-Statement Known Statement (λ p. p.0) y))
       step (Statement-F.Call lower instances) = subst Counts (sym (b.rolls-Call lower instances)) (λ op inside k path.
           ap (λ (p : PlacedPart). calls_of weight (p.placed op inside k) path)
@@ -94,10 +124,9 @@ module _ (weight : ℕ → List ℕ → ℕ) where
           ap (λ (p : PlacedPart). calls_of weight (p.placed op inside k) path)
           (part_map bodies homes callee rule place m counts starts (statements xs))
           ∙ (of_hold (leaving_chain homes chain) _ _ path
-          ∙ (of_map m place spread (get_or counts k 0) _ path
-          ∙ (ap (sum_below (get_or counts k 0))
-          (fun_ext (λ t. of_all xs (op_of m) (within_it || is_some spread) (get_or starts k 0 + t) (path ++ t ∷ [])))
-          ∙ ap (λ (f : ℕ → List ℕ → ℕ). f k path) (sym (calls_map done place m counts starts (statements xs)))))))
+          ∙ (of_pipe (pipe_of homes m spread (chains parts)) m place spread xs refl (within_it || is_some spread)
+          (get_or counts k 0) (get_or starts k 0) path
+          ∙ ap (λ (f : ℕ → List ℕ → ℕ). f k path) (sym (calls_map done place m counts starts (statements xs))))))
 
       statement_counts : (x : Statement) → Counts x
       statement_counts = ind-Statement Counts (λ x y is. subst (λ z. Counts (roll-Statement z)) is (step y))

@@ -3,8 +3,10 @@ pub mod Sized
 pub mod RowsHold
 pub mod Whole
 pub mod Loops
+pub mod Taken
 pub mod Rounds
 pub mod Carried
+pub mod Overlapped
 pub mod Nested
 pub mod Rows
 pub mod Facts
@@ -13,4 +15,6 @@ pub mod LeafCalls
 pub mod Plans
 pub mod Written
 pub mod Unheld
+pub mod Unpiped
 pub mod ExampleHeld
+pub mod ExamplePiped

@@ -22,7 +22,11 @@ use Rattle.sq_placed.specs.Placed.{Hold, Piped, Leaf}
 use Rattle.sq_placed.specs.Trees.{is_held}
 use Rattle.sq_placed.specs.Tables.{placed_call, spread_of, map_placed, one_more, first_of}
 use Rattle.sq_placed.specs.Tables.{leaving_row, leaving_chain, row_form, hold_placed, held_arg, chain_form, chain_row}
-use Rattle.sq_placed.specs.Tables.{holds, map_held, PlacedPart, any_lower, any_same, all_placed, row_placed, placed_step}
+use Rattle.sq_placed.specs.Tables.{pipe_of, pipe_placed}
+use Rattle.sq_placed.specs.Tables.{Chain, Pipe, row_call, row_body}
+use Rattle.sq_placed.specs.Pipes.{CallLoops, loop_round, call_loops_step}
+use Rattle.sq_placed.specs.Tables.{holds, map_held, PlacedPart, any_lower, any_same, all_placed, row_placed}
+use Rattle.sq_placed.specs.Tables.{placed_step}
 use Rattle.sq_cells.specs.Lowered as lowered
 use Rattle.sq_cells.specs.Lowered.{stays, in_place}
 use Rattle.sq_cells.specs.Tree.{Cause}
@@ -47,6 +51,11 @@ use Rattle.sq_forms_fit.proofs.Facts.{plain_args, passed_home}
 use Rattle.sq_forms_fit.proofs.Carried.{Beyond, beyond_held, left_held, row_args, argument_there, Carries, carries_in}
 use Rattle.sq_forms_fit.proofs.Carried.{OfTable, carries_less, carries_same, carries_more}
 use Rattle.sq_forms_fit.proofs.Shapes.{mapped_at}
+use Rattle.sq_forms_fit.specs.Piped.{MayOverlap, LoopOverlaps}
+use Rattle.sq_forms_fit.proofs.Loops.{each_left, each_right}
+use Rattle.sq_forms_fit.proofs.Carried.{home_there}
+use Rattle.sq_forms_fit.proofs.Taken.{IsPipe, is_pipe, nest_call}
+use Rattle.sq_forms_fit.proofs.Overlapped.{as_call, keeps_ahead, free_pipe, held_pipe}
 
 -- ---- fewer arrays may be written
 
@@ -97,6 +106,12 @@ first_there [] i x e = cc
 first_there (y ∷ xs) i x e = (y, refl)
 
 -- ---- rows
+
+held_home : (h : Home) → place_of h ≡ Held → (u n : ℕ) × (h ≡ home.Held u n)
+held_home home.InPlace e = cc
+held_home (home.Own u) e = cc
+held_home (home.Held u n) e = (u, n, refl)
+held_home (home.Twin u v) e = cc
 
 -- no argument leaves a loop
 abbrev pub Unheld : (ℕ → Homes) → CallInstance → Type 0
@@ -212,14 +227,9 @@ module _ (leaves : Leaves Cause) (bodies : ℕ → FormBody) (homes : ℕ → Ho
       by true any = record {
         base = base (lower_table rows) r row apart;
         lower = refl;
-        held_in = λ i p e h. let w = held_home p.home h in carried.all.0 i p e (bey i p e w.0 w.1 w.2);
+        held_in = λ i p e h. let w = held_home p.home h in
+            let q = carried.all.0 i p e (bey i p e w.0 w.1 w.2) in (q.0, q.1);
       }
-        where
-          held_home : (h : Home) → place_of h ≡ Held → (u n : ℕ) × (h ≡ home.Held u n)
-          held_home home.InPlace e = cc
-          held_home (home.Own u) e = cc
-          held_home (home.Held u n) e = (u, n, refl)
-          held_home (home.Twin u v) e = cc
 
   -- ---- loops round a lower call
 
@@ -249,13 +259,15 @@ module _ (leaves : Leaves Cause) (bodies : ℕ → FormBody) (homes : ℕ → Ho
 
     abbrev loop : Bool → Placed
     loop within_it =
-        map_placed loop_kind.Sequential place
+        pipe_placed bodies homes callee (pipe_of homes loop_kind.Sequential None ((nest_placed c).chain ∷ [])) place
+        (get_or counts j 0) (get_or starts j 0)
+        (map_placed loop_kind.Sequential place
         (spread_of rule loop_kind.Sequential within_it (any_lower (nest_placed c ∷ [])) (any_same (nest_placed c ∷ [])))
         (get_or counts j 0)
         (λ t. all_placed (nest_placed c ∷ []) None
         (within_it || is_some (spread_of rule loop_kind.Sequential within_it (any_lower (nest_placed c ∷ []))
         (any_same (nest_placed c ∷ []))))
-        (get_or starts j 0 + t))
+        (get_or starts j 0 + t)))
 
     -- whether its iterations stand inside what holds
     abbrev within : Bool
@@ -267,10 +279,50 @@ module _ (leaves : Leaves Cause) (bodies : ℕ → FormBody) (homes : ℕ → Ho
     abbrev turn : ℕ → Placed
     turn t = Then (placed_at c within (get_or starts j 0 + t)) Nothing
 
+    -- what the loop is inside what holds: its iterations, or a loop whose transfers overlap
+    abbrev many : ℕ
+    many = get_or counts j 0
+
+    abbrev plain_loop : Placed
+    plain_loop = Each many turn
+
+    abbrev loop_body : Placed
+    loop_body = pipe_placed bodies homes callee (pipe_of homes loop_kind.Sequential None ((nest_placed c).chain ∷ []))
+        place many (get_or starts j 0) plain_loop
+
     loop_is : (op : Option RedOp) → (nest_placed (a_loop place counts starts c)).placed op inside j
-        ≡ hold_placed leaving as_held (Each (get_or counts j 0) turn)
+        ≡ hold_placed leaving as_held loop_body
     loop_is op = ap (λ o. map_held bodies homes callee o j inside loop)
         (placed_chain (a_loop place counts starts c))
+
+    abbrev row_at : List CallInstance → ℕ → Option CallInstance
+    row_at rows t = slice_get rows (get_or starts j 0 + t)
+
+    abbrev pipe : List CallInstance → Placed
+    pipe rows = Piped None many (λ t. row_call bodies homes callee (row_at rows t))
+        (λ t. row_body bodies homes callee (row_at rows t))
+
+    by_pipe : (P : Placed → Type 0) → P plain_loop
+        → ((rows : List CallInstance) → c ≡ a_call rows → (homes (row_form (slice_get rows 0))).overlaps ≡ true
+        → P (pipe rows)) → P loop_body
+    by_pipe P plain taken = go (pipe_of homes loop_kind.Sequential None ((nest_placed c).chain ∷ [])) refl
+      where
+        its : (p : Pipe) → IsPipe homes loop_kind.Sequential None ((nest_placed c).chain ∷ []) p
+            → P (pipe_placed bodies homes callee (Some p) place many (get_or starts j 0) plain_loop)
+        its p t =
+            let o = t.its in
+            let front : (nest_placed c).chain ≡ t.first = same_some (ap (λ l. slice_get l 0) t.all) in
+            let is : chain c ≡ o.call = same_some (sym (placed_chain c) ∙ (front ∙ o.there)) in
+            let spread : None ≡ p.spread = same_some t.lanes in
+            subst (λ (z : Option SpreadRule). P (pipe_placed bodies homes callee
+            (Some (record { spread = z; rows = p.rows })) place many (get_or starts j 0) plain_loop)) spread
+            (taken p.rows (nest_call c (ap (λ (h : Chain ℕ). h.loops) is ∙ o.alone)
+            ∙ ap a_call (ap (λ (h : Chain ℕ). h.instances) is ∙ o.its)) o.overlaps)
+
+        go : (o : Option Pipe) → pipe_of homes loop_kind.Sequential None ((nest_placed c).chain ∷ []) ≡ o
+            → P (pipe_placed bodies homes callee o place many (get_or starts j 0) plain_loop)
+        go None e = plain
+        go (Some p) e = its p (is_pipe homes loop_kind.Sequential None ((nest_placed c).chain ∷ []) p e)
 
   -- ---- each call in it has an argument
 
@@ -287,36 +339,96 @@ module _ (leaves : Leaves Cause) (bodies : ℕ → FormBody) (homes : ℕ → Ho
   abbrev Has : PlacedArg → CallInstance → Type 0
   Has h r = (i : ℕ) × (slice_get (row_args bodies homes r) i ≡ Some h)
 
-  all_have : (c : Nest) (h : PlacedArg) (inside : Bool) (j : ℕ) → EachOf (Has h) (calls c j)
+  -- what is asked of the loops whose transfers overlap
+  abbrev pub PipesOf : Nest → Type 0
+  PipesOf c = EachOf (MayOverlap homes) (nest_fold CallLoops call_loops_step c).loops
+
+  -- of the loop itself
+  own_pipe : (place : Place) (counts starts : List ℕ) (c : Nest) → PipesOf (a_loop place counts starts c)
+      → (rows : List CallInstance) → c ≡ a_call rows → (homes (row_form (slice_get rows 0))).overlaps ≡ true
+      → LoopOverlaps homes (record { kind = loop_kind.Sequential; rows = rows; counts = counts; starts = starts })
+  own_pipe place counts starts c pipes rows is =
+      (subst (λ (z : Nest). PipesOf (a_loop place counts starts z)) is pipes).0
+
+  -- of those inside it
+  pipes_in : (place : Place) (counts starts : List ℕ) (c : Nest) → PipesOf (a_loop place counts starts c) → PipesOf c
+  pipes_in place counts starts c pipes =
+      let x = nest_fold CallLoops call_loops_step c in
+      each_left (MayOverlap homes) x.loops []
+      (each_right (MayOverlap homes) (loop_round loop_kind.Sequential counts starts (x ∷ [])) (x.loops ++ []) pipes)
+
+  -- a call of a loop whose transfers overlap
+  called : (h : PlacedArg) (o : Option CallInstance) (r : CallInstance) → o ≡ Some r → EachOf (Has h) (row_list o)
+      → (i : ℕ) × (slice_get (row_call bodies homes callee o).args i ≡ Some h)
+  called h None r e x = cc
+  called h (Some q) r e x = x.0
+
+  -- a row that a loop begins has what all of its calls have
+  at_turn : (P : CallInstance → Type 0) (place : Place) (counts starts : List ℕ) (rows : List CallInstance) (j : ℕ)
+      → EachOf P (calls (a_loop place counts starts (a_call rows)) j) → (t : ℕ) → t < get_or counts j 0
+      → (r : CallInstance) → slice_get rows (get_or starts j 0 + t) ≡ Some r → P r
+  at_turn P place counts starts rows j h t lt r e =
+      (subst (λ o. EachOf P (row_list o)) e (in_turn P place counts starts (a_call rows) j h t lt)).0
+
+  module _ (place : Place) (counts starts : List ℕ) (c : Nest) (h : PlacedArg) (inside : Bool) (j : ℕ)
+      (pipes : PipesOf (a_loop place counts starts c)) (e : EachOf (Has h) (calls (a_loop place counts starts c) j))
+    where
+      in_pipe : (rows : List CallInstance) → c ≡ a_call rows → (homes (row_form (slice_get rows 0))).overlaps ≡ true
+          → (t : ℕ) → t < get_or counts j 0
+          → (i : ℕ) × (slice_get (row_call bodies homes callee (row_at place counts starts c inside j rows t)).args i ≡
+          Some h)
+      in_pipe rows is o t lt =
+          let r = (own_pipe place counts starts c pipes rows is o).stands.there j t lt in
+          called h (row_at place counts starts c inside j rows t) r.0 r.1
+          (in_turn (Has h) place counts starts (a_call rows) j
+          (subst (λ (z : Nest). EachOf (Has h) (calls (a_loop place counts starts z) j)) is e) t lt)
+
+      all_body : ((i : Bool) (k : ℕ) → EachOf (Has h) (calls c k) → AllCalls h (placed_at c i k))
+          → AllCalls h (loop_body place counts starts c inside j)
+      all_body ih = by_pipe place counts starts c inside j (AllCalls h)
+          (λ t lt. (
+            ih (within place counts starts c inside j) (get_or starts j 0 + t)
+                (in_turn (Has h) place counts starts c j e t lt),
+            tt,
+          ))
+          (λ rows is o t lt. in_pipe rows is o t lt)
+
+      one_body : 0 < get_or counts j 0
+          → ((i : Bool) (k : ℕ) → k ≡ get_or starts j 0 + 0 → EachOf (Has h) (calls c k) → OneCall h (placed_at c i k))
+          → OneCall h (loop_body place counts starts c inside j)
+      one_body some ih = by_pipe place counts starts c inside j (OneCall h) (
+        some,
+        ih (within place counts starts c inside j) (get_or starts j 0 + 0) refl
+            (in_turn (Has h) place counts starts c j e 0 some),
+      )
+          (λ rows is o. let q = in_pipe rows is o 0 some in (some, q.0, q.1))
+
+  all_have : (c : Nest) (h : PlacedArg) (inside : Bool) (j : ℕ) → PipesOf c → EachOf (Has h) (calls c j)
       → AllCalls h (placed_at c inside j)
-  all_have (a_call rows) h inside j e = go (slice_get rows j) e
+  all_have (a_call rows) h inside j pipes e = go (slice_get rows j) e
     where
       go : (o : Option CallInstance) → EachOf (Has h) (row_list o)
           → AllCalls h (row_placed bodies homes callee None true o)
       go None e = tt
       go (Some r) e = e.0
-  all_have (a_loop place counts starts c) h inside j e =
+  all_have (a_loop place counts starts c) h inside j pipes e =
       subst (AllCalls h) (sym (loop_is place counts starts c inside j None))
       (all_hold h (leaving place counts starts c inside j) (as_held place counts starts c inside j)
-      (Each (get_or counts j 0) (turn place counts starts c inside j)) (λ t lt. (
-        all_have c h (within place counts starts c inside j) (get_or starts j 0 + t)
-            (in_turn (Has h) place counts starts c j e t lt),
-        tt,
-      )))
+      (loop_body place counts starts c inside j)
+      (all_body place counts starts c h inside j pipes e
+      (λ i k x. all_have c h i k (pipes_in place counts starts c pipes) x)))
 
-  one_has : (c : Nest) (h : PlacedArg) (inside : Bool) (j : ℕ) → Goes c j → EachOf (Has h) (calls c j)
+  one_has : (c : Nest) (h : PlacedArg) (inside : Bool) (j : ℕ) → PipesOf c → Goes c j → EachOf (Has h) (calls c j)
       → OneCall h (placed_at c inside j)
-  one_has (a_call rows) h inside j g e =
+  one_has (a_call rows) h inside j pipes g e =
       subst (λ o. OneCall h (row_placed bodies homes callee None true o)) (sym g.1)
       (subst (λ o. EachOf (Has h) (row_list o)) g.1 e).0
-  one_has (a_loop place counts starts c) h inside j g e =
+  one_has (a_loop place counts starts c) h inside j pipes g e =
       subst (OneCall h) (sym (loop_is place counts starts c inside j None))
       (one_hold h (leaving place counts starts c inside j) (as_held place counts starts c inside j)
-      (Each (get_or counts j 0) (turn place counts starts c inside j)) (
-        g.0,
-        one_has c h (within place counts starts c inside j) (get_or starts j 0 + 0) g.1
-            (in_turn (Has h) place counts starts c j e 0 g.0),
-      ))
+      (loop_body place counts starts c inside j)
+      (one_body place counts starts c h inside j pipes e g.0
+      (λ i k f x. one_has c h i k (pipes_in place counts starts c pipes) (subst (Goes c) (sym f) g.1) x)))
 
   -- ---- all of it is good
 
@@ -326,7 +438,7 @@ module _ (leaves : Leaves Cause) (bodies : ℕ → FormBody) (homes : ℕ → Ho
     pub held : EachOf (IsHeldRow homes (record { loops = n; rows = rows })) rows
 
   abbrev GoodNest : Nest → Type 0
-  GoodNest c = (inside : Bool) (j : ℕ) → nest_filled c j ≡ true → LoopsHold homes c j → (nest : Bool)
+  GoodNest c = (inside : Bool) (j : ℕ) → nest_filled c j ≡ true → LoopsHold homes c j → PipesOf c → (nest : Bool)
       (H : List PlacedArg) → InLoops nest H → Carries bodies homes (chain c).loops (calls c j) H
       → Good (placed_at c inside j) None nest H
 
@@ -343,8 +455,8 @@ module _ (leaves : Leaves Cause) (bodies : ℕ → FormBody) (homes : ℕ → Ho
   module _ (place : Place) (counts starts : List ℕ) (c : Nest) (n : ℕ) (all : Rows n (chain c).instances)
       (deeper : GoodNest c) (inside : Bool) (j : ℕ)
       (full : nest_filled (a_loop place counts starts c) j ≡ true)
-      (hold : LoopsHold homes (a_loop place counts starts c) j) (nest : Bool) (H : List PlacedArg)
-      (loops : InLoops nest H)
+      (hold : LoopsHold homes (a_loop place counts starts c) j) (pipes : PipesOf (a_loop place counts starts c))
+      (nest : Bool) (H : List PlacedArg) (loops : InLoops nest H)
       (carried : Carries bodies homes (suc (chain c).loops) (calls (a_loop place counts starts c) j) H) where
     abbrev rows : List CallInstance
     rows = (chain c).instances
@@ -352,8 +464,8 @@ module _ (leaves : Leaves Cause) (bodies : ℕ → FormBody) (homes : ℕ → Ho
     abbrev these : List CallInstance
     these = calls (a_loop place counts starts c) j
 
-    abbrev many : ℕ
-    many = get_or counts j 0
+    abbrev many_turns : ℕ
+    many_turns = get_or counts j 0
 
     abbrev out : List (ℕ × Argument)
     out = leaving place counts starts c inside j
@@ -364,27 +476,94 @@ module _ (leaves : Leaves Cause) (bodies : ℕ → FormBody) (homes : ℕ → Ho
     abbrev its_turn : ℕ → Placed
     its_turn = turn place counts starts c inside j
 
+    abbrev its_body : Placed
+    its_body = loop_body place counts starts c inside j
+
     there : EachOf (InRows rows) these
     there = calls_there (a_loop place counts starts c) j
 
     -- its iterations, whatever is carried round them
     turns : (in_nest : Bool) (G : List PlacedArg) → InLoops in_nest G
-        → Carries bodies homes (chain c).loops these G → (t : ℕ) → t < many → Good (its_turn t) None in_nest G
+        → Carries bodies homes (chain c).loops these G → (t : ℕ) → t < many_turns
+        → Good (placed_at c (within place counts starts c inside j) (get_or starts j 0 + t)) None in_nest G
     turns in_nest G lps carries t lt =
-        let g = deeper (within place counts starts c inside j) (get_or starts j 0 + t)
-        (filled_in place counts starts c j full t lt) (hold.1 t lt) in_nest G lps
+        deeper (within place counts starts c inside j) (get_or starts j 0 + t)
+        (filled_in place counts starts c j full t lt) (hold.1 t lt) (pipes_in place counts starts c pipes) in_nest G lps
         (carries_in bodies homes (chain c).loops these (calls c (get_or starts j 0 + t)) G
-        (λ P h. in_turn P place counts starts c j h t lt) carries) in
-        ((g.0, tt), (g.1, tt), (g.2, tt), (g.3, tt))
+        (λ P h. in_turn P place counts starts c j h t lt) carries)
+
+    -- a loop whose transfers overlap: one that leaves it stands at one place in all calls
+    module _ (rows' : List CallInstance) (is : c ≡ a_call rows')
+        (overlaps : (homes (row_form (slice_get rows' 0))).overlaps ≡ true) where
+      its_pipe : LoopOverlaps homes
+          (record { kind = loop_kind.Sequential; rows = rows'; counts = counts; starts = starts })
+      its_pipe = own_pipe place counts starts c pipes rows' is overlaps
+
+      same_held : (G : List PlacedArg) → Carries bodies homes (chain c).loops these G → (t u : ℕ) (lt : t < many_turns)
+          (lu : u < many_turns) (i : ℕ) (p : PlacedArg)
+          → slice_get (row_args bodies homes (its_pipe.stands.there j t lt).0) i ≡ Some p → place_of p.home ≡ Held
+          → slice_get (row_args bodies homes (its_pipe.stands.there j u lu).0) i ≡ Some p
+      same_held G carries t u lt lu i p e h =
+          let r = its_pipe.stands.there j t lt in
+          let q = its_pipe.stands.there j u lu in
+          let carried' = subst (λ (z : Nest). Carries bodies homes (chain z).loops
+          (calls (a_loop place counts starts z) j) G)
+          is carries in
+          let held' = subst (λ (z : Nest). EachOf (IsHeldRow homes (record { loops = n; rows = (chain z).instances }))
+          (chain z).instances) is all.held in
+          let known = each_at _ rows' (get_or starts j 0 + t) r.0 held' r.1 in
+          let w = held_home p.home h in
+          let bey : Beyond 0 p.home = subst (Beyond 0) (sym w.2)
+          (known.some i w.0 w.1 (home_there bodies homes r.0 i p e ∙ w.2)) in
+          let found = at_turn _ place counts starts rows' j carried'.all t lt r.0 r.1 i p e bey in
+          ap (slice_get (row_args bodies homes q.0)) (sym found.2)
+          ∙ at_turn _ place counts starts rows' j (carried'.each found.0 p found.1) u lu q.0 q.1
+
+      pipe_good : (in_nest : Bool) (G : List PlacedArg) → InLoops in_nest G
+          → Carries bodies homes (chain c).loops these G → (red : Option Reduction)
+          → Good (pipe place counts starts c inside j rows') red in_nest G
+      pipe_good in_nest G lps carries red = by in_nest (λ t lt. each in_nest t lt (turns in_nest G lps carries t lt))
+        where
+          each : (b : Bool) (t : ℕ) → t < many_turns
+              → Good (placed_at c (within place counts starts c inside j) (get_or starts j 0 + t)) None b G
+              → Good (Call (row_call bodies homes callee (row_at place counts starts c inside j rows' t))
+              (row_body bodies homes callee (row_at place counts starts c inside j rows' t))) None b G
+          each b t lt g =
+              let r = its_pipe.stands.there j t lt in
+              as_call leaves codes ss may bodies homes callee (row_at place counts starts c inside j rows' t) r.0 r.1
+              b G
+              (subst (λ (z : Nest). Good (placed_at z (within place counts starts c inside j) (get_or starts j 0 + t))
+              None b
+              G) is g)
+
+          by : (b : Bool) → ((t : ℕ) → t < many_turns
+              → Good (Call (row_call bodies homes callee (row_at place counts starts c inside j rows' t))
+              (row_body bodies homes callee (row_at place counts starts c inside j rows' t))) None b G)
+              → Good (pipe place counts starts c inside j rows') red b G
+          by false f = free_pipe leaves codes ss may bodies homes callee loop_kind.Sequential rows' counts starts
+              its_pipe j
+              None G (keeps_ahead leaves codes ss may bodies homes callee loop_kind.Sequential rows' counts starts
+              its_pipe
+              j its_pipe.clear) f red
+          by true f = held_pipe leaves codes ss may bodies homes callee loop_kind.Sequential rows' counts starts
+              its_pipe j
+              G (keeps_ahead leaves codes ss may bodies homes callee loop_kind.Sequential rows' counts starts its_pipe j
+              its_pipe.clear) f (same_held G carries) red
+
+    body_good : (in_nest : Bool) (G : List PlacedArg) → InLoops in_nest G
+        → Carries bodies homes (chain c).loops these G → (red : Option Reduction) → Good its_body red in_nest G
+    body_good in_nest G lps carries red = by_pipe place counts starts c inside j
+        (λ (p : Placed). Good p red in_nest G) (
+          λ t lt. ((turns in_nest G lps carries t lt).0, tt),
+          λ t lt. ((turns in_nest G lps carries t lt).1, tt),
+          λ t lt. ((turns in_nest G lps carries t lt).2, tt),
+          λ t lt. ((turns in_nest G lps carries t lt).3, tt),
+        )
+        (λ rows' is overlaps. pipe_good rows' is overlaps in_nest G lps carries red)
 
     -- that nothing leaves
-    free_loop : out ≡ [] → (red : Option Reduction) → Good (Each many its_turn) red nest H
-    free_loop none red = (
-      λ t lt. (turns nest H loops same t lt).0,
-      λ t lt. (turns nest H loops same t lt).1,
-      λ t lt. (turns nest H loops same t lt).2,
-      λ t lt. (turns nest H loops same t lt).3,
-    )
+    free_loop : out ≡ [] → (red : Option Reduction) → Good its_body red nest H
+    free_loop none red = body_good nest H loops same red
       where
         by : (o : Option CallInstance) → slice_get rows 0 ≡ o → Carries bodies homes (chain c).loops these H
         by None e = carries_less bodies homes (chain c).loops these H (λ m r at i p f x.
@@ -464,20 +643,14 @@ module _ (leaves : Leaves Cause) (bodies : ℕ → FormBody) (homes : ℕ → Ho
       no_gathers : (i : ℕ) (h : PlacedArg) → slice_get args i ≡ Some h → h.gathers ≡ None
       no_gathers i h e = let m = mapped_at one_held (q ∷ qs) i h e in ap (λ (x : PlacedArg). x.gathers) (sym m.is)
 
-      keeps : HoldKeeps args H (Each many its_turn)
+      keeps : HoldKeeps args H its_body
       keeps = record {
         homes = λ i h e. beyond_held (chain c).loops h.home (carries.beyond i h (in_front i h e));
         plain = no_gathers;
-        all = λ i h e t lt. (
-          all_have c h (within place counts starts c inside j) (get_or starts j 0 + t)
-              (in_turn (Has h) place counts starts c j (have i h e) t lt),
-          tt,
-        );
-        one = λ i h e. (
-          begins.0,
-          one_has c h (within place counts starts c inside j) (get_or starts j 0 + 0) begins.1
-              (in_turn (Has h) place counts starts c j (have i h e) 0 begins.0),
-        );
+        all = λ i h e. all_body place counts starts c h inside j pipes (have i h e)
+            (λ v k x. all_have c h v k (pipes_in place counts starts c pipes) x);
+        one = λ i h e. one_body place counts starts c h inside j pipes (have i h e) begins.0
+            (λ v k f x. one_has c h v k (pipes_in place counts starts c pipes) (subst (Goes c) (sym f) begins.1) x);
         apart = λ i m x y ne ex ey sh.
             (each_at _ these 0 r1.row carries.clear r1.begun (carries.at i) x (at_first i x ex)
             (carries.beyond i x ex)).others (carries.at m) x.argument y.argument
@@ -505,17 +678,12 @@ module _ (leaves : Leaves Cause) (bodies : ℕ → FormBody) (homes : ℕ → Ho
           is_held_by (home.Held u m) e = refl
           is_held_by (home.Twin u v) e = cc
 
-      held_loop : (red : Option Reduction) → Good (Hold args (Each many its_turn)) red nest H
-      held_loop red = (
-        λ t lt. (turns true (args ++ H) tt carries t lt).0,
-        (keeps, λ t lt. (turns true (args ++ H) tt carries t lt).1),
-        λ t lt. (turns true (args ++ H) tt carries t lt).2,
-        (sits, λ t lt. (turns true (args ++ H) tt carries t lt).3),
-      )
+      held_loop : (red : Option Reduction) → Good (Hold args its_body) red nest H
+      held_loop red = let g = body_good true (args ++ H) tt carries None in (g.0, (keeps, g.1), g.2, (sits, g.3))
 
     -- whatever leaves it
     by_leaving : (l : List (ℕ × Argument)) → out ≡ l → (red : Option Reduction)
-        → Good (hold_placed l one_held (Each many its_turn)) red nest H
+        → Good (hold_placed l one_held its_body) red nest H
     by_leaving [] e red = free_loop e red
     by_leaving (q ∷ qs) e red = held_loop q qs e red
 
@@ -525,11 +693,11 @@ module _ (leaves : Leaves Cause) (bodies : ℕ → FormBody) (homes : ℕ → Ho
         (by_leaving out refl red)
 
   pub nest_good : (c : Nest) (n : ℕ) → Rows n (chain c).instances → GoodNest c
-  nest_good (a_call rows) n all inside j full hold nest H loops carried =
+  nest_good (a_call rows) n all inside j full hold pipes nest H loops carried =
       let r = some_of (slice_get rows j) full in
       subst (λ o. Good (row_placed bodies homes callee None true o) None nest H) (sym r.1)
       (nested_call rows r.0 (all.table.rows j r.0 r.1)
       (λ i u m e. (each_at _ rows j r.0 all.held r.1).some i u m e) nest H loops
       (subst (λ o. Carries bodies homes 0 (row_list o) H) r.1 carried))
-  nest_good (a_loop place counts starts c) n all inside j full hold nest H loops carried =
-      loop_good place counts starts c n all (nest_good c n all) inside j full hold nest H loops carried None None
+  nest_good (a_loop place counts starts c) n all inside j full hold pipes nest H loops carried =
+      loop_good place counts starts c n all (nest_good c n all) inside j full hold pipes nest H loops carried None None

@@ -215,4 +215,5 @@ entries_are_plans s leaves bodies homes mays fit n args facts buffers many race_
     = is_plan leaves bodies homes mays fit n args facts s buffers many race_free stowed
 
 pub entries_sit : EntriesSit
-entries_sit leaves bodies homes mays fit n args facts = all_sit leaves bodies homes mays fit n args facts
+entries_sit leaves bodies homes mays fit n args facts
+    = all_sit leaves bodies homes mays fit n args facts

@@ -1,6 +1,6 @@
 -- What is placed of tables fits, where the tables do.
 use Rattle.std.proofs.Common.{◌≡◌, ℕ, zero, suc, ◌+◌, ◌<◌, ◌≤◌, Bool, true, false, ◌||◌, is_some, List, [], ◌∷◌}
-use Rattle.std.proofs.Common.{◌++◌, map, get_or, refl, sym, ap, ap₂, ◌∙◌, subst, arith}
+use Rattle.std.proofs.Common.{◌++◌, map, get_or, refl, sym, ap, ◌∙◌, subst, arith}
 use Rattle.std.specs.Prelude.{Option, Some, None, slice_get, if◌then◌else◌}
 use Rattle.sq_text.specs.declared.place.Place.{Place}
 use Rattle.sq_text.specs.declared.spread.SpreadRule.{SpreadRule}
@@ -27,6 +27,15 @@ use Rattle.sq_placed.specs.Tables.{call_chain, first_of}
 use Rattle.sq_placed.specs.Tables.{chains, map_held, PlacedPart}
 use Rattle.sq_placed.specs.Tables.{any_lower, any_same, all_placed, row_placed, placed_step, statement_placed}
 use Rattle.sq_placed.specs.Tables.{body_placed, placed_of}
+use Rattle.sq_placed.specs.Tables.{pipe_of, pipe_placed}
+use Rattle.sq_placed.specs.Tables.{Pipe, row_call, row_body, lanes_of, placed_rule, one_more}
+use Rattle.sq_placed.specs.Pipes as pipes
+use Rattle.sq_placed.specs.Pipes.{CallLoops, loop_round, call_loops_step, call_loops}
+use Rattle.sq_placed_bytes.specs.Keeping.{TakenKeeps}
+use Rattle.sq_placed_bytes.proofs.Lists.{same_some}
+use Rattle.sq_forms_fit.specs.Piped.{MayOverlap, LoopOverlaps}
+use Rattle.sq_forms_fit.proofs.Overlapped.{as_call, free_pipe}
+use Rattle.sq_placed.proofs.Pipes.{loops_call, loops_map, IsTaken, taken, chains_placed}
 use Rattle.sq_placed.proofs.Opened.{part_call, part_map}
 use Rattle.sq_cells.specs.Tree.{Cause}
 use Rattle.sq_placed_bytes.specs.OnBytes.{Codings, which_of}
@@ -42,7 +51,7 @@ use Rattle.sq_plan_laws.specs.Seated.{Sits}
 use Rattle.sq_rooms.specs.Orders.{EachOf, Round, all_rounds, map_rounds, round_step, rounds_in}
 use Rattle.sq_rooms.specs.Held.{IsHeldRow, AreHeldRows}
 use Rattle.sq_forms_fit.specs.Held as held
-use Rattle.sq_forms_fit.specs.Held.{Begun, begun_step, begun, StandsApart, LoopHolds, loops_of}
+use Rattle.sq_forms_fit.specs.Held.{Begun, begun_step, begun, LoopHolds}
 use Rattle.sq_forms_fit.specs.Rows.{operator_of, TableFits, ListFits, BodyFits, FormsFit}
 use Rattle.sq_forms_fit.specs.Rows.{IsFit, TablesFit}
 use Rattle.sq_forms_fit.proofs.Loops.{left_true, right_true, below_true, some_of, each_left, each_right}
@@ -54,6 +63,7 @@ use Rattle.sq_forms_fit.proofs.Rounds.{tables_call, tables_map, rounds_call, rou
 use Rattle.sq_forms_fit.proofs.Facts.{first_true, reduced_flags, which_passed, flags_alike}
 use Rattle.sq_forms_fit.proofs.Carried.{Beyond, row_args, home_there}
 use Rattle.sq_forms_fit.proofs.Carried.{carries_none}
+use Rattle.sq_forms_fit.proofs.Taken.{is_pipe, chain_same}
 use Rattle.sq_forms_fit.proofs.Nested as nested
 use Rattle.sq_forms_fit.proofs.Nested.{lower_table}
 
@@ -132,6 +142,7 @@ module _ (leaves : Leaves Cause) (bodies : ℕ → FormBody) (homes : ℕ → Ho
       ones : (kind_of x).ones ≡ true
       full : filled x j ≡ true
       loops : EachOf (LoopHolds homes) ((begun x).loops j)
+      pipes : EachOf (MayOverlap homes) (call_loops x).loops
 
     IsGood : Statement → Type 0
     IsGood x = (red : Option Reduction) (n j : ℕ) (inside : Bool) → Asked x red n j
@@ -193,7 +204,7 @@ module _ (leaves : Leaves Cause) (bodies : ℕ → FormBody) (homes : ℕ → Ho
         (sym (nest_is PlacedPart (placed_step bodies homes callee rule) (a_loop place counts starts c)))
         (nested.loop_good leaves bodies homes mays callee fit k rule place counts starts c (chain whole).loops rows
         (nested.nest_good leaves bodies homes mays callee fit k rule c (chain whole).loops rows) inside j full hold
-        false [] refl (carries_none bodies homes (chain whole).loops (calls whole j) none) (operator_of red) red)
+        pipes false [] refl (carries_none bodies homes (chain whole).loops (calls whole j) none) (operator_of red) red)
       where
         whole : Nest
         whole = a_loop place counts starts c
@@ -217,6 +228,10 @@ module _ (leaves : Leaves Cause) (bodies : ℕ → FormBody) (homes : ℕ → Ho
 
         full : nest_filled (a_loop place counts starts c) j ≡ true
         full = ap (λ (g : ℕ → Bool). g j) (sym (nest_is (ℕ → Bool) filled_step (a_loop place counts starts c))) ∙ h.full
+
+        pipes : nested.PipesOf leaves bodies homes mays callee fit k rule (a_loop place counts starts c)
+        pipes = subst (λ (z : CallLoops). EachOf (MayOverlap homes) z.loops)
+            (nest_is CallLoops call_loops_step (a_loop place counts starts c)) h.pipes
 
         hold : LoopsHold homes (a_loop place counts starts c) j
         hold = loops_hold homes (a_loop place counts starts c) j
@@ -273,9 +288,10 @@ module _ (leaves : Leaves Cause) (bodies : ℕ → FormBody) (homes : ℕ → Ho
         → EachOf (TableFits leaves bodies homes mays k) (all_tables (map tables_of xs) red)
         → AllRounds xs n
         → all_ones (map kind_of xs) ≡ true → all_filled (map filled xs) j ≡ true
-        → EachOf (LoopHolds homes) (held.all_loops (map begun xs) j) → AllAsked xs red n j
-    all_asked [] red n j h r e f l = tt
-    all_asked (x ∷ xs) red n j h r e f l = (
+        → EachOf (LoopHolds homes) (held.all_loops (map begun xs) j)
+        → EachOf (MayOverlap homes) (pipes.all_loops (map call_loops xs)) → AllAsked xs red n j
+    all_asked [] red n j h r e f l ps = tt
+    all_asked (x ∷ xs) red n j h r e f l ps = (
       record {
         tables = each_left _ (tables_of x red) (all_tables (map tables_of xs) red) h;
         alone = r.0;
@@ -283,11 +299,13 @@ module _ (leaves : Leaves Cause) (bodies : ℕ → FormBody) (homes : ℕ → Ho
         ones = left_true (kind_of x).ones (all_ones (map kind_of xs)) e;
         full = left_true (filled x j) (all_filled (map filled xs) j) f;
         loops = each_left _ ((begun x).loops j) (held.all_loops (map begun xs) j) l;
+        pipes = each_left _ (call_loops x).loops (pipes.all_loops (map call_loops xs)) ps;
       },
       all_asked xs red n j (each_right _ (tables_of x red) (all_tables (map tables_of xs) red) h) r.2
           (right_true (kind_of x).ones (all_ones (map kind_of xs)) e)
           (right_true (filled x j) (all_filled (map filled xs) j) f)
-          (each_right _ ((begun x).loops j) (held.all_loops (map begun xs) j) l),
+          (each_right _ ((begun x).loops j) (held.all_loops (map begun xs) j) l)
+          (each_right _ (call_loops x).loops (pipes.all_loops (map call_loops xs)) ps),
     )
 
     -- the one call of a `mapreduce`
@@ -408,8 +426,9 @@ module _ (leaves : Leaves Cause) (bodies : ℕ → FormBody) (homes : ℕ → Ho
         → MapRounds m (begun_all xs) d
         → ((t : ℕ) → t < n → all_filled (map filled (begun_all xs)) (start + t) ≡ true)
         → ((t : ℕ) → t < n → EachOf (LoopHolds homes) (held.all_loops (map begun (begun_all xs)) (start + t)))
+        → EachOf (MayOverlap homes) (pipes.all_loops (map call_loops (begun_all xs)))
         → Good (map_placed m place spread n (λ t. all_placed (map part (begun_all xs)) (op_of m) inside (start + t))) red
-    map_good loop_kind.Sequential place spread xs red inside d start n h e r f l = (
+    map_good loop_kind.Sequential place spread xs red inside d start n h e r f l ps = (
       λ t lt. (go t lt).0,
       λ t lt. (go t lt).1,
       λ t lt. (go t lt).2,
@@ -418,8 +437,8 @@ module _ (leaves : Leaves Cause) (bodies : ℕ → FormBody) (homes : ℕ → Ho
       where
         go : (t : ℕ) → t < n → Good (all_placed (map part (begun_all xs)) None inside (start + t)) None
         go t lt = list_good xs None inside d (start + t)
-            (all_asked (begun_all xs) None d (start + t) h r e (f t lt) (l t lt))
-    map_good loop_kind.Parallel place spread xs red inside d start n h e r f l = (
+            (all_asked (begun_all xs) None d (start + t) h r e (f t lt) (l t lt) ps)
+    map_good loop_kind.Parallel place spread xs red inside d start n h e r f l ps = (
       λ t lt. let g = go t lt in (g.2, g.0),
       (tt, λ t lt. (go t lt).1),
       λ t lt. (go t lt).2,
@@ -428,40 +447,74 @@ module _ (leaves : Leaves Cause) (bodies : ℕ → FormBody) (homes : ℕ → Ho
       where
         go : (t : ℕ) → t < n → Good (all_placed (map part (begun_all xs)) None inside (start + t)) None
         go t lt = list_good xs None inside d (start + t)
-            (all_asked (begun_all xs) None d (start + t) h r e (f t lt) (l t lt))
-    map_good (loop_kind.Reduction q) place spread xs red inside d start n h e r f l =
+            (all_asked (begun_all xs) None d (start + t) h r e (f t lt) (l t lt) ps)
+    map_good (loop_kind.Reduction q) place spread xs red inside d start n h e r f l ps =
         let g = one_good q (begun_all xs) inside start n h e r f in (g.0, (tt, g.1), tt, g.2)
+
+    -- a map whose transfers overlap, which is no `mapseq`
+    map_taken : (m : LoopKind) (place : Place) (spread : Option SpreadRule) (counts starts : List ℕ) (xs : List Known)
+        (red : Option Reduction) (inside : Bool) (d j : ℕ) (p : Pipe)
+        → pipe_of homes m spread (chains (map part (begun_all xs))) ≡ Some p
+        → chain_of first_of m starts (chains (map part (begun_all xs))) ≡ None
+        → EachOf (TableFits leaves bodies homes mays k) (all_tables (map tables_of (begun_all xs)) (red_of m))
+        → body_ones m (map kind_of (begun_all xs)) ≡ true → MapRounds m (begun_all xs) d
+        → ((t : ℕ) → t < get_or counts j 0 → all_filled (map filled (begun_all xs)) (get_or starts j 0 + t) ≡ true)
+        → ((t : ℕ) → t < get_or counts j 0
+        → EachOf (LoopHolds homes) (held.all_loops (map begun (begun_all xs)) (get_or starts j 0 + t)))
+        → EachOf (MayOverlap homes) (pipes.all_loops (map call_loops (begun_all xs)))
+        → EachOf (MayOverlap homes) (loop_round m counts starts (map call_loops (begun_all xs)))
+        → (loop : Placed)
+        → Good (pipe_placed bodies homes callee (Some p) place (get_or counts j 0) (get_or starts j 0) loop) red
+    map_taken loop_kind.Sequential place spread counts starts xs red inside d j p is none h e r f l ps own loop =
+        let t = is_pipe homes loop_kind.Sequential spread (chains (map part (begun_all xs))) p is in
+        let all : one_more first_of starts (Some t.its.call) ≡ None
+        = ap (one_more first_of starts) (sym t.its.there)
+        ∙ (ap (chain_of first_of loop_kind.Sequential starts) (sym t.all) ∙ none) in absurd (cc all)
+    map_taken (loop_kind.Reduction q) place spread counts starts xs red inside d j p is none h e r f l ps own loop =
+        let t = is_pipe homes (loop_kind.Reduction q) spread (chains (map part (begun_all xs))) p is in
+        absurd (let z = t.lanes in cc z)
+    map_taken loop_kind.Parallel place spread counts starts xs red inside d j p is none h e r f l ps own loop =
+        free_pipe leaves codes ss may bodies homes callee loop_kind.Parallel p.rows counts starts its j
+        (placed_rule place p.spread) [] (keeps spread one.lanes) each red
+      where
+        one : IsTaken homes loop_kind.Parallel spread (begun_all xs) p
+        one = taken homes loop_kind.Parallel spread (chains_placed bodies homes callee rule (begun_all xs)) p is
+
+        its : LoopOverlaps homes (record { kind = loop_kind.Parallel; rows = p.rows; counts = counts; starts = starts })
+        its = (subst (λ (z : CallLoops). EachOf (MayOverlap homes)
+            (loop_round loop_kind.Parallel counts starts (z ∷ []))) (loops_call true p.rows)
+            (subst (λ (ys : List Statement). EachOf (MayOverlap homes)
+            (loop_round loop_kind.Parallel counts starts (map call_loops ys))) one.one own)).0 one.overlaps
+
+        keeps : (z : Option SpreadRule) → lanes_of loop_kind.Parallel z ≡ Some p.spread
+            → TakenKeeps (placed_rule place p.spread) (get_or counts j 0)
+            (λ t. row_call bodies homes callee (slice_get p.rows (get_or starts j 0 + t)))
+        keeps None z = cc
+        keeps (Some u) z = subst (λ (v : Option SpreadRule). TakenKeeps (placed_rule place v) (get_or counts j 0)
+            (λ t. row_call bodies homes callee (slice_get p.rows (get_or starts j 0 + t)))) (same_some z) tt
+
+        placed_row : (t : ℕ) → t < get_or counts j 0
+            → Good (row_placed bodies homes callee None true (slice_get p.rows (get_or starts j 0 + t))) None
+        placed_row t lt =
+            let g = subst (λ (ys : List Statement). Good
+            (all_placed (map part ys) None inside (get_or starts j 0 + t)) None)
+            one.one (list_good xs None inside d (get_or starts j 0 + t)
+            (all_asked (begun_all xs) None d (get_or starts j 0 + t) h r e (f t lt) (l t lt) ps)) in
+            subst (λ (z : PlacedPart). Good (z.placed None inside (get_or starts j 0 + t)) None)
+            (part_call bodies homes callee rule true p.rows) (g.0.0, g.1.0, g.2.0, g.3.0)
+
+        each : (t : ℕ) → t < get_or counts j 0
+            → Good (Call (row_call bodies homes callee (slice_get p.rows (get_or starts j 0 + t)))
+            (row_body bodies homes callee (slice_get p.rows (get_or starts j 0 + t)))) None
+        each t lt =
+            let q = its.stands.there j t lt in
+            as_call leaves codes ss may bodies homes callee (slice_get p.rows (get_or starts j 0 + t)) q.0 q.1 false []
+            (placed_row t lt)
 
     -- a loop that nothing leaves is the loop alone
     loop_is : (o : Option (Chain ℕ)) → o ≡ None → (j : ℕ) (inside : Bool) (loop : Bool → Placed)
         → map_held bodies homes callee o j inside loop ≡ loop inside
     loop_is o e j inside loop = ap (λ o. map_held bodies homes callee o j inside loop) e ∙ ap loop (or_false inside)
-
-    -- ---- the calls of statements, as they are placed
-
-    abbrev SameChain : Statement → Type 0
-    SameChain x = (part x).chain ≡ (begun x).chain
-
-    abbrev Chained : Type 0
-    Chained = (x : Statement) × SameChain x
-
-    chains_same : (xs : List Chained)
-        → chains (map part (map (λ q. q.0) xs)) ≡ held.chains (map begun (map (λ q. q.0) xs))
-    chains_same [] = refl
-    chains_same (x ∷ xs) = ap₂ (λ (o : Option (Chain ℕ)) (l : List (Option (Chain ℕ))). o ∷ l) x.1 (chains_same xs)
-
-    chain_step : (y : Statement-F Chained) → SameChain (roll-Statement (map-Statement Chained Statement (λ p. p.0) y))
-    chain_step (Statement-F.Call lower times) = subst SameChain (sym (b.rolls-Call lower times))
-        (ap (λ (p : PlacedPart). p.chain) (part_call bodies homes callee rule lower times)
-        ∙ sym (ap (λ (z : Begun). z.chain) (begun_call lower times)))
-    chain_step (Statement-F.Map place m counts starts xs)
-        = subst SameChain (sym (b.rolls-Map place m counts starts (map (λ q. q.0) xs)))
-        (ap (λ (p : PlacedPart). p.chain) (part_map bodies homes callee rule place m counts starts (map (λ q. q.0) xs))
-        ∙ (ap (chain_of first_of m starts) (chains_same xs)
-        ∙ sym (ap (λ (z : Begun). z.chain) (begun_map place m counts starts (map (λ q. q.0) xs)))))
-
-    chain_same : (x : Statement) → SameChain x
-    chain_same = ind-Statement SameChain (λ x y is. subst (λ z. SameChain (roll-Statement z)) is (chain_step y))
 
     -- ---- all statements
 
@@ -478,6 +531,20 @@ module _ (leaves : Leaves Cause) (bodies : ℕ → FormBody) (homes : ℕ → Ho
     part_rounds loop_kind.Parallel starts xs n e h = (0, no_rounds xs h)
     part_rounds (loop_kind.Reduction r) starts xs n e h = (0, no_rounds xs h)
 
+    by_pipe : (m : LoopKind) (place : Place) (hs : List (Option (Chain ℕ))) (spread : Option SpreadRule)
+        (counts starts : List ℕ) (j : ℕ) (plain : Placed) (red : Option Reduction) → Good plain red
+        → ((p : Pipe) → pipe_of homes m spread hs ≡ Some p
+        → Good (pipe_placed bodies homes callee (Some p) place (get_or counts j 0) (get_or starts j 0) plain) red)
+        → Good (pipe_placed bodies homes callee (pipe_of homes m spread hs) place (get_or counts j 0)
+        (get_or starts j 0)
+        plain) red
+    by_pipe m place hs spread counts starts j plain red g taken = go (pipe_of homes m spread hs) refl
+      where
+        go : (o : Option Pipe) → pipe_of homes m spread hs ≡ o
+            → Good (pipe_placed bodies homes callee o place (get_or counts j 0) (get_or starts j 0) plain) red
+        go None e = g
+        go (Some p) e = taken p e
+
     map_plain : (place : Place) (m : LoopKind) (counts starts : List ℕ) (xs : List Known)
         → (begun (b.Map place m counts starts (begun_all xs))).chain ≡ None
         → IsGood (b.Map place m counts starts (begun_all xs))
@@ -487,13 +554,14 @@ module _ (leaves : Leaves Cause) (bodies : ℕ → FormBody) (homes : ℕ → Ho
         let parts = map part (begun_all xs) in
         let spread = spread_of rule m inside (any_lower parts) (any_same parts) in
         let loop : Bool → Placed = λ within_it.
-        map_placed m place (spread_of rule m within_it (any_lower parts) (any_same parts)) (get_or counts j 0)
-        (λ t. all_placed parts (op_of m)
-        (within_it || is_some (spread_of rule m within_it (any_lower parts) (any_same parts)))
-        (get_or starts j 0 + t)) in
+        let its = spread_of rule m within_it (any_lower parts) (any_same parts) in
+        pipe_placed bodies homes callee (pipe_of homes m its (chains parts)) place (get_or counts j 0)
+        (get_or starts j 0)
+        (map_placed m place its (get_or counts j 0)
+        (λ t. all_placed parts (op_of m) (within_it || is_some its) (get_or starts j 0 + t))) in
         let chain_none : chain_of first_of m starts (chains parts) ≡ None
         = sym (ap (λ (p : PlacedPart). p.chain) (part_map bodies homes callee rule place m counts starts (begun_all xs)))
-        ∙ (chain_same x ∙ none) in
+        ∙ (chain_same bodies homes callee rule x ∙ none) in
         let own_none : chain_of first_of m starts (held.chains (map begun (begun_all xs))) ≡ None
         = sym (ap (λ (z : Begun). z.chain) (begun_map place m counts starts (begun_all xs))) ∙ none in
         let tables : EachOf (TableFits leaves bodies homes mays k) (all_tables (map tables_of (begun_all xs)) (red_of m))
@@ -511,15 +579,33 @@ module _ (leaves : Leaves Cause) (bodies : ℕ → FormBody) (homes : ℕ → Ho
         ++ over 0 (get_or counts j 0) begins)) own_none
         (subst (λ (z : Begun). EachOf (LoopHolds homes) (z.loops j)) (begun_map place m counts starts (begun_all xs))
         h.loops) in
+        let overlap : EachOf (MayOverlap homes) (loop_round m counts starts (map call_loops (begun_all xs))
+        ++ pipes.all_loops (map call_loops (begun_all xs)))
+        = subst (λ (z : CallLoops). EachOf (MayOverlap homes) z.loops) (loops_map place m counts starts (begun_all xs))
+        h.pipes in
+        let own = each_left (MayOverlap homes) (loop_round m counts starts (map call_loops (begun_all xs)))
+        (pipes.all_loops (map call_loops (begun_all xs))) overlap in
+        let deeper = each_right (MayOverlap homes) (loop_round m counts starts (map call_loops (begun_all xs)))
+        (pipes.all_loops (map call_loops (begun_all xs))) overlap in
+        let ones = ap (λ (z : Kind). z.ones) (sym (kind_map place m counts starts (begun_all xs))) ∙ h.ones in
+        let row_there : (t : ℕ) → t < get_or counts j 0
+        → all_filled (map filled (begun_all xs)) (get_or starts j 0 + t) ≡ true
+        = λ t lt. below_true (get_or counts j 0)
+        (λ t. all_filled (map filled (begun_all xs)) (get_or starts j 0 + t)) t full lt in
+        let held_there : (t : ℕ) → t < get_or counts j 0 → EachOf (LoopHolds homes) (begins t)
+        = λ t lt. each_turn (LoopHolds homes) (get_or counts j 0) begins loops t lt in
+        let iterations : ℕ → Placed
+        = λ t. all_placed parts (op_of m) (inside || is_some spread) (get_or starts j 0 + t) in
+        let plain = map_placed m place spread (get_or counts j 0) iterations in
         subst (λ (p : PlacedPart). Good (p.placed (operator_of red) inside j) red)
         (sym (part_map bodies homes callee rule place m counts starts (begun_all xs)))
         (subst (λ (p : Placed). Good p red)
         (sym (loop_is (chain_of first_of m starts (chains parts)) chain_none j inside loop))
+        (by_pipe m place (chains parts) spread counts starts j plain red
         (map_good m place spread xs red (inside || is_some spread) deep.0 (get_or starts j 0) (get_or counts j 0) tables
-        (ap (λ (z : Kind). z.ones) (sym (kind_map place m counts starts (begun_all xs))) ∙ h.ones) deep.1
-        (λ t lt. below_true (get_or counts j 0) (λ t. all_filled (map filled (begun_all xs)) (get_or starts j 0 + t))
-        t full lt)
-        (λ t lt. each_turn (LoopHolds homes) (get_or counts j 0) begins loops t lt)))
+        ones deep.1 row_there held_there deeper)
+        (λ p e. map_taken m place spread counts starts xs red (inside || is_some spread) deep.0 j p e chain_none tables
+        ones deep.1 row_there held_there deeper own plain)))
 
     -- a loop round a lower call alone, or another map
     any_map : (place : Place) (m : LoopKind) (counts starts : List ℕ) (xs : List Known) (o : Option (Chain ℕ))
@@ -554,7 +640,7 @@ module _ (leaves : Leaves Cause) (bodies : ℕ → FormBody) (homes : ℕ → Ho
         subst (λ (l : List Statement). AllAsked l None 0 0 → Good (all_placed (map part l) None false 0) None)
         (unknown list) (λ a. list_good (known list) None false 0 0 a)
         (all_asked list None 0 0 (each_from _ (tables_in list None) h.tables) (no_rounds list h.rounds) h.ones h.full
-        h.loops)
+        h.loops h.pipes)
 
   body_fit : (callee : ℕ → Placed) → ((f : ℕ) → IsFit leaves bodies homes mays f (callee f)) → (k : ℕ) (x : Body)
       → BodyFits leaves bodies homes mays k x

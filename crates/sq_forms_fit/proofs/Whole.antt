@@ -34,12 +34,14 @@ use Rattle.sq_spec_laws.proofs.FilledHold.{tables_are_full}
 use Rattle.sq_spec_laws.proofs.OnesHold.{reductions_are_of_one}
 use Rattle.sq_spec_laws.proofs.TableRowsHold.{rows_are_reached}
 use Rattle.sq_placed.specs.declared.home.Homes.{Homes}
+use Rattle.sq_placed.specs.Pipes.{call_loops_of}
 use Rattle.sq_cells.specs.Tree.{Cause}
 use Rattle.sq_forms_fit.specs.Rows.{TableFits, ListFits, LeafFits, BodyFits, FormsFit}
 use Rattle.sq_forms_fit.proofs.Facts.{facts_fit}
 use Rattle.sq_rooms.specs.Orders.{EachOf, rounds_of}
 use Rattle.sq_rooms.specs.Held.{AreHeldRows}
 use Rattle.sq_forms_fit.specs.Held.{HoldsFit, LoopHolds, loops_of}
+use Rattle.sq_forms_fit.specs.Piped.{MayOverlap, PipesFit}
 use Rattle.sq_forms_fit.specs.Homes.{may_write, mays_of, bodies_of, HomesFit, LeavesStand}
 use Rattle.sq_forms_fit.specs.Laws.{ProgramsFit, ArraysAreSized}
 use Rattle.sq_forms_fit.specs.Sizes.{IsSized}
@@ -86,6 +88,7 @@ module _ (program : Program) (levels : List Level) (mapping : Mapping) (formed :
     (read : Sound program levels mapping) (r : Resolving) (through : resolution program.tasks mapping ≡ Ok r)
     (leaves : Leaves Cause) (homes : ℕ → Homes) (homes_fit : HomesFit program mapping r.found homes)
     (holds : HoldsFit (bodies_of program mapping r.found) homes)
+    (pipes : PipesFit (bodies_of program mapping r.found) homes)
     (leaves_stand : LeavesStand program mapping r.found leaves homes) where
   abbrev bodies : ℕ → FormBody
   bodies = bodies_of program mapping r.found
@@ -139,6 +142,7 @@ module _ (program : Program) (levels : List Level) (mapping : Mapping) (formed :
               (elems_of run.fits.variant run.ran.scope) run.ran.scope.numbers;
           rounds = rounds;
           loops = subst (λ (x : Body). EachOf (LoopHolds homes) (loops_of x)) is (holds.loops k);
+          pipes = subst (λ (x : Body). EachOf (MayOverlap homes) (call_loops_of x)) is (pipes.loops k);
         }
 
     leaf_fits : (leaf : LeafSource) → leaf.variant ≡ run.fits.variant → (bodies k).body ≡ body.Leaf leaf
@@ -170,7 +174,8 @@ module _ (program : Program) (levels : List Level) (mapping : Mapping) (formed :
 
   nothing_fits : (k : ℕ) → Fits k no_body.body
   unfolding Fits
-  nothing_fits k = record { tables = λ i t e. absurd (cc e); ones = refl; full = refl; rounds = tt; loops = tt }
+  nothing_fits k = record
+      { tables = λ i t e. absurd (cc e); ones = refl; full = refl; rounds = tt; loops = tt; pipes = tt }
 
   each_fits : (k : ℕ) (o : Option (Key × Found)) → slice_get r.found k ≡ o → Fits k (bodies k).body
   each_fits k None e = subst (Fits k) (sym (ap (λ x. (found_body r.found program.tasks mapping.instances k x).body) e))
@@ -182,8 +187,8 @@ module _ (program : Program) (levels : List Level) (mapping : Mapping) (formed :
   forms_fit k = each_fits k (slice_get r.found k) refl
 
 pub programs_fit : ProgramsFit
-programs_fit program levels mapping formed sound read r through leaves homes homes_fit holds leaves_stand
-    = forms_fit program levels mapping formed sound read r through leaves homes homes_fit holds leaves_stand
+programs_fit program levels mapping formed sound read r through leaves homes homes_fit holds pipes leaves_stand
+    = forms_fit program levels mapping formed sound read r through leaves homes homes_fit holds pipes leaves_stand
 
 pub arrays_are_sized : ArraysAreSized
 arrays_are_sized program levels mapping sound read r through k n sh e = go (slice_get r.found k) refl

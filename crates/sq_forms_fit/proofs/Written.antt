@@ -23,9 +23,9 @@ seats_same s [] (h ∷ hs) = refl
 seats_same s (x ∷ xs) (h ∷ hs) = ap (λ (l : List Seat). buffer_seat s 0 (buffer_or h) x ∷ l) (seats_same s xs hs)
 
 pub plans_are_written : PlansAreWritten
-plans_are_written s bodies homes level leveled root first n args many =
+plans_are_written s bodies homes level leveled stand root first n args many =
     let buffers = map buffer_or (homes 0).params in
-    ap (scoped 0 buffers) (entry_is_tree s bodies homes level leveled root first n args
+    ap (scoped 0 buffers) (entry_is_tree s bodies homes level leveled stand root first n args
     ∙ ap (λ seats. tree s (entry_placed bodies homes n args) 0 0 seats [])
     (sym (seats_same s (bodies 0).arrays (homes 0).params)
     ∙ ap (λ k. seats_at s (take k (bodies 0).arrays) buffers) (sym many)))

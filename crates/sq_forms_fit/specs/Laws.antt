@@ -12,18 +12,20 @@ use Rattle.sq_forms.specs.Resolving.{Resolving, resolution}
 use Rattle.sq_placed.specs.declared.home.Homes.{Homes}
 use Rattle.sq_cells.specs.Tree.{Cause}
 use Rattle.sq_forms_fit.specs.Held.{HoldsFit}
+use Rattle.sq_forms_fit.specs.Piped.{PipesFit}
 use Rattle.sq_forms_fit.specs.Rows.{FormsFit}
 use Rattle.sq_forms_fit.specs.Homes.{mays_of, bodies_of, HomesFit, LeavesStand}
 use Rattle.sq_forms_fit.specs.Sizes.{IsSized}
 
 -- Of a program without a fault, under a mapping that was read with it, the tables of all forms fit, wherever their
--- arrays stand and whatever the leaves of the plan are, if these fit and the arguments that leave loops may do so.
+-- arrays stand and whatever the leaves of the plan are, if these fit, the arguments that leave loops may do so, and the
+-- loops that overlap their transfers may do that.
 abbrev pub ProgramsFit : Type 0
 ProgramsFit = (program : Program) (levels : List Level) (mapping : Mapping) → is_formed program ≡ true
     → is_sound program ≡ true → Sound program levels mapping
     → (r : Resolving) → resolution program.tasks mapping ≡ Ok r
     → (leaves : Leaves Cause) (homes : ℕ → Homes) → HomesFit program mapping r.found homes
-    → HoldsFit (bodies_of program mapping r.found) homes
+    → HoldsFit (bodies_of program mapping r.found) homes → PipesFit (bodies_of program mapping r.found) homes
     → LeavesStand program mapping r.found leaves homes
     → FormsFit leaves (bodies_of program mapping r.found) homes (mays_of program.tasks mapping.instances r.found)
 

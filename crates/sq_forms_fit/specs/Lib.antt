@@ -2,6 +2,7 @@ pub mod Homes
 pub mod Sizes
 pub mod Laws
 pub mod Held
+pub mod Piped
 pub mod Rows
 pub mod Facts
 pub mod Entry

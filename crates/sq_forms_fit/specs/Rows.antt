@@ -18,6 +18,7 @@ use Rattle.sq_spec_laws.specs.Filled.{are_filled}
 use Rattle.sq_placed.specs.declared.home.Homes.{Homes}
 use Rattle.sq_placed.specs.Placed.{Placed, PlacedArg, PlacedCall, arguments}
 use Rattle.sq_placed.specs.Tables.{with_rect, placed_call, placed_of}
+use Rattle.sq_placed.specs.Pipes.{call_loops_of}
 use Rattle.sq_cells.specs.Tree.{Cause}
 use Rattle.sq_cells.specs.Lowered.{in_place}
 use Rattle.sq_cells.specs.Work.{Buffer}
@@ -29,6 +30,7 @@ use Rattle.sq_plan_laws.specs.Seated.{CallSits, LeafSits, Sits}
 use Rattle.sq_rooms.specs.Orders.{EachOf, rounds_of}
 use Rattle.sq_rooms.specs.Held.{AreHeldRows}
 use Rattle.sq_forms_fit.specs.Held.{LoopHolds, loops_of}
+use Rattle.sq_forms_fit.specs.Piped.{MayOverlap}
 
 abbrev pub operator_of : Option Reduction → Option RedOp
 operator_of None = None
@@ -72,6 +74,7 @@ module _ (leaves : Leaves Cause) (bodies : ℕ → FormBody) (homes : ℕ → Ho
     pub full : are_filled list ≡ true
     pub rounds : EachOf (AreHeldRows homes) (rounds_of (body.Inner list))
     pub loops : EachOf (LoopHolds homes) (loops_of (body.Inner list))
+    pub pipes : EachOf (MayOverlap homes) (call_loops_of (body.Inner list))
 
   -- a form that is a leaf
   pub record LeafFits (k : ℕ) (leaf : LeafSource) : Type 0 where
@@ -95,4 +98,5 @@ module _ (leaves : Leaves Cause) (bodies : ℕ → FormBody) (homes : ℕ → Ho
 -- What is placed of tables that fit fits.
 abbrev pub TablesFit : Type 0
 TablesFit = (leaves : Leaves Cause) (bodies : ℕ → FormBody) (homes : ℕ → Homes) (mays : ℕ → ℕ → Bool)
-    → FormsFit leaves bodies homes mays → (n k : ℕ) → IsFit leaves bodies homes mays k (placed_of bodies homes n k)
+    → FormsFit leaves bodies homes mays → (n k : ℕ)
+    → IsFit leaves bodies homes mays k (placed_of bodies homes n k)

@@ -5,6 +5,7 @@
 ghost use Rattle.sq_forms_fit.specs.Rows.{TablesFit};
 ghost use Rattle.sq_forms_fit.specs.Facts.{FactsFit};
 ghost use Rattle.sq_forms_fit.specs.Held.{UnheldFits};
+ghost use Rattle.sq_forms_fit.specs.Piped.{UnpipedFits, PipesFitStand};
 ghost use Rattle.sq_forms_fit.specs.Laws.{ProgramsFit, ArraysAreSized};
 ghost use Rattle.sq_forms_fit.specs.Entry.{EntriesFollow, EntriesSit, EntriesArePlans};
 ghost use Rattle.sq_forms_fit.specs.LeafCalls.{CallsAreOfTables};
@@ -25,8 +26,18 @@ pub fn unheld_fits()
     ensures { UnheldFits }
 {}
 
+/// Where no loop overlaps its transfers, nothing is asked of that.
+pub fn unpiped_fits()
+    ensures { UnpipedFits }
+{}
+
+/// The placed source and its term stand for tables whose loops may overlap their transfers.
+pub fn pipes_fit_stand()
+    ensures { PipesFitStand }
+{}
+
 /// Of a program without a fault, under a mapping that was read with it, the tables of all forms fit, wherever their
-/// arrays stand, if the arguments that leave loops may do so.
+/// arrays stand, if the arguments that leave loops may do so, and the loops that overlap their transfers too.
 pub fn programs_fit()
     ensures { ProgramsFit }
 {}

@@ -260,3 +260,28 @@ lanes_apart (suc n) k f h (suc i) (suc j) lt ln l m hi hj x y cx cy e =
     let w : k + suc j ≡ k + 1 + j = omega arith in
     lanes_apart n (k + 1) f (aside_right (f k) (par_of n f (k + 1)) h) i j (omega (arith, lt)) (omega (arith, ln)) l m
     (subst (λ q. IsAround (f q) l) z hi) (subst (λ q. IsAround (f q) m) w hj) x y cx cy e
+
+-- ---- from the first on
+
+pub in_seq : (n : ℕ) (f : ℕ → PlanTree) (t : ℕ) (l : List Scope) → t < n → IsAround (f t) l → IsAround (seq_of n f 0) l
+in_seq n f t l lt h = let z : 0 + t ≡ t
+    = omega arith in in_seq_of n 0 f t l lt (subst (λ u. IsAround (f u) l) (sym z) h)
+
+pub in_par : (n : ℕ) (f : ℕ → PlanTree) (t : ℕ) (l : List Scope) → t < n → IsAround (f t) l → IsAround (par_of n f 0) l
+in_par n f t l lt h = let z : 0 + t ≡ t
+    = omega arith in in_par_of n 0 f t l lt (subst (λ u. IsAround (f u) l) (sym z) h)
+
+pub aside_seq : (n : ℕ) (f : ℕ → PlanTree) (t : ℕ) → t < n → Aside (seq_of n f 0) → Aside (f t)
+aside_seq n f t lt h = let z : 0 + t ≡ t = omega arith in subst (λ u. Aside (f u)) z (aside_seq_of n 0 f t lt h)
+
+pub aside_par : (n : ℕ) (f : ℕ → PlanTree) (t : ℕ) → t < n → Aside (par_of n f 0) → Aside (f t)
+aside_par n f t lt h = let z : 0 + t ≡ t = omega arith in subst (λ u. Aside (f u)) z (aside_par_of n 0 f t lt h)
+
+pub beside_apart : (n : ℕ) (f : ℕ → PlanTree) → Aside (par_of n f 0) → (i j : ℕ) → i < j → j < n → (l m : List Scope)
+    → IsAround (f i) l → IsAround (f j) m
+    → (x y : Scope) → Contains l x → Contains m y → x.node ≡ y.node → ⊥
+beside_apart n f h i j lt ln l m hi hj =
+    let z : 0 + i ≡ i = omega arith in
+    let y : 0 + j ≡ j = omega arith in
+    lanes_apart n 0 f h i j lt ln l m (subst (λ u. IsAround (f u) l) (sym z) hi)
+    (subst (λ u. IsAround (f u) m) (sym y) hj)

@@ -1,8 +1,15 @@
 pub mod Openings
 pub mod Grown
 pub mod Live
+pub mod ArrayCells
 pub mod CallOpens
 pub mod HoldOpens
+pub mod Found
+pub mod Sets
+pub mod Lanes
+pub mod Pipelines
+pub mod PipesStowed
 pub mod Stowing
 pub mod Rooms
 pub mod ExampleHeld
+pub mod ExamplePiped

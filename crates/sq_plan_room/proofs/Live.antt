@@ -1,13 +1,19 @@
 -- Live buffers, and the rows of an argument.
 use Rattle.std.proofs.Common.{ℕ, ◌≡◌, ◌≢◌, zero, suc, ◌+◌, ◌-◌, ◌*◌, ◌<◌, Bool, true, false, List, [], ◌∷◌, ◌++◌}
 use Rattle.std.proofs.Common.{length, map, Some, refl, sym, ap, ◌∙◌, subst, arith, ◌⊎◌, inl, inr, eqb, eqb-true, Option}
-use Rattle.std.specs.Prelude.{slice_get, ℤ}
+use Rattle.std.proofs.Common.{None}
+use Rattle.std.specs.Prelude.{slice_get, ℤ, pos, if◌then◌else◌}
 use Rattle.std.specs.List.{All, Contains}
 use Rattle.std.proofs.lemmas.Bool.Decides.{nat_tests}
+use Rattle.sq_num.specs.declared.RedOp.{RedOp}
+use Rattle.sq_num.specs.Reductions.{identity}
 use Rattle.sq_rect.specs.Extents.{rows_of}
+use Rattle.sq_ast.specs.declared.program.Mode.{Mode}
+use Rattle.sq_ast.specs.declared.program.Mode.TheVariants.{Input, Output, Both}
 use Rattle.sq_text.specs.declared.place.Span.{Span}
 use Rattle.sq_leaf.specs.declared.shape.Shape.{Shape}
 use Rattle.sq_blocks.specs.Arguments.{lengths}
+use Rattle.sq_ir.specs.Tree.{Skip}
 use Rattle.sq_ir.specs.Scopes.{Scope}
 use Rattle.sq_ir.specs.Plans.{IsLive, HaveRoom}
 use Rattle.sq_ir.specs.Plans as plans
@@ -16,7 +22,7 @@ use Rattle.sq_placed.specs.declared.home.Home.{Home}
 use Rattle.sq_placed.specs.declared.home.Home.TheVariants.{InPlace, Own, Held, Twin}
 use Rattle.sq_placed.specs.Placed.{PlacedArg, PlacedLocal, PlacedCall}
 use Rattle.sq_placed.specs.Seats.{Seat, SeatedArg, seated_args, own_seat, block_seat}
-use Rattle.sq_placed.specs.Trees.{par_all, copy_rows, fill_rows}
+use Rattle.sq_placed.specs.Trees.{par_all, copy_rows, fill_rows, is_moved, bring_by, bring}
 use Rattle.sq_cells.specs.Lowered.{Layout}
 use Rattle.sq_placed_bytes.specs.Coordinates.{Fits}
 use Rattle.sq_placed_bytes.specs.Calling.{PassedFits}
@@ -87,6 +93,24 @@ fill_event v q h = in_seq_of (rows_of q.view.extents) 0 _ 0 [] h refl
 
 pub copy_event : (q from to : Seat) → 0 < rows_of q.view.extents → IsAround (copy_rows q from to) []
 copy_event q from to h = in_seq_of (rows_of q.view.extents) 0 _ 0 [] h refl
+
+-- an argument with a buffer of the call's own is brought in
+pub bring_event : (b : ℕ) (l : SeatedArg) → l.passed.home ≡ Own b → 0 < rows_of l.own.view.extents
+    → IsAround (bring l) []
+bring_event b l home some = by l.passed.gathers l.passed.argument.mode
+  where
+    moved : {A : Type 0} (x y : A) → (if is_moved l.passed.home then x else y) ≡ x
+    moved x y = ap (λ h. if is_moved h then x else y) home
+
+    copied : IsAround (if is_moved l.passed.home then copy_rows l.own l.outside l.own else Skip) []
+    copied = subst (λ t. IsAround t []) (sym (moved (copy_rows l.own l.outside l.own) Skip))
+        (copy_event l.own l.outside l.own some)
+
+    by : (g : Option RedOp) (m : Mode) → IsAround (bring_by g m l) []
+    by (Some op) m = fill_event (identity op l.own.view.elem) l.own some
+    by None Input = copied
+    by None Output = fill_event (pos 0) l.own some
+    by None Both = copied
 
 pub in_par_all : (ts : List PlanTree) (i : ℕ) (t : PlanTree) (l : List Scope) → slice_get ts i ≡ Some t → IsAround t l
     → IsAround (par_all ts) l

@@ -30,7 +30,8 @@ use Rattle.sq_plan_room.specs.Rooms.{IsOwned, KeepsRoom, RoomIsStowed}
 use Rattle.sq_plan_room.proofs.Openings.{scopes_open}
 use Rattle.sq_plan_room.proofs.Grown.{scope_list, in_scoped, aside_scoped}
 use Rattle.sq_plan_room.proofs.Live.{IsNamed, named_left, named_right, named_in, is_live, one_buffer, none_held}
-use Rattle.sq_plan_room.proofs.Stowing.{Found, on_bytes, scratch, stowed}
+use Rattle.sq_plan_room.proofs.Found.{Found, on_bytes}
+use Rattle.sq_plan_room.proofs.Stowing.{scratch, stowed}
 
 -- where more is open there is room for less
 fewer : (s : Setting) (big small : List Scope) → HaveRoom s big → ((x : Scope) → Contains small x → Contains big x)

@@ -1,5 +1,5 @@
 -- The buffers of a placed source stand apart where the live ones do.
-use Rattle.std.proofs.Common.{◌≡◌, ◌≢◌, ℕ, zero, suc, ◌+◌, ◌<◌, Bool, false, List, [], ◌∷◌, ◌++◌, map, Option, Some}
+use Rattle.std.proofs.Common.{◌≡◌, ◌≢◌, ℕ, zero, suc, ◌<◌, Bool, List, [], ◌∷◌, ◌++◌, map, Option, Some}
 use Rattle.std.proofs.Common.{None, refl, sym, ap, ◌∙◌, subst, arith, ◌⊎◌, inl, inr, ⊎_elim, length, true}
 use Rattle.std.specs.Prelude.{if◌then◌else◌, ◌==◌}
 use Rattle.std.specs.List.{Contains}
@@ -10,20 +10,18 @@ use Rattle.sq_ir.specs.Tree.{Skip}
 use Rattle.sq_ir.specs.Scopes.{Scope}
 use Rattle.sq_ir.specs.Events.{Leaves}
 use Rattle.sq_ir.specs.Plans.{HaveRoom}
-use Rattle.sq_ir.specs.Plans as plans
-use Rattle.sq_ir.specs.Written.{Setting, PlanTree, seq_of, par_of}
+use Rattle.sq_ir.specs.Written.{Setting, PlanTree, seq_of}
 use Rattle.sq_placed.specs.Placed.{Placed, PlacedCall, Nothing, Then, Each, AtOnce, Gathers, Call, Hold, Piped, Leaf}
 use Rattle.sq_placed.specs.Placed.{PlacedArg}
 use Rattle.sq_placed.specs.Seats.{Seat, seated_args, local_seat}
 use Rattle.sq_placed.specs.Trees.{tree, map_tree, callee_node, callee_seats, held_buffers}
 use Rattle.sq_cells.specs.Machine.{Form, Node, fan_of, lane, offset_of}
-use Rattle.sq_cells.specs.Work.{Work}
 use Rattle.sq_cells.specs.Cells.{Spot}
 use Rattle.sq_cells.specs.Tree.{Cause}
-use Rattle.sq_cells.specs.Lowered.{Layout, layout, node_of, lane_kid, own, in_place, IsIn, HasLane, BufferCell, Scratch}
+use Rattle.sq_cells.specs.Lowered.{Layout, layout, node_of, lane_kid, own, IsIn, HasLane, BufferCell, Scratch}
 use Rattle.sq_cells.specs.Lowered.{CallPlaced, HeldCell}
 use Rattle.sq_placed_bytes.specs.Calling.{arrays_of, shapes_of, first_buffer, form_of}
-use Rattle.sq_placed_bytes.specs.OnBytes.{OneCall, work, share, call_or_none, arity_of, held_call}
+use Rattle.sq_placed_bytes.specs.OnBytes.{rule_of, OneCall, work, share, call_or_none, arity_of, held_call}
 use Rattle.sq_placed_bytes.specs.Fitting.{IsOne}
 use Rattle.sq_placed_bytes.specs.LeafLaws.{codes_of}
 use Rattle.sq_placed_bytes.specs.Stowed.{Stowed, HoldPlaced}
@@ -31,41 +29,16 @@ use Rattle.sq_plan_laws.specs.Seated.{IsSeated, CallSits, Sits, at_node, HeldSit
 use Rattle.sq_plan_laws.proofs.Calls.{number_is, callee_seated}
 use Rattle.sq_plan_laws.proofs.Sets.{form_is, first_is}
 use Rattle.sq_plan_room.specs.Around.{IsAround}
-use Rattle.sq_plan_room.specs.Buffers.{CallOwns, HaveLanes, Opens, HoldOwns, OwnIn}
-use Rattle.sq_plan_room.proofs.Grown.{Aside, seq_first, seq_next, aside_first, aside_next, same_true, in_seq_of}
-use Rattle.sq_plan_room.proofs.Grown.{aside_seq_of, in_par_of, aside_par_of, lanes_apart}
-use Rattle.sq_plan_room.proofs.CallOpens.{args_scope, locals_scope, of_body, live_cell, aside_body, separate, below_all}
+use Rattle.sq_plan_room.specs.Buffers.{CallOwns, HaveLanes, HoldOwns, held_round, OwnIn, PipeOwns}
+use Rattle.sq_plan_room.proofs.Grown.{Aside, seq_first, seq_next, aside_first, aside_next, same_true, in_seq, in_par}
+use Rattle.sq_plan_room.proofs.Grown.{aside_seq, aside_par, beside_apart}
+use Rattle.sq_plan_room.proofs.ArrayCells.{locals_scope, IsRound}
+use Rattle.sq_plan_room.proofs.Found.{append_joins, Found, on_bytes, found_in, body_room, its_place}
+use Rattle.sq_plan_room.proofs.CallOpens.{args_scope, call_round, aside_body}
 use Rattle.sq_plan_room.proofs.HoldOpens as hold
-use Rattle.sq_plan_room.proofs.Live.{IsNamed, named_right, Holding, none_held}
-
-append_joins : {A : Type 0} (xs ys zs : List A) → (xs ++ ys) ++ zs ≡ xs ++ (ys ++ zs)
-append_joins [] ys zs = refl
-append_joins (x ∷ xs) ys zs = ap (λ l. x ∷ l) (append_joins xs ys zs)
-
--- ---- from the first on
-
-in_seq : (n : ℕ) (f : ℕ → PlanTree) (t : ℕ) (l : List Scope) → t < n → IsAround (f t) l → IsAround (seq_of n f 0) l
-in_seq n f t l lt h = let z : 0 + t ≡ t
-    = omega arith in in_seq_of n 0 f t l lt (subst (λ u. IsAround (f u) l) (sym z) h)
-
-in_par : (n : ℕ) (f : ℕ → PlanTree) (t : ℕ) (l : List Scope) → t < n → IsAround (f t) l → IsAround (par_of n f 0) l
-in_par n f t l lt h = let z : 0 + t ≡ t
-    = omega arith in in_par_of n 0 f t l lt (subst (λ u. IsAround (f u) l) (sym z) h)
-
-aside_seq : (n : ℕ) (f : ℕ → PlanTree) (t : ℕ) → t < n → Aside (seq_of n f 0) → Aside (f t)
-aside_seq n f t lt h = let z : 0 + t ≡ t = omega arith in subst (λ u. Aside (f u)) z (aside_seq_of n 0 f t lt h)
-
-aside_par : (n : ℕ) (f : ℕ → PlanTree) (t : ℕ) → t < n → Aside (par_of n f 0) → Aside (f t)
-aside_par n f t lt h = let z : 0 + t ≡ t = omega arith in subst (λ u. Aside (f u)) z (aside_par_of n 0 f t lt h)
-
-beside_apart : (n : ℕ) (f : ℕ → PlanTree) → Aside (par_of n f 0) → (i j : ℕ) → i < j → j < n → (l m : List Scope)
-    → IsAround (f i) l → IsAround (f j) m
-    → (x y : Scope) → Contains l x → Contains m y → x.node ≡ y.node → ⊥
-beside_apart n f h i j lt ln l m hi hj =
-    let z : 0 + i ≡ i = omega arith in
-    let y : 0 + j ≡ j = omega arith in
-    lanes_apart n 0 f h i j lt ln l m (subst (λ u. IsAround (f u) l) (sym z) hi)
-    (subst (λ u. IsAround (f u) m) (sym y) hj)
+use Rattle.sq_plan_room.proofs.Lanes.{lane_at, lists_aside}
+use Rattle.sq_plan_room.proofs.PipesStowed as pipes
+use Rattle.sq_plan_room.proofs.Live.{named_right, Holding, none_held}
 
 module _ (s : Setting) where
   -- ---- maps
@@ -130,15 +103,6 @@ module _ (s : Setting) where
           in_seq n (λ u. if spreading.child_of rule n (s.children node) u == kid t then part (kid t) u else Skip) t k lt
           (subst (λ v. IsAround (if v then part (kid t) t else Skip) k) (sym (same_true (kid t))) z)
 
--- a cell of one of the buffers, with an event where it is live
-pub record Found (s : Setting) (t : PlanTree) (p : Placed) (x : Spot) : Type 0 where
-  pub scopes : List Scope
-  pub around : IsAround t scopes
-  pub buffer : ℕ
-  pub named : IsNamed scopes x.area buffer
-  pub byte : plans.HasByte s buffer x.index
-  pub opens : Opens p buffer
-
 -- iterations at different children have no buffer's cell in common
 apart : (s : Setting) (spread : Option SpreadRule) (node child n : ℕ) (part : ℕ → ℕ → PlanTree)
     → Aside (map_tree s spread node child n part) → (w : ℕ → Placed) (a b : ℕ) → a < n → b < n
@@ -187,9 +151,6 @@ module _ (s : Setting) (leaves : Leaves Cause) (outer : List Shape) (node : ℕ)
 
 -- ---- a call
 
-abbrev pub on_bytes : Setting → Leaves Cause → Placed → List Shape → Work
-on_bytes s leaves p outer = work (codes_of leaves) s.offset p outer
-
 module _ (s : Setting) (leaves : Leaves Cause) (outer : List Shape) (seats : List Seat) (at : Layout)
     (seated : IsSeated outer seats at) (c : PlacedCall) (sits : CallSits outer c) (w : Placed) (held : List ℕ)
     (owns : CallOwns s held c w) (node child : ℕ) (path : List ℕ) where
@@ -212,76 +173,53 @@ module _ (s : Setting) (leaves : Leaves Cause) (outer : List Shape) (seats : Lis
   abbrev body : PlanTree
   body = tree s w inside 0 inner_seats path
 
+  abbrev whole : PlanTree
+  whole = tree s (Call c w) node child seats path
+
   abbrev of_args : List Scope
   of_args = args_scope s leaves outer seats at seated c sits inside w held owns body
 
   abbrev of_locals : List Scope
-  of_locals = locals_scope s leaves outer seats at seated c sits inside w held owns body
+  of_locals = locals_scope s leaves outer seats at seated c sits inside w held owns
 
-  abbrev InCall : Node → Spot → Type 0
-  InCall M x = BufferCell M form (arity_of c) (arrays_of outer c) x ⊎ Scratch (on_bytes s leaves w (shapes_of c)) M 0 x
+  its : IsRound s leaves outer seats at seated c sits inside w held owns whole of_args body
+  its = call_round s leaves outer seats at seated c sits inside w held owns body
 
   module _ (ih : (x : Spot) → Scratch (on_bytes s leaves w (shapes_of c)) (at_node s inside) 0 x → Found s body w x)
     where
-      found_in : (x : Spot) → InCall (at_node s inside) x
-          → Found s (tree s (Call c w) node child seats path) (Call c w) x
-      found_in x (inl z) =
-          let f = live_cell s leaves outer seats at seated c sits inside w held owns body x z in
+      call_found : (x : Spot) → Scratch (on_bytes s leaves (Call c w) outer) (at_node s node) child x
+          → Found s whole (Call c w) x
+      call_found x h =
+          let f = found_in s leaves outer seats at seated c sits inside w held owns whole of_args body its ih x
+          (subst (λ (M : Node). BufferCell M form (arity_of c) (arrays_of outer c) x
+          ⊎ Scratch (on_bytes s leaves w (shapes_of c)) M 0 x) (number_is s c.lower node child) h) in
           record {
-            scopes = f.scopes;
+            scopes = of_args ++ f.rest;
             around = f.around;
             buffer = f.buffer;
             named = f.named;
             byte = f.byte;
-            opens = inl f.opens;
-          }
-      found_in x (inr z) =
-          let f = ih x z in
-          record {
-            scopes = of_args ++ (of_locals ++ f.scopes);
-            around = of_body s leaves outer seats at seated c sits inside w held owns body f.scopes f.around;
-            buffer = f.buffer;
-            named = named_right of_args (of_locals ++ f.scopes) x.area f.buffer
-                (named_right of_locals f.scopes x.area f.buffer f.named);
-            byte = f.byte;
-            opens = inr f.opens;
+            opens = f.opens;
           }
 
-      call_found : (x : Spot) → Scratch (on_bytes s leaves (Call c w) outer) (at_node s node) child x
-          → Found s (tree s (Call c w) node child seats path) (Call c w) x
-      call_found x h = found_in x (subst (λ M. InCall M x) (number_is s c.lower node child) h)
-
-      module _ (pre : List Scope) (room : (l : List Scope) → IsAround (tree s (Call c w) node child seats path) l →
-          HaveRoom s (pre ++ l)) (live : Holding s pre (s.child node child) held) where
+      module _ (pre : List Scope) (room : (l : List Scope) → IsAround whole l → HaveRoom s (pre ++ l))
+          (live : Holding s pre (s.child node child) held) where
         below_held : c.lower ≡ true → Holding s pre inside held
         below_held e = subst (λ (l : Bool). Holding s pre (callee_node s l node child) held) (sym e) live
 
-        body_room : (l : List Scope) → IsAround body l → HaveRoom s ((pre ++ (of_args ++ of_locals)) ++ l)
-        body_room l h =
-            subst (HaveRoom s) (ap (λ z. pre ++ z) (sym (append_joins of_args of_locals l))
-            ∙ sym (append_joins pre (of_args ++ of_locals) l))
-            (room (of_args ++ (of_locals ++ l))
-            (of_body s leaves outer seats at seated c sits inside w held owns body l h))
-
-        under : (l : Spot) → IsIn (arity_of c) (arrays_of outer c) l → in_place (arrays_of outer c l.area).place ≡ false
-            → Found s body w (own (at_node s inside) form l) → ⊥
-        unfolding offset_of
-        under l il ol f = below_all s leaves outer seats at seated c sits inside w held owns body pre room below_held l
-            il ol f.scopes f.around f.buffer f.named f.byte f.opens
-
-        its_place : CallPlaced (at_node s inside) form (arity_of c) (arrays_of outer c)
-            (on_bytes s leaves w (shapes_of c))
-        its_place = record {
-          separate = λ l m il im ol om e. separate s leaves outer seats at seated c sits inside w held owns body pre
-              room below_held l m il im ol om e;
-          below = λ l il ol z. under l il ol (ih (own (at_node s inside) form l) z);
-        }
+        callee_room : (l : List Scope) → IsAround body l → HaveRoom s ((pre ++ (of_args ++ of_locals)) ++ l)
+        callee_room = body_room s leaves outer seats at seated c sits inside w held owns whole of_args body its ih pre
+            room below_held
 
         call_stowed : Stowed (on_bytes s leaves w (shapes_of c)) (at_node s inside) 0
             → Stowed (on_bytes s leaves (Call c w) outer) (at_node s node) child
         call_stowed h =
             subst (λ M. CallPlaced M form (arity_of c) (arrays_of outer c) (on_bytes s leaves w (shapes_of c))
-            × Stowed (on_bytes s leaves w (shapes_of c)) M 0) (sym (number_is s c.lower node child)) (its_place, h)
+            × Stowed (on_bytes s leaves w (shapes_of c)) M 0) (sym (number_is s c.lower node child)) (
+              its_place s leaves outer seats at seated c sits inside w held owns whole of_args body its ih pre room
+                  below_held,
+              h,
+            )
 
 -- ---- a loop that arguments leave
 
@@ -433,7 +371,32 @@ module _ (s : Setting) (leaves : Leaves Cause) where
         byte = f.byte;
         opens = inr f.opens;
       }
-  scratch (Piped spread n calls w) node child outer seats at path bs sits seated owns lanes x h = absurd owns
+  scratch (Piped spread n calls w) node child outer seats at path bs sits seated owns lanes x (t, lt, h) =
+      let own : (u : ℕ) → u < n → PipeOwns s (held_round spread bs) (calls u) (w u) = λ u lu. (owns u lu).0 in
+      let lane : (u : ℕ) → u < n → HasLane (rule_of spread) (at_node s node) n u = λ u lu. (lanes u lu).0 in
+      let inside : ℕ → ℕ = λ u. s.child node (lane_at s node n spread child u) in
+      let call : ℕ → PlacedCall
+      = pipes.its s leaves outer seats at seated spread n calls w node child path (held_round spread bs) sits own lane
+      in
+      let seats' : ℕ → List Seat
+      = pipes.its_seats s leaves outer seats at seated spread n calls w node child path (held_round spread bs) sits
+      own lane in
+      let at' : ℕ → Layout
+      = pipes.its_layout s leaves outer seats at seated spread n calls w node child path (held_round spread bs) sits
+      own lane in
+      let sits' : (u : ℕ) → u < n → Sits leaves (w u) (shapes_of (call u))
+      = pipes.body_sits s leaves outer seats at seated spread n calls w node child path (held_round spread bs) sits
+      own lane in
+      let seated' : (u : ℕ) → u < n → IsSeated (shapes_of (call u)) (seats' u) (at' u)
+      = pipes.its_seated s leaves outer seats at seated spread n calls w node child path (held_round spread bs) sits
+      own lane in
+      let ih : (u : ℕ) → u < n → (y : Spot) → Scratch (on_bytes s leaves (w u) (shapes_of (call u)))
+      (at_node s (inside u)) 0 y
+      → Found s (tree s (w u) (inside u) 0 (seats' u) (path ++ u ∷ [])) (w u) y =
+      λ u lu y z. scratch (w u) (inside u) 0 (shapes_of (call u)) (seats' u) (at' u) (path ++ u ∷ []) [] (sits' u lu)
+      (seated' u lu) (owns u lu).1 (lanes u lu).1 y z in
+      pipes.pipe_found s leaves outer seats at seated spread n calls w node child path (held_round spread bs) sits own
+      lane ih t lt x h
   scratch (Leaf code leaf shapes) node child outer seats at path bs sits seated owns lanes x h = absurd h
 
   pub stowed : (p : Placed) (node child : ℕ) (outer : List Shape) (seats : List Seat) (at : Layout) (path : List ℕ)
@@ -513,12 +476,12 @@ module _ (s : Setting) (leaves : Leaves Cause) where
       λ y z. scratch w inside 0 (shapes_of c) seats' at' path [] sits.1 seated' owns.1 lanes y z in
       let inner = tree s w inside 0 seats' path in
       let args = args_scope s leaves outer seats at seated c sits.0 inside w bs owns.0 inner in
-      let locals = locals_scope s leaves outer seats at seated c sits.0 inside w bs owns.0 inner in
+      let locals = locals_scope s leaves outer seats at seated c sits.0 inside w bs owns.0 in
       call_stowed s leaves outer seats at seated c sits.0 w bs owns.0 node child path ih pre room live
       (stowed w inside 0 (shapes_of c) seats' at' path [] sits.1 seated' owns.1 lanes
       (aside_body s leaves outer seats at seated c sits.0 inside w bs owns.0 inner aside)
       (pre ++ (args ++ locals))
-      (body_room s leaves outer seats at seated c sits.0 w bs owns.0 node child path ih pre room live)
+      (callee_room s leaves outer seats at seated c sits.0 w bs owns.0 node child path ih pre room live)
       (none_held s (pre ++ (args ++ locals)) (s.child inside 0)))
   stowed (Hold args w) node child outer seats at path bs sits seated owns lanes aside pre room live =
       let inside = s.child node child in
@@ -533,6 +496,92 @@ module _ (s : Setting) (leaves : Leaves Cause) where
             (room (its ++ l) (hold.of_loop s leaves outer seats at seated args sits.0 inside w owns.0 loop l h)))
             (hold.still_held s leaves outer seats at seated args sits.0 inside w owns.0 loop pre room bs live),
       )
-  stowed (Piped spread n calls w) node child outer seats at path bs sits seated owns lanes aside pre room live
-      = absurd owns
+  stowed (Piped None n calls w) node child outer seats at path bs sits seated owns lanes aside pre room live =
+      let own : (u : ℕ) → u < n → PipeOwns s bs (calls u) (w u) = λ u lu. (owns u lu).0 in
+      let lane : (u : ℕ) → u < n → HasLane (rule_of None) (at_node s node) n u = λ u lu. (lanes u lu).0 in
+      let inside : ℕ → ℕ = λ u. s.child node (lane_at s node n None child u) in
+      let call : ℕ → PlacedCall
+      = pipes.its s leaves outer seats at seated None n calls w node child path bs sits own lane in
+      let seats' : ℕ → List Seat
+      = pipes.its_seats s leaves outer seats at seated None n calls w node child path bs sits own lane in
+      let at' : ℕ → Layout
+      = pipes.its_layout s leaves outer seats at seated None n calls w node child path bs sits own lane in
+      let sits' : (u : ℕ) → u < n → Sits leaves (w u) (shapes_of (call u))
+      = pipes.body_sits s leaves outer seats at seated None n calls w node child path bs sits own lane in
+      let seated' : (u : ℕ) → u < n → IsSeated (shapes_of (call u)) (seats' u) (at' u)
+      = pipes.its_seated s leaves outer seats at seated None n calls w node child path bs sits own lane in
+      let ih : (u : ℕ) → u < n → (y : Spot) → Scratch (on_bytes s leaves (w u) (shapes_of (call u)))
+      (at_node s (inside u)) 0 y
+      → Found s (tree s (w u) (inside u) 0 (seats' u) (path ++ u ∷ [])) (w u) y =
+      λ u lu y z. scratch (w u) (inside u) 0 (shapes_of (call u)) (seats' u) (at' u) (path ++ u ∷ []) [] (sits' u lu)
+      (seated' u lu) (owns u lu).1 (lanes u lu).1 y z in
+      let holds : (u : ℕ) → u < n → Holding s pre (inside u) bs = λ u lu. live in
+      let scopes : (u : ℕ) → u < n → List Scope
+      = pipes.body_scopes s leaves outer seats at seated None n calls w node child path bs sits own lane ih pre room
+      holds in
+      let body : (u : ℕ) → u < n → Stowed (on_bytes s leaves (w u) (shapes_of (call u))) (at_node s (inside u)) 0 =
+      λ u lu. stowed (w u) (inside u) 0 (shapes_of (call u)) (seats' u) (at' u) (path ++ u ∷ []) [] (sits' u lu)
+      (seated' u lu) (owns u lu).1 (lanes u lu).1
+      (pipes.aside_body s leaves outer seats at seated None n calls w node child path bs sits own lane u lu
+      (lists_aside s node n
+      (pipes.part s leaves outer seats at seated None n calls w node child path bs sits own lane) None child u
+      (lane u lu) aside))
+      (scopes u lu)
+      (pipes.pipe_room s leaves outer seats at seated None n calls w node child path bs sits own lane ih pre room
+      holds u lu)
+      (none_held s (scopes u lu) (s.child (inside u) 0)) in (
+        pipes.pipe_sets s leaves outer seats at seated None n calls w node child path bs sits own lane ih pre room
+            holds,
+        λ u lu. (
+          pipes.pipe_place s leaves outer seats at seated None n calls w node child path bs sits own lane ih pre room
+              holds u lu,
+          pipes.pipe_body s leaves outer seats at seated None n calls w node child path bs sits own lane u lu
+              (body u lu),
+        ),
+      )
+  stowed (Piped (Some q) n calls w) node child outer seats at path bs sits seated owns lanes aside pre room live =
+      let own : (u : ℕ) → u < n → PipeOwns s [] (calls u) (w u) = λ u lu. (owns u lu).0 in
+      let lane : (u : ℕ) → u < n → HasLane (rule_of (Some q)) (at_node s node) n u = λ u lu. (lanes u lu).0 in
+      let inside : ℕ → ℕ = λ u. s.child node (lane_at s node n (Some q) child u) in
+      let call : ℕ → PlacedCall
+      = pipes.its s leaves outer seats at seated (Some q) n calls w node child path [] sits own lane in
+      let seats' : ℕ → List Seat
+      = pipes.its_seats s leaves outer seats at seated (Some q) n calls w node child path [] sits own lane in
+      let at' : ℕ → Layout
+      = pipes.its_layout s leaves outer seats at seated (Some q) n calls w node child path [] sits own lane in
+      let sits' : (u : ℕ) → u < n → Sits leaves (w u) (shapes_of (call u))
+      = pipes.body_sits s leaves outer seats at seated (Some q) n calls w node child path [] sits own lane in
+      let seated' : (u : ℕ) → u < n → IsSeated (shapes_of (call u)) (seats' u) (at' u)
+      = pipes.its_seated s leaves outer seats at seated (Some q) n calls w node child path [] sits own lane in
+      let ih : (u : ℕ) → u < n → (y : Spot) → Scratch (on_bytes s leaves (w u) (shapes_of (call u)))
+      (at_node s (inside u)) 0 y
+      → Found s (tree s (w u) (inside u) 0 (seats' u) (path ++ u ∷ [])) (w u) y =
+      λ u lu y z. scratch (w u) (inside u) 0 (shapes_of (call u)) (seats' u) (at' u) (path ++ u ∷ []) [] (sits' u lu)
+      (seated' u lu) (owns u lu).1 (lanes u lu).1 y z in
+      let holds : (u : ℕ) → u < n → Holding s pre (inside u) [] = λ u lu. none_held s pre (inside u) in
+      let scopes : (u : ℕ) → u < n → List Scope
+      = pipes.body_scopes s leaves outer seats at seated (Some q) n calls w node child path [] sits own lane ih pre
+      room holds in
+      let body : (u : ℕ) → u < n → Stowed (on_bytes s leaves (w u) (shapes_of (call u))) (at_node s (inside u)) 0 =
+      λ u lu. stowed (w u) (inside u) 0 (shapes_of (call u)) (seats' u) (at' u) (path ++ u ∷ []) [] (sits' u lu)
+      (seated' u lu) (owns u lu).1 (lanes u lu).1
+      (pipes.aside_body s leaves outer seats at seated (Some q) n calls w node child path [] sits own lane u lu
+      (lists_aside s node n
+      (pipes.part s leaves outer seats at seated (Some q) n calls w node child path [] sits own lane) (Some q) child u
+      (lane u lu) aside))
+      (scopes u lu)
+      (pipes.pipe_room s leaves outer seats at seated (Some q) n calls w node child path [] sits own lane ih pre room
+      holds u lu)
+      (none_held s (scopes u lu) (s.child (inside u) 0)) in (
+        pipes.pipe_sets s leaves outer seats at seated (Some q) n calls w node child path [] sits own lane ih pre room
+            holds,
+        pipes.pipe_lanes s leaves outer seats at seated (Some q) n calls w node child path [] sits own lane ih aside,
+        λ u lu. (
+          lane u lu,
+          pipes.pipe_place s leaves outer seats at seated (Some q) n calls w node child path [] sits own lane ih pre
+              room holds u lu,
+          pipes.pipe_body s leaves outer seats at seated (Some q) n calls w node child path [] sits own lane u lu
+              (body u lu),
+        ),
+      )
   stowed (Leaf code leaf shapes) node child outer seats at path bs sits seated owns lanes aside pre room live = tt

@@ -15,9 +15,12 @@ use Rattle.sq_placed.specs.Tables.{locals_of}
 use Rattle.sq_nests.specs.Stacks.{is_at, of_level, those, OnStack}
 use Rattle.sq_rooms.specs.Orders.{EachOf, Round, rounds_of, held_over, params_of, round_held, arguments_of, own_locals}
 use Rattle.sq_rooms.specs.Orders.{IsNext, IsBehind}
-use Rattle.sq_rooms.specs.Callers.{home_buffers, Numbering, own, stack, outer, above, before, IsRowOf, AreRowsOf}
+use Rattle.sq_rooms.specs.Overlapping.{IsSuited, OverlapsStand}
+use Rattle.sq_rooms.specs.Callers.{home_buffers, home_set, Numbering, own, stack, outer, above, before, IsRowOf}
+use Rattle.sq_rooms.specs.Callers.{AreRowsOf}
 use Rattle.sq_rooms.specs.Callers.{AreNumbered, AreOrdered, NumberedAreOrdered}
-use Rattle.sq_rooms.proofs.Numbered.{append_assoc, those_append, on_stack, left_of, right_of, same_buffers, none_held}
+use Rattle.sq_rooms.proofs.Numbered.{append_assoc, those_append, on_stack, left_of, right_of, none_held}
+use Rattle.sq_rooms.proofs.Numbered.{moved_buffers, with_more, same_moved, moved_once}
 
 -- an item of those that pass stands somewhere among all
 record IsAt (here : ℕ → Bool) (xs : List ℕ) (j b : ℕ) : Type 0 where
@@ -135,11 +138,12 @@ module _ (buffers : List Buffer) (bodies : ℕ → FormBody) (homes : ℕ → Ho
       ≡ Held r.form ++ (As r ++ Ls r)
   parts_are f held r h =
       let g = r.form in
-      let rest = home_buffers (homes g).params in
+      let rest = moved_buffers (homes g).params in
       let ls = local_buffers (locals_of (bodies g) (homes g)) in
-      those_append here (held_over (k.loops g) 0 (homes g).params) (rest ++ ls)
+      ap (λ z. those here (held_over (k.loops g) 0 (homes g).params ++ z)) (with_more (homes g).params ls)
+      ∙ those_append here (held_over (k.loops g) 0 (homes g).params) (rest ++ ls)
       ∙ ap (λ z. Held g ++ z) (those_append here rest ls ∙ ap (λ z. those here z ++ Ls r)
-      (sym (same_buffers (homes g).params 0 r.args (let l = h.arguments in omega (arith, l)))))
+      (sym (same_moved (homes g).params r.args h.arguments)))
 
   up : (f : ℕ) (held : List ℕ) (r : CallInstance) → IsRowOf buffers bodies homes k f held r → Above r.form ≡ Outer f
   up f held r h = above_is r.form (let l = h.later in omega (arith, l)) ∙ ap Outer h.caller_is
@@ -196,20 +200,25 @@ module _ (buffers : List Buffer) (bodies : ℕ → FormBody) (homes : ℕ → Ho
   entry_stack : OnStack Before [] (mine 0)
   entry_stack = on_stack Before [] (mine 0) (λ j b h. placed 0 j b h)
 
-  -- no argument of the entry leaves a loop
-  entry_all : mine 0 ≡ those here params ++ those here locals
-  entry_all = ap (λ (n : ℕ). those here (held_over n 0 (homes 0).params ++ (params ++ locals))) are.root
+  -- no argument of the entry leaves a loop, and none stands twice
+  entry_all : OverlapsStand bodies homes → mine 0 ≡ those here params ++ those here locals
+  entry_all o = ap (λ (n : ℕ). those here (held_over n 0 (homes 0).params ++ (home_buffers (homes 0).params
+      ++ (home_set 0 (homes 0).params ++ (home_set 1 (homes 0).params ++ locals))))) are.root
+      ∙ ap (those here) (with_more (homes 0).params locals)
+      ∙ ap (λ (z : List ℕ). those here (z ++ locals)) (moved_once (homes 0).params
+      (subst (λ (v : Bool). EachOf (IsSuited v) (homes 0).params) o.entry (o.params 0)))
       ∙ those_append here params locals
 
-  ordered : (args : List Argument) → AreOrdered buffers bodies homes k level args
-  ordered args =
-      let s = subst (OnStack Before []) entry_all entry_stack in
+  ordered : OverlapsStand bodies homes → (args : List Argument) → AreOrdered buffers bodies homes k level args
+  ordered o args =
+      let s = subst (OnStack Before []) (entry_all o) entry_stack in
       record {
         forms = λ f. rounds_next f (rounds_of (bodies f).body) (are.rows f);
         entry = left_of Before [] (those here params) (those here locals) s;
         locals = right_of Before [] (those here params) (those here locals) s;
-        round = entry_all;
+        round = entry_all o;
       }
 
 pub numbered_are_ordered : NumberedAreOrdered
-numbered_are_ordered buffers bodies homes k are level args = ordered buffers bodies homes k are level args
+numbered_are_ordered buffers bodies homes k are overlaps level args = ordered buffers bodies homes k are level overlaps
+    args

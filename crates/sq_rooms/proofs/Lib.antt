@@ -1,4 +1,7 @@
 pub mod LowersOpened
+pub mod Piped
+pub mod Overlaps
+pub mod ExampleOverlapping
 pub mod Sides
 pub mod Numbered
 pub mod Behind

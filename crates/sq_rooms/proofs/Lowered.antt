@@ -87,7 +87,7 @@ module _ (d : Draft) (nodes : List PlanNode) (bodies : ℕ → FormBody) (homes 
     (λ q. absurd (let z = q in cc)),
     subst (λ (l : ℕ). IsSpreadWell levels l (placed_of bodies homes n 0))
         is.root
-        (spread_well bodies homes level levels is.few (is.leveled (λ b. 0)).calls n 0),
+        (spread_well bodies homes level levels is.overlaps.entry is.few (is.leveled (λ b. 0)).calls n 0),
   )
 
   aside : (offset : ℕ → ℕ) → AreAside (written (placed d.buffers nodes offset) (whole d) at_root)
@@ -101,7 +101,7 @@ module _ (d : Draft) (nodes : List PlanNode) (bodies : ℕ → FormBody) (homes 
       let seats = entry_seats s (bodies 0).arrays (homes 0).params in
       subst AreAside (sym (ap (λ g. g at_root) (written_within s None d.entry d.term)
       ∙ ap (λ (t : Term). scoped 0 d.entry (written s t at_root)) is.term
-      ∙ ap (scoped 0 d.entry) (entry_is_tree s bodies homes level (is.leveled offset) is.root is.first n args)))
+      ∙ ap (scoped 0 d.entry) (entry_is_tree s bodies homes level (is.leveled offset) is.pipes is.root is.first n args)))
       (aside-scoped 0 d.entry (tree s x 0 0 seats [])
       (have_sides s (far levels nodes) forest levels children x 0 0 0 seats [] root
       (λ l. children 0 (omega (arith, l, root))) spread).whole.aside)
@@ -111,10 +111,10 @@ module _ (d : Draft) (nodes : List PlanNode) (bodies : ℕ → FormBody) (homes 
       let here = of_level d.buffers at in
       let b = before d.buffers bodies homes k in
       let o = outer d.buffers bodies homes k here in
-      let ordered = numbered_are_ordered d.buffers bodies homes k is.numbered at args in
+      let ordered = numbered_are_ordered d.buffers bodies homes k is.numbered is.overlaps at args in
       subst (HaveBefore here b []) (sym (named_within None d.entry d.term
       ∙ ap₂ (λ (e : List ℕ) (t : Term). Open e (named_in t)) is.entry is.term))
-      (entry_behind here b o bodies homes ordered.forms n args (home_buffers (homes 0).params) ordered.entry
+      (entry_behind here b o bodies homes is.overlaps ordered.forms n args (home_buffers (homes 0).params) ordered.entry
       ordered.locals ordered.round)
 
   placeable : HasNumbers d nodes → IsPlaceable d nodes

@@ -1,6 +1,6 @@
 -- Lists of buffers: those that stand on a stack, those of parameters, and those that leave loops.
 use Rattle.std.proofs.Common.{◌≡◌, ℕ, zero, suc, ◌+◌, ◌<◌, ◌≤◌, Bool, true, false, List, [], ◌∷◌, ◌++◌, take, drop}
-use Rattle.std.proofs.Common.{length, get_or, slice_get, Option, Some, None, refl, sym, ap, subst, ◌∙◌, arith}
+use Rattle.std.proofs.Common.{length, get_or, slice_get, Option, Some, None, refl, sym, ap, ap₂, subst, ◌∙◌, arith}
 use Rattle.std.specs.Prelude.{if◌then◌else◌}
 use Rattle.std.proofs.lemmas.List.{append-nil}
 use Rattle.sq_blocks.specs.declared.argument.Argument.{Argument}
@@ -8,12 +8,14 @@ use Rattle.sq_spec.specs.declared.statement.CallInstance.{CallInstance}
 use Rattle.sq_placed.specs.declared.home.Home.{Home}
 use Rattle.sq_placed.specs.declared.home.Home.TheVariants.{InPlace}
 use Rattle.sq_placed.specs.declared.home.Homes.{Homes}
-use Rattle.sq_placed.specs.Trees.{buffer_of, held_of}
+use Rattle.sq_placed.specs.Trees.{buffer_of, twin_of, held_of}
 use Rattle.sq_placed.specs.Tables.{leaves_loop, leaving_args, leaving_row, row_form}
-use Rattle.sq_term.specs.Terms.{buffers_from, leaving_buffers}
+use Rattle.sq_term.specs.Terms.{buffers_from, set_buffers_from, leaving_buffers}
 use Rattle.sq_nests.specs.Stacks.{those, OnStack}
-use Rattle.sq_rooms.specs.Orders.{held_at, held_over, params_of}
-use Rattle.sq_rooms.specs.Callers.{home_buffers}
+use Rattle.sq_rooms.specs.Orders.{EachOf, held_at, held_over, params_of, call_buffers}
+use Rattle.sq_rooms.specs.Overlapping.{IsSuited}
+use Rattle.sq_rooms.specs.Callers.{home_buffers, home_set}
+use Rattle.sq_rooms.proofs.Overlaps.{no_twin, nothing_more}
 
 pub append_assoc : (xs ys zs : List ℕ) → (xs ++ ys) ++ zs ≡ xs ++ (ys ++ zs)
 append_assoc [] ys zs = refl
@@ -68,6 +70,38 @@ same_buffers hs i [] e = ap home_buffers (sym (drop_end hs i (omega (arith, e)))
 same_buffers hs i (a ∷ rest) e =
     ap (buffer_of (get_or hs i InPlace)) (same_buffers hs (suc i) rest (omega (arith, e)))
     ∙ ap home_buffers (sym (drop_one hs i (omega (arith, e))))
+
+same_sets : (set : ℕ) (hs : List Home) (i : ℕ) (args : List Argument) → i + length args ≡ length hs
+    → set_buffers_from set hs i args ≡ home_set set (drop i hs)
+same_sets set hs i [] e = ap (home_set set) (sym (drop_end hs i (omega (arith, e))))
+same_sets set hs i (a ∷ rest) e =
+    ap (twin_of set (get_or hs i InPlace)) (same_sets set hs (suc i) rest (omega (arith, e)))
+    ∙ ap (home_set set) (sym (drop_one hs i (omega (arith, e))))
+
+-- of parameters that leave no loop
+abbrev pub moved_buffers : List Home → List ℕ
+moved_buffers hs = home_buffers hs ++ (home_set 0 hs ++ home_set 1 hs)
+
+pub with_more : (hs : List Home) (more : List ℕ)
+    → home_buffers hs ++ (home_set 0 hs ++ (home_set 1 hs ++ more)) ≡ moved_buffers hs ++ more
+with_more hs more = sym (append_assoc (home_buffers hs) (home_set 0 hs ++ home_set 1 hs) more
+    ∙ ap (λ z. home_buffers hs ++ z) (append_assoc (home_set 0 hs) (home_set 1 hs) more))
+
+pub same_moved : (hs : List Home) (args : List Argument) → length args ≡ length hs
+    → call_buffers hs args ≡ moved_buffers hs
+same_moved hs args e =
+    let z : 0 + length args ≡ length hs = omega (arith, e) in
+    ap₂ (λ x y. x ++ y) (same_buffers hs 0 args z)
+    (ap₂ (λ x y. x ++ y) (same_sets 0 hs 0 args z) (same_sets 1 hs 0 args z))
+
+no_sets : (set : ℕ) (hs : List Home) → EachOf (IsSuited false) hs → home_set set hs ≡ []
+no_sets set [] h = refl
+no_sets set (x ∷ hs) h = no_twin set x (home_set set hs) h.0 ∙ no_sets set hs h.1
+
+-- of a form that doesn't overlap its transfers
+pub moved_once : (hs : List Home) → EachOf (IsSuited false) hs → moved_buffers hs ≡ home_buffers hs
+moved_once hs h = ap₂ (λ x y. home_buffers hs ++ (x ++ y)) (no_sets 0 hs h) (no_sets 1 hs h)
+    ∙ nothing_more (home_buffers hs)
 
 -- those that leave a loop, in order
 pub same_held : (j : ℕ) (hs : List Home) (i : ℕ) (args : List Argument) → i + length args ≡ length hs

@@ -8,15 +8,21 @@ use Rattle.sq_spec.specs.declared.statement.CallInstance.{CallInstance}
 use Rattle.sq_spec.specs.declared.body.FormBody.{FormBody}
 use Rattle.sq_placed.specs.declared.home.Home.{Home}
 use Rattle.sq_placed.specs.declared.home.Homes.{Homes}
-use Rattle.sq_placed.specs.Trees.{buffer_of, local_buffers}
+use Rattle.sq_placed.specs.Trees.{buffer_of, twin_of, local_buffers}
 use Rattle.sq_placed.specs.Tables.{locals_of}
 use Rattle.sq_term.specs.Terms.{entry_row}
 use Rattle.sq_nests.specs.Stacks.{of_level, those, OnStack}
+use Rattle.sq_rooms.specs.Overlapping.{OverlapsStand}
 use Rattle.sq_rooms.specs.Orders.{EachOf, Round, rounds_of, held_over, round_held, own_locals, AreInOrder}
 
 abbrev pub home_buffers : List Home → List ℕ
 home_buffers [] = []
 home_buffers (h ∷ hs) = buffer_of h (home_buffers hs)
+
+-- those of one of the two sets
+abbrev pub home_set : (set : ℕ) → List Home → List ℕ
+home_set set [] = []
+home_set set (h ∷ hs) = twin_of set h (home_set set hs)
 
 -- Of a buffer its form, and how many buffers of its form stand in front of it; of a form its caller, and how many loops
 -- stand round its call.
@@ -28,10 +34,12 @@ pub record Numbering : Type 0 where
 
 module _ (buffers : List Buffer) (bodies : ℕ → FormBody) (homes : ℕ → Homes) (k : Numbering) where
   -- the buffers of a form: its arguments that leave loops, those that leave more in front, then its other arguments,
-  -- and behind them its locals
+  -- twice where the loop of its call overlaps its transfers, and behind them its locals
   abbrev pub own : ℕ → List ℕ
   own f = held_over (k.loops f) 0 (homes f).params
-      ++ (home_buffers (homes f).params ++ local_buffers (locals_of (bodies f) (homes f)))
+      ++ (home_buffers (homes f).params
+      ++ (home_set 0 (homes f).params
+      ++ (home_set 1 (homes f).params ++ local_buffers (locals_of (bodies f) (homes f)))))
 
   -- those that pass a test, with those of its caller in front, and so on
   abbrev pub stack : (here : ℕ → Bool) → (fuel : ℕ) → ℕ → List ℕ
@@ -79,5 +87,5 @@ module _ (buffers : List Buffer) (bodies : ℕ → FormBody) (homes : ℕ → Ho
 
 abbrev pub NumberedAreOrdered : Type 0
 NumberedAreOrdered = (buffers : List Buffer) (bodies : ℕ → FormBody) (homes : ℕ → Homes) (k : Numbering)
-    → AreNumbered buffers bodies homes k → (level : ℕ) (args : List Argument)
+    → AreNumbered buffers bodies homes k → OverlapsStand bodies homes → (level : ℕ) (args : List Argument)
     → AreOrdered buffers bodies homes k level args

@@ -1,5 +1,5 @@
 -- What holds of the scopes of drafts.
-use Rattle.std.specs.Prelude.{◌≡◌, ℕ, suc, ◌<◌, ◌++◌, Bool, List, []}
+use Rattle.std.specs.Prelude.{◌≡◌, ℕ, suc, ◌<◌, ◌++◌, Bool, false, List, []}
 use Rattle.sq_ir.specs.Written.{Setting, scoped}
 use Rattle.sq_spec.specs.declared.body.FormBody.{FormBody}
 use Rattle.sq_placed.specs.declared.home.Homes.{Homes}
@@ -16,6 +16,7 @@ use Rattle.sq_nests.specs.Stacks.{those, OnStack, HaveBefore, AreAside}
 use Rattle.sq_nests.specs.Under.{IsForest}
 use Rattle.sq_rooms.specs.Rooms.{IsSpreadWell}
 use Rattle.sq_rooms.specs.Orders.{own_locals, AreInOrder}
+use Rattle.sq_rooms.specs.Overlapping.{OverlapsStand}
 
 -- scopes beside one another never have one node
 abbrev pub TreesAreAside : Type 0
@@ -28,13 +29,13 @@ TreesAreAside = (s : Setting) (depth : ℕ → ℕ) → IsForest s depth → (le
 -- each buffer stands behind the same others wherever a scope names it
 abbrev pub TermsStack : Type 0
 TermsStack = (here : ℕ → Bool) (before outer : ℕ → List ℕ) (bodies : ℕ → FormBody) (homes : ℕ → Homes)
-    → AreInOrder here before outer bodies homes
+    → OverlapsStand bodies homes → AreInOrder here before outer bodies homes
     → (d form : ℕ) (c : Context) → HaveBefore here before (outer form) (named_in (term_of bodies homes d form c))
 
 -- the same of a whole draft, whose entry's buffers are in scope round its term
 abbrev pub EntryStacks : Type 0
 EntryStacks = (here : ℕ → Bool) (before outer : ℕ → List ℕ) (bodies : ℕ → FormBody) (homes : ℕ → Homes)
-    → AreInOrder here before outer bodies homes
+    → OverlapsStand bodies homes → AreInOrder here before outer bodies homes
     → (d : ℕ) (args : List Argument) (entry : List ℕ) → OnStack before [] (those here entry)
     → OnStack before (those here entry) (own_locals here before outer bodies homes (entry_row args))
     → outer 0 ≡ those here entry ++ own_locals here before outer bodies homes (entry_row args)
@@ -47,9 +48,9 @@ EntryIsAside = (s : Setting) (depth : ℕ → ℕ) → IsForest s depth → (lev
     → IsSpreadWell levels 0 (entry_placed bodies homes n args)
     → AreAside (scoped 0 entry (tree s (entry_placed bodies homes n args) 0 0 seats []))
 
--- What is placed by the tables is spread well, where each form has its level and a callee's is its caller's or the
--- next.
+-- What is placed by the tables is spread well, where each form has its level, a callee's is its caller's or the next,
+-- and the entry, round which there is no loop, overlaps no transfers.
 abbrev pub PlacedIsSpreadWell : Type 0
 PlacedIsSpreadWell = (bodies : ℕ → FormBody) (homes : ℕ → Homes) (level : ℕ → ℕ) (levels : ℕ)
-    → ((f : ℕ) → level f < levels) → ((f : ℕ) → AreLevel level (level f) (calls_of (bodies f).body))
+    → (homes 0).overlaps ≡ false → ((f : ℕ) → level f < levels) → ((f : ℕ) → AreLevel level (level f) (calls_of (bodies f).body))
     → (n k : ℕ) → IsSpreadWell levels (level k) (placed_of bodies homes n k)

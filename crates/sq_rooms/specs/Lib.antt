@@ -5,3 +5,4 @@ pub mod Callers
 pub mod Lowered
 pub mod Laws
 pub mod Lowers
+pub mod Overlapping

@@ -8,9 +8,11 @@ use Rattle.sq_ir.specs.declared.plan.PlanNode.{PlanNode}
 use Rattle.sq_blocks.specs.declared.argument.Argument.{Argument}
 use Rattle.sq_spec.specs.declared.body.FormBody.{FormBody}
 use Rattle.sq_placed.specs.declared.home.Homes.{Homes}
+use Rattle.sq_placed.specs.Pipes.{PipesStand}
 use Rattle.sq_term.specs.Terms.{entry_term}
 use Rattle.sq_term.specs.Stands.{AreLeveled}
 use Rattle.sq_nests.specs.Drafts.{whole, Nothing, IsPlaceable}
+use Rattle.sq_rooms.specs.Overlapping.{OverlapsStand}
 use Rattle.sq_rooms.specs.Callers.{home_buffers, Numbering, AreNumbered}
 
 pub record IsLowered (d : Draft) (nodes : List PlanNode) (bodies : ℕ → FormBody) (homes : ℕ → Homes) (n : ℕ)
@@ -19,6 +21,8 @@ pub record IsLowered (d : Draft) (nodes : List PlanNode) (bodies : ℕ → FormB
   pub term : d.term ≡ entry_term bodies homes n args
   pub entry : d.entry ≡ home_buffers (homes 0).params
   pub numbered : AreNumbered d.buffers bodies homes k
+  pub pipes : PipesStand bodies homes
+  pub overlaps : OverlapsStand bodies homes
   -- whatever the offsets: only the levels of buffers are looked at
   pub leveled : (offset : ℕ → ℕ) → AreLeveled (placed d.buffers nodes offset) bodies homes level
   pub root : level 0 ≡ 0

@@ -2,6 +2,7 @@
 -- call.
 use Rattle.std.specs.Prelude.{◌≡◌, ℕ, zero, suc, Bool, List, [], ◌∷◌, ◌++◌, map, length, Option, Some, None, slice_get}
 use Rattle.std.specs.Prelude.{if◌then◌else◌}
+use Rattle.sq_blocks.specs.declared.argument.Argument.{Argument}
 use Rattle.sq_spec.specs.declared.statement.LoopKind.{LoopKind}
 use Rattle.sq_spec.specs.declared.statement.LoopKind.TheVariants as loop_kind
 use Rattle.sq_spec.specs.declared.statement.CallInstance.{CallInstance}
@@ -15,7 +16,7 @@ use Rattle.sq_placed.specs.declared.home.Home.{Home}
 use Rattle.sq_placed.specs.declared.home.Homes.{Homes}
 use Rattle.sq_placed.specs.Trees.{held_of, local_buffers}
 use Rattle.sq_placed.specs.Tables.{leaves_loop, locals_of}
-use Rattle.sq_term.specs.Terms.{buffers_from}
+use Rattle.sq_term.specs.Terms.{buffers_from, set_buffers_from}
 use Rattle.sq_nests.specs.Stacks.{those, OnStack}
 
 abbrev pub EachOf : {A : Type 0} → (A → Type 0) → List A → Type 0
@@ -72,11 +73,17 @@ module _ (homes : ℕ → Homes) where
   abbrev pub round_held : Round → List ℕ
   round_held q = held_over q.loops 0 (params_of (slice_get q.rows 0))
 
+-- ---- the buffers of a call
+
+-- those of its arguments, or both sets of a loop that overlaps its transfers
+abbrev pub call_buffers : List Home → List Argument → List ℕ
+call_buffers hs args = buffers_from hs 0 args ++ (set_buffers_from 0 hs 0 args ++ set_buffers_from 1 hs 0 args)
+
 -- ---- buffers that pass a test, as those of one level
 
 module _ (here : ℕ → Bool) (before : ℕ → List ℕ) (outer : ℕ → List ℕ) (bodies : ℕ → FormBody) (homes : ℕ → Homes) where
   abbrev pub arguments_of : CallInstance → List ℕ
-  arguments_of r = those here (buffers_from (homes r.form).params 0 r.args)
+  arguments_of r = those here (call_buffers (homes r.form).params r.args)
 
   abbrev pub own_locals : CallInstance → List ℕ
   own_locals r = those here (local_buffers (locals_of (bodies r.form) (homes r.form)))

@@ -22,11 +22,11 @@ use Rattle.sq_ir.specs.declared.term.Term.TheVariants as term
 use Rattle.sq_placed.specs.declared.home.Home.{Home}
 use Rattle.sq_placed.specs.declared.home.Home.TheVariants.{InPlace, Own, Held, Twin}
 use Rattle.sq_term.specs.declared.context.Move.{Move}
-use Rattle.sq_placed.specs.Trees.{is_moved}
+use Rattle.sq_placed.specs.Trees.{is_moved, is_held}
 use Rattle.sq_term.specs.Terms.{numbers, row_slot, lift_view, by_rows, copy_term, fill_term, add_term, copy_in_term}
 use Rattle.sq_term.specs.Terms.{copy_out_term, bring_term_by, bring_term, back_term_by, back_term, hold_in_term_by}
 use Rattle.sq_term.specs.Terms.{hold_in_term, hold_out_term_by, hold_out_term, buffer_view, own_view, with_table}
-use Rattle.sq_term.specs.Terms.{unless_zero, block_view}
+use Rattle.sq_term.specs.Terms.{unless_zero, block_view, come_in_term, fill_held_term}
 use Rattle.sq_term.specs.Stands.{IsNumber}
 use Rattle.sq_term_fit.specs.Fits.{Has}
 use Rattle.sq_term_fit.specs.Rooms.{InRow, RowsInside, IsLined, one, two, three, AreSmall, IsShaped, IsRoomy}
@@ -217,6 +217,16 @@ module _ (s : Setting) (sizes : HaveSizes s) (eight : IsValue Long (pos 8)) (env
         go None Input = if_good (is_moved m.home) (copy_in_term m) come
         go None Output = fill_good (pos 0) m.own h.own
         go None Both = if_good (is_moved m.home) (copy_in_term m) come
+
+    pub come_good : Good (come_in_term m)
+    come_good = go (is_held m.home)
+      where
+        go : (b : Bool) → Good (if b then term.Skip else bring_term m)
+        go true = fine_skip s (RowsInside s) env bs
+        go false = bring_good
+
+    pub begin_good : Good (fill_held_term m)
+    begin_good = if_good (is_held m.home) (bring_term m) bring_good
 
     pub back_good : Good (back_term m)
     back_good = go m.gathers m.mode

@@ -181,7 +181,7 @@ module _ (level : ℕ → ℕ) (at : ℕ) (bodies : ℕ → FormBody) (homes : �
       (any_lower (map built (these xs))) (any_same (map built (these xs))))
       (sym (calls_map place m counts starts (these xs))) (alones m starts xs)))
 
-  alone_in : (x : Statement) → IsAlone x
+  pub alone_in : (x : Statement) → IsAlone x
   alone_in = ind-Statement IsAlone (λ x y is. subst (λ z. IsAlone (roll-Statement z)) is (alone_step y))
 
   -- of a map

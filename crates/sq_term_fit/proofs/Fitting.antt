@@ -1,6 +1,6 @@
 -- A built term is well formed: its numbers have their values where they are met, and its scopes name what is there.
 use Rattle.std.proofs.Common.{◌≡◌, ℕ, zero, suc, ◌+◌, ◌*◌, ◌/◌, ◌%◌, ◌<◌, ◌≤◌, ◌==◌, ◌≤ℤ◌, ℤ, pos, Bool, true, false}
-use Rattle.std.proofs.Common.{not, ◌||◌, is_some, List, [], ◌∷◌, map, length, get_or, slice_get, drop, Option, Some}
+use Rattle.std.proofs.Common.{not, ◌||◌, is_some, List, [], ◌∷◌, ◌++◌, map, length, get_or, slice_get, drop, Option, Some}
 use Rattle.std.proofs.Common.{None, refl, sym, ap, subst, ◌∙◌, arith, if◌then◌else◌}
 use Rattle.std.proofs.lemmas.Bool.Decides.{nat_tests}
 use Rattle.std.proofs.Math.Nat.{mod-lt, div-lt_iff_lt-mul, mul_comm, mul-lt-mul_of_pos_right}
@@ -33,12 +33,13 @@ use Rattle.sq_placed.specs.declared.home.Home.TheVariants.{InPlace, Own, Held, T
 use Rattle.sq_term.specs.declared.context.Context.{Context}
 use Rattle.sq_term.specs.declared.context.Move.{Move}
 use Rattle.sq_placed.specs.Seats.{cons_some}
-use Rattle.sq_placed.specs.Trees.{is_moved, buffer_of, held_of, local_buffers}
+use Rattle.sq_placed.specs.Trees.{is_moved, is_held, buffer_of, held_of, twin_of, local_buffers}
 use Rattle.sq_placed.specs.Tables.{no_shape, placed_locals}
 use Rattle.sq_term.specs.Terms.{numbers, child_in, in_map, by_rows, clear_term, copy_in_term, copy_out_term}
 use Rattle.sq_term.specs.Terms.{bring_term_by, bring_term, back_term_by, back_term, hold_in_term_by, hold_in_term}
 use Rattle.sq_term.specs.Terms.{hold_out_term_by, hold_out_term, local_view, offsets, own_view, move_of, moves_from}
-use Rattle.sq_term.specs.Terms.{buffers_from, held_move, held_moves, leaving_buffers}
+use Rattle.sq_term.specs.Terms.{buffers_from, set_buffers_from, held_move, held_moves, leaving_buffers}
+use Rattle.sq_term.specs.Terms.{come_in_term, fill_held_term}
 use Rattle.sq_term.specs.Stands.{IsNumber, IsOf, AreOf, LocalsOf, below}
 use Rattle.sq_term_fit.specs.Fits.{Bounds, AreBounds, IsMachine, IsThere, AreThere, LocalsThere, HaveRows, Way}
 use Rattle.sq_term_fit.specs.Fits.{to_child, entered, Fits}
@@ -63,6 +64,11 @@ all_none P k d l = absurd (omega (arith, l))
 pub all_more : {X : Type 0} (P : X → Type 0) (x : X) (xs : List X) → P x → All P xs → All P (x ∷ xs)
 all_more P x xs h g zero d l = h
 all_more P x xs h g (suc k) d l = g k d (omega (arith, l))
+
+pub all_append : {X : Type 0} (P : X → Type 0) (xs ys : List X) → All P xs → All P ys → All P (xs ++ ys)
+all_append P [] ys h g = g
+all_append P (x ∷ xs) ys h g =
+    all_more P x (xs ++ ys) (h 0 x (omega arith)) (all_append P xs ys (λ k d l. h (suc k) d (omega (arith, l))) g)
 
 -- ---- rows
 
@@ -115,6 +121,16 @@ module _ (s : Setting) (env : Env) (bs : List ℕ) where
       go None Input = fine_skip s Nothing env bs
       go None Output = if_fine (is_moved m.home) (copy_out_term m) (rows_fine m.own.extents _ h)
       go None Both = if_fine (is_moved m.home) (copy_out_term m) (rows_fine m.own.extents _ h)
+
+  pub come_fine : (m : Move) → IsRowed m → Fine s (come_in_term m) env bs
+  come_fine m h = go (is_held m.home)
+    where
+      go : (b : Bool) → Fine s (if b then term.Skip else bring_term m) env bs
+      go true = fine_skip s Nothing env bs
+      go false = bring_fine m h
+
+  pub fill_fine : (m : Move) → IsRowed m → Fine s (fill_held_term m) env bs
+  fill_fine m h = if_fine (is_held m.home) (bring_term m) (bring_fine m h)
 
   pub hold_in_fine : (m : Move) → IsRowed m → Fine s (hold_in_term m) env bs
   hold_in_fine m h = go m.mode
@@ -199,6 +215,22 @@ module _ (s : Setting) (level : ℕ) where
   with_held (Held b loops) more o t g = all_more (IsBuffer s level) b more (record { there = t; level = o }) g
   with_held (Twin b c) more o t g = g
 
+  with_twin : (set : ℕ) (h : Home) (more : List ℕ) → IsOf s level h → IsThere s h → All (IsBuffer s level) more
+      → All (IsBuffer s level) (twin_of set h more)
+  with_twin set InPlace more o t g = g
+  with_twin set (Own b) more o t g = g
+  with_twin set (Held b loops) more o t g = g
+  with_twin zero (Twin b c) more o t g = all_more (IsBuffer s level) b more (record { there = t.0; level = o.0 }) g
+  with_twin (suc k) (Twin b c) more o t g = all_more (IsBuffer s level) c more (record { there = t.1; level = o.1 }) g
+
+  -- of both sets
+  pub set_there : (set : ℕ) (hs : List Home) → AreOf s level hs → AreThere s hs → (i : ℕ) (args : List Argument)
+      → All (IsBuffer s level) (set_buffers_from set hs i args)
+  set_there set hs o t i [] = all_none (IsBuffer s level)
+  set_there set hs o t i (a ∷ rest) = let h
+      = home_of hs o t i in with_twin set (get_or hs i InPlace) (set_buffers_from set hs (suc i) rest) h.0 h.1
+      (set_there set hs o t (suc i) rest)
+
   pub call_there : (hs : List Home) → AreOf s level hs → AreThere s hs → (i : ℕ) (args : List Argument)
       → All (IsBuffer s level) (buffers_from hs i args)
   call_there hs o t i [] = all_none (IsBuffer s level)
@@ -247,12 +279,12 @@ or_right false b h = cc
 module _ (s : Setting) (most : Bounds) (bounds : AreBounds most) (last : ℕ) (is_at : ℕ → ℕ → Type 0)
     (machine : IsMachine s most last is_at) where
   pub uses_fit : (k : ℕ) → k ≤ most.uses → IsValue Long (pos k)
-  uses_fit k l = let r = le_times most.uses most.children bounds.some in less_fits k (most.uses * most.children)
-      (omega (arith, l, r)) bounds.fits
+  uses_fit k l = let r = le_times (suc most.uses) (suc most.children) (omega arith) in
+      less_fits k (suc most.uses * suc most.children) (omega (arith, l, r)) bounds.fits
 
   product_fits : (t c : ℕ) → t ≤ most.uses → c ≤ most.children → IsValue Long (pos (t * c))
-  product_fits t c h g = less_fits (t * c) (most.uses * most.children) (times_le t c most.uses most.children h g)
-      bounds.fits
+  product_fits t c h g = less_fits (t * c) (suc most.uses * suc most.children)
+      (times_le t c (suc most.uses) (suc most.children) (omega (arith, h)) (omega (arith, g))) bounds.fits
 
   -- where a callee stands
   pub record Inside (env : Env) (level : ℕ) : Type 0 where

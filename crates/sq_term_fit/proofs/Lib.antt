@@ -5,6 +5,9 @@ pub mod Fitting
 pub mod Chains
 pub mod Meeting
 pub mod Rooming
+pub mod LaneNumbers
+pub mod Piping
+pub mod CallLoops
 pub mod Blocks
 pub mod Views
 pub mod Seeing

@@ -1,7 +1,8 @@
 -- The induction over statements, and over forms.
 use Rattle.std.proofs.Common.{◌≡◌, ℕ, zero, suc, ◌+◌, ◌<◌, ◌≤◌, pos, Bool, true, false, not, ◌&&◌, ◌||◌, is_some, List}
 use Rattle.std.proofs.Common.{[], ◌∷◌, ◌++◌, map, length, get_or, slice_get, drop, Option, Some, None, refl, sym, ap}
-use Rattle.std.proofs.Common.{subst, ◌∙◌, arith, if◌then◌else◌, ◌⊎◌, inl, inr}
+use Rattle.std.proofs.Common.{subst, ◌∙◌, arith, if◌then◌else◌, ◌⊎◌, inl, inr, ℤ, ◌*◌}
+use Rattle.std.specs.Prelude.{nat_abs}
 use Rattle.std.specs.List.{All, list_any}
 use Rattle.sq_num.specs.declared.RedOp.{RedOp}
 use Rattle.sq_num.specs.declared.Elem.TheVariants.{Long}
@@ -29,22 +30,26 @@ use Rattle.sq_placed.specs.declared.home.Home.{Home}
 use Rattle.sq_placed.specs.declared.home.Homes.{Homes}
 use Rattle.sq_term.specs.declared.context.Context.{Context}
 use Rattle.sq_term.specs.declared.context.Move.{Move}
-use Rattle.sq_placed.specs.Trees.{local_buffers}
+use Rattle.sq_placed.specs.Trees.{home_in_set, local_buffers}
 use Rattle.sq_placed.specs.Tables.{locals_of, op_of, spread_of, is_beside, Chain, chain_of}
-use Rattle.sq_placed.specs.Tables.{row_form, leaving_row, leaving_chain, chain_form}
+use Rattle.sq_placed.specs.Tables.{row_form, leaving_row, leaving_chain, chain_form, Pipe, pipe_of}
+use Rattle.sq_placed.specs.Pipes.{all_loops, loop_round, call_loops, call_loops_of, IsPiped, LoopsStand}
+use Rattle.sq_placed.specs.Pipes.{PipesStand}
 use Rattle.sq_term.specs.Terms.{numbers, moves_from, buffers_from, in_callee, call_child, arms_of, arms_from, with_arm}
 use Rattle.sq_term.specs.Terms.{is_same_arm, arm_number, picks, TermPart, any_lower, any_same, chains, all_terms}
 use Rattle.sq_term.specs.Terms.{in_map, map_term, arm_term, arm_of_form, rows_term, count_num, loop_term}
 use Rattle.sq_term.specs.Terms.{statement_term, first_num, held_moves, leaving_buffers, hold_in_term, hold_out_term}
 use Rattle.sq_term.specs.Terms.{at_child_already, chain_times, chain_num, hold_term, body_term, term_of, entry_context}
-use Rattle.sq_term.specs.Terms.{entry_row, entry_term}
+use Rattle.sq_term.specs.Terms.{entry_row, entry_term, set_buffers_from, callee_term, lift_context, at_iteration}
+use Rattle.sq_term.specs.Terms.{come_in_term, fill_held_term, back_term, come_term, leave_term, row_args, lanes_term}
+use Rattle.sq_term.specs.Terms.{pipe_moves, pipe_work, twin_sets, pipe_term, run_term}
 use Rattle.sq_term.specs.Stands.{IsNumber, below, calls_in_rows, all_calls, calls_in, calls_in_all, calls_of, AreLevel}
 use Rattle.sq_term.specs.Stands.{AreLeveled}
 use Rattle.sq_term_fit.specs.Laws.{TermIsFine, EntryIsFine}
 use Rattle.sq_term_fit.specs.Fits.{Bounds, AreBounds, IsMachine, AskedOfStatement, HaveCounts, all_parts}
 use Rattle.sq_term_fit.specs.Fits.{Tabled}
 use Rattle.sq_term_fit.specs.Fits.{TabledBody, AreTabled, Has, Way, to_child, entered, Fits, NodeAt}
-use Rattle.sq_term.proofs.Numbers.{constant, table_is}
+use Rattle.sq_term.proofs.Numbers.{constant, index_is, table_is}
 use Rattle.sq_term.proofs.Numbers as numbers_of
 use Rattle.sq_term.proofs.Arms.{arm_of_row, pick_of, picks_are}
 use Rattle.sq_term.proofs.Maps.{MayBe, may_be}
@@ -52,12 +57,18 @@ use Rattle.sq_term.proofs.Holds.{row_level}
 use Rattle.sq_term.proofs.Same.{level_left, level_right, or_left, or_rest}
 use Rattle.sq_term.proofs.Opened.{built_call, built_map, calls_call, calls_map}
 use Rattle.sq_term_fit.proofs.Chains.{tabled_call, tabled_map, Alone, map_alone}
-use Rattle.sq_term_fit.proofs.Fine.{zero_fits, const_has, pick_has, counts_has, fine_skip, fine_act, fine_seq, fine_par}
+use Rattle.sq_term_fit.proofs.Fine.{less_fits, count_is, turn_has, zero_fits, const_has, pick_has, counts_has, fine_skip, fine_act, fine_seq, fine_par}
 use Rattle.sq_term_fit.proofs.Fine.{fine_loop}
 use Rattle.sq_term_fit.proofs.Fine.{fine_spread, fine_case, fine_within, fine_all, fine_arm}
 use Rattle.sq_term_fit.proofs.Fitting.{Nothing, Fine, IsRowed, rows_dropped, bring_fine, back_fine, hold_in_fine}
 use Rattle.sq_term_fit.proofs.Fitting.{hold_out_fine, clears_fine, moves_rowed, held_rowed, call_there, leaving_there}
-use Rattle.sq_term_fit.proofs.Fitting.{kept_there, uses_fit, Inside, goes_in, begins, in_turn, narrow}
+use Rattle.sq_term_fit.proofs.Fitting.{kept_there, uses_fit, Inside, goes_in, begins, in_turn, narrow, set_there}
+use Rattle.sq_term_fit.proofs.Fitting.{all_none, all_append, times_le, come_fine, fill_fine}
+use Rattle.sq_term_fit.specs.Rooms.{IsCounted}
+use Rattle.sq_term_fit.proofs.LaneNumbers.{count_counted}
+use Rattle.sq_term_fit.proofs.Piping.{Part, whole_meets, spread_meets}
+use Rattle.sq_placed.proofs.Pipes.{loops_left, loops_right, map_loops}
+use Rattle.sq_term_fit.proofs.CallLoops.{IsPipedCall, piped_call}
 
 -- ---- arms
 
@@ -198,6 +209,119 @@ module _ (s : Setting) (most : Bounds) (bounds : AreBounds most) (last : ℕ) (i
         go (Some r) e = lists r.form (row_level level at true o.instances 0 r (alone.2 deep) e)
             (leaving_row homes o.loops (Some r)) (held r e)
 
+  -- no more than its last iteration has a number
+  pub few_turns : (counts starts : List ℕ) (n k inner : ℕ) → inner ≤ most.uses
+      → ((k t : ℕ) → k < n → t < get_or counts k 0 → get_or starts k 0 + t < inner) → k < n
+      → get_or counts k 0 ≤ most.uses
+  few_turns counts starts n k inner few asked l = go (get_or counts k 0) refl
+    where
+      go : (z : ℕ) → z ≡ get_or counts k 0 → z ≤ most.uses
+      go zero e = omega arith
+      go (suc z) e = let g = asked k z l (omega (arith, e)) in omega (arith, g, few)
+
+  -- ---- a loop whose transfers overlap
+
+  -- the buffers of both sets are there
+  sets_there : (made : ℕ → Context → Term) (at : ℕ) (rows : List CallInstance)
+      → AreLevel level at (calls_in_rows true rows) → All (IsBuffer s (suc at)) (twin_sets bodies homes made rows)
+  sets_there made at [] deep = all_none (IsBuffer s (suc at))
+  sets_there made at (r ∷ rest) deep =
+      let hs = (homes r.form).params in
+      let first = set_buffers_from 0 hs 0 r.args in
+      let second = set_buffers_from 1 hs 0 r.args in
+      subst (λ (l : ℕ). All (IsBuffer s l) (first ++ second)) deep.0
+      (all_append (IsBuffer s (level r.form)) first second
+      (set_there s (level r.form) 0 hs (leveled.params r.form) (tabled.params r.form) 0 r.args)
+      (set_there s (level r.form) 1 hs (leveled.params r.form) (tabled.params r.form) 0 r.args))
+
+  -- the form of its call stands at the next level, where there is a row
+  pub form_level : (at : ℕ) (rows : List CallInstance) (i : ℕ) (r : CallInstance) → slice_get rows i ≡ Some r
+      → AreLevel level at (calls_in_rows true rows) → level (row_form (slice_get rows 0)) ≡ suc at
+  form_level at [] i r e deep = cc
+  form_level at (x ∷ rest) i r e deep = deep.0
+
+  abbrev pub AtChild : ℕ → Env → Type 0
+  AtChild at env = Inside s most bounds last is_at machine env (suc at)
+
+  pub turned_at : (at : ℕ) (env : Env) (t : ℕ) → AtChild at env → AtChild at (at_turn env t)
+  turned_at at env t h = record { level_is = h.level_is; here = h.here }
+
+  module _ (asked : AskedOfActions) (at : ℕ) (made : ℕ → Context → Term) (rows : List CallInstance)
+      (deep : AreLevel level at (calls_in_rows true rows)) (low : at < last) (counts starts : List ℕ) (k : ℕ)
+      (few : get_or counts k 0 ≤ most.uses) (Sees : List ℕ → Context → Type 0)
+      (lifts : (turns : List ℕ) (t : ℕ) (c : Context) → Sees turns c → Sees (t ∷ turns) (lift_context c)) where
+    pub count_fits : IsValue Long (pos (get_or counts k 0))
+    count_fits = uses_fit s most bounds last is_at machine (get_or counts k 0) few
+
+    abbrev pub PartOf : (ℕ → Context → Term) → Type 0
+    PartOf = Part s asked (get_or counts k 0) count_fits starts (AtChild at) (turned_at at) Sees lifts
+
+    pub lanes_meet : (come work leave : ℕ → Context → Term) → PartOf come → PartOf work → PartOf leave
+        → (spread : Option SpreadRule) (c : Context) (env : Env) (inside : Bool) (bs : List ℕ) → MayBe spread inside
+        → Fits s last is_at env at c inside false k → Sees env.turns c
+        → IsCounted s env.turns (count_num counts c) (get_or counts k 0)
+        → Meets s asked (lanes_term spread (count_num counts c) starts (twin_sets bodies homes made rows) c come work
+        leave) env bs
+    lanes_meet come work leave comes works leaves None c env inside bs may h sees counted =
+        whole_meets s asked (get_or counts k 0) count_fits starts (AtChild at) (turned_at at) Sees lifts come work leave
+        comes works leaves env bs (twin_sets bodies homes made rows) c (count_num counts c) goes.1
+        (subst (λ (l : ℕ). All (IsBuffer s l) (twin_sets bodies homes made rows)) (sym goes.0.level_is)
+        (sets_there made at rows deep)) goes.0
+        (subst (λ (t : List ℕ). Sees t c) (sym (turns c.child)) sees)
+        (subst (λ (t : List ℕ). IsCounted s t (count_num counts c) (get_or counts k 0)) (sym (turns c.child)) counted)
+      where
+        goes : AtChild at (inside_of s env c.child) × IsChild s env c.child
+        goes = goes_in s most bounds last is_at machine env at true inside h.here (λ e. low) h.way
+
+        turns : (p : Option Num) → (inside_of s env p).turns ≡ env.turns
+        turns None = refl
+        turns (Some x) = refl
+    lanes_meet come work leave comes works leaves (Some rule) c env inside bs may h sees counted =
+        spread_meets s asked (get_or counts k 0) count_fits starts (AtChild at) (turned_at at) Sees lifts come work
+        leave comes works leaves most bounds few rule env bs (twin_sets bodies homes made rows) c (count_num counts c)
+        (machine.some env.level (node_of env) h.here (let e = at_level h.way in omega (arith, e, low)))
+        (machine.few env.level (node_of env) h.here) child sees counted
+      where
+        at_level : {o : Option Num} → Way s env last at inside false o → env.level ≡ at
+        at_level (to_child x is ok) = is
+        at_level (entered is i alone) = let z = may.free rule refl in let f : ⊥ = cc in absurd f
+
+        kids : ℕ
+        kids = s.children (node_of env)
+
+        kids_fit : IsValue Long (pos kids)
+        kids_fit = less_fits kids (suc most.uses * suc most.children) (
+            let g = machine.few env.level (node_of env) h.here in
+            let e = times_le 1 kids (suc most.uses) (suc most.children) (omega arith) (omega (arith, g)) in
+            omega (arith, e)) bounds.fits
+
+        child : (j : ℕ) → j < kids → (in_env : Env) → in_env ≡ at_turn (at_turn env kids) j
+            → IsChild s in_env (Some (n.Index 0))
+            × All (IsBuffer s (inside_of s in_env (Some (n.Index 0))).level) (twin_sets bodies homes made rows)
+            × AtChild at (inside_of s in_env (Some (n.Index 0)))
+        child j l in_env is = subst (λ (e : Env). IsChild s e (Some (n.Index 0))
+            × All (IsBuffer s (inside_of s e (Some (n.Index 0))).level) (twin_sets bodies homes made rows)
+            × AtChild at (inside_of s e (Some (n.Index 0)))) (sym is) (
+              goes.1,
+              subst (λ (z : ℕ). All (IsBuffer s z) (twin_sets bodies homes made rows)) (sym goes.0.level_is)
+                  (sets_there made at rows deep),
+              goes.0,
+            )
+          where
+            here : Env
+            here = at_turn (at_turn env kids) j
+
+            its : IsChild s here (Some (n.Index 0))
+            its = (
+              count_is s here (n.Index 0) j (index_is s here 0)
+                  (turn_has s (at_turn env kids) j (less_fits j kids (omega (arith, l)) kids_fit)),
+              subst (λ (z : ℤ). nat_abs z < kids) (sym (index_is s here 0)) l,
+            )
+
+            goes : AtChild at (inside_of s here (Some (n.Index 0))) × IsChild s here (Some (n.Index 0))
+            goes = goes_in s most bounds last is_at machine here at true false h.here (λ e. low)
+                (to_child (n.Index 0) (at_level h.way) (λ z. its))
+
   -- nothing is asked of what is moved
   held_fine : (turns : List ℕ) (c : Context) (o : Option (Chain Num)) → Held bodies homes s Nothing turns c o
   held_fine turns c None = tt
@@ -216,6 +340,33 @@ module _ (s : Setting) (most : Bounds) (bounds : AreBounds most) (last : ℕ) (i
       → Fine s (made f c) env bs
 
   module _ (made : ℕ → Context → Term) (callees : AreFine made) where
+    -- a callee, with the fills of its locals
+    callee_fine : (f : ℕ) (c : Context) (ms : List Move) (env : Env) (bs : List ℕ)
+        → Inside s most bounds last is_at machine env (level f)
+        → Fine s (callee_term (locals_of (bodies f) (homes f))
+        (made f (in_callee c ms (locals_of (bodies f) (homes f))))) env bs
+    callee_fine f c ms env bs here =
+        fine_within s Nothing env bs None (local_buffers (locals_of (bodies f) (homes f))) _ tt
+        (subst (λ (l : ℕ). All (IsBuffer s l) (local_buffers (locals_of (bodies f) (homes f)))) (sym here.level_is)
+        (kept_there s (level f) (drop (length (homes f).params) (bodies f).arrays) (homes f).locals (leveled.locals f)
+        (tabled.locals f)))
+        (fine_seq s Nothing env _ _ (
+          fine_par s Nothing env _ _
+              (clears_fine s env _ (drop (length (homes f).params) (bodies f).arrays) (homes f).locals
+              (rows_dropped (length (homes f).params) (bodies f).arrays (tabled.rows f))),
+          (
+            callees f (in_callee c ms (locals_of (bodies f) (homes f))) env _ (record {
+              ordinal = constant s env.turns 0;
+              has = record {
+                has = λ l nodes. const_has s (record { turns = env.turns; level = l; nodes = nodes }) (pos 0) zero_fits;
+              };
+              way = begins s most bounds last is_at machine env (level f) here;
+              here = here.here;
+            }),
+            tt,
+          ),
+        ))
+
     pub arm_fine : (params : List Home) (op : Option RedOp) (lower : Bool) (times : List CallInstance) (c : Context)
         (env : Env) (at : ℕ) (inside : Bool) (bs : List ℕ) (arm : CallInstance)
         → All (IsBuffer s (below lower at)) (buffers_from params 0 arm.args) → level arm.form ≡ below lower at
@@ -230,31 +381,8 @@ module _ (s : Setting) (most : Bounds) (bounds : AreBounds most) (last : ℕ) (i
               (fine_all s Nothing in_env (buffers_from params 0 arm.args ++ bs) IsRowed _
               (bring_fine s in_env (buffers_from params 0 arm.args ++ bs)) ms rowed),
           (
-            fine_within s Nothing in_env (buffers_from params 0 arm.args ++ bs) None
-                (local_buffers (locals_of (bodies arm.form) (homes arm.form))) _ tt
-                (subst (λ (l : ℕ). All (IsBuffer s l) (local_buffers (locals_of (bodies arm.form) (homes arm.form))))
-                (deep ∙ sym goes.0.level_is)
-                (kept_there s (level arm.form) (drop (length (homes arm.form).params) (bodies arm.form).arrays)
-                (homes arm.form).locals (leveled.locals arm.form) (tabled.locals arm.form)))
-                (fine_seq s Nothing in_env _ _ (
-                  fine_par s Nothing in_env _ _
-                      (clears_fine s in_env _ (drop (length (homes arm.form).params) (bodies arm.form).arrays)
-                      (homes arm.form).locals
-                      (rows_dropped (length (homes arm.form).params) (bodies arm.form).arrays (tabled.rows arm.form))),
-                  (
-                    callees arm.form (in_callee c ms (locals_of (bodies arm.form) (homes arm.form))) in_env _ (record {
-                      ordinal = constant s in_env.turns 0;
-                      has = record {
-                        has = λ l nodes. const_has s (record { turns = in_env.turns; level = l; nodes = nodes })
-                            (pos 0) zero_fits;
-                      };
-                      way = begins s most bounds last is_at machine in_env (level arm.form)
-                          (record { level_is = goes.0.level_is ∙ sym deep; here = goes.0.here });
-                      here = goes.0.here;
-                    }),
-                    tt,
-                  ),
-                )),
+            callee_fine arm.form c ms in_env (buffers_from params 0 arm.args ++ bs)
+                (record { level_is = goes.0.level_is ∙ sym deep; here = goes.0.here }),
             (
               fine_par s Nothing in_env (buffers_from params 0 arm.args ++ bs) _
                   (fine_all s Nothing in_env (buffers_from params 0 arm.args ++ bs) IsRowed _
@@ -328,8 +456,9 @@ module _ (s : Setting) (most : Bounds) (bounds : AreBounds most) (last : ℕ) (i
         record Agrees (x : Statement) : Type 0 where
           low : (m : ℕ) → Asked x m → (built x).lower ≡ true → at < last
           is : (op : Option RedOp) (m k : ℕ) (c : Context) (env : Env) (inside : Bool) (bs : List ℕ)
-              → AreLevel level at (calls_in x) → Asked x m → k < m → m ≤ most.uses
-              → Fits s last is_at env at c inside (built x).same k → Fine s ((built x).build op inside c) env bs
+              → AreLevel level at (calls_in x) → LoopsStand homes (call_loops x).loops → Asked x m → k < m → m
+              ≤ most.uses → Fits s last is_at env at c inside (built x).same k
+              → Fine s ((built x).build op inside c) env bs
 
         abbrev Known : Type 0
         Known = (x : Statement) × Agrees x
@@ -349,17 +478,21 @@ module _ (s : Setting) (most : Bounds) (bounds : AreBounds most) (last : ℕ) (i
 
         all_fine : (xs : List Known) (op : Option RedOp) (m k : ℕ) (c : Context) (env : Env) (inside : Bool)
             (bs : List ℕ)
-            → AreLevel level at (all_calls (map calls_in (begun xs))) → all_parts Asked (begun xs) m → k < m → m
+            → AreLevel level at (all_calls (map calls_in (begun xs)))
+            → LoopsStand homes (all_loops (map call_loops (begun xs))) → all_parts Asked (begun xs) m → k < m → m
             ≤ most.uses → Fits s last is_at env at c inside (any_same (all_built_of xs)) k
             → each_part (Meets s Nothing) (all_terms (all_built_of xs) op inside c) env bs
-        all_fine [] op m k c env inside bs deep asked l short h = tt
-        all_fine (x ∷ xs) op m k c env inside bs deep asked l short h =
-            let more_same = any_same (all_built_of xs) in (
+        all_fine [] op m k c env inside bs deep stand asked l short h = tt
+        all_fine (x ∷ xs) op m k c env inside bs deep stand asked l short h =
+            let more_same = any_same (all_built_of xs) in
+            let more = all_loops (map call_loops (begun xs)) in (
               x.1.is op m k c env inside bs
-                  (level_left level at (calls_in x.0) (all_calls (map calls_in (begun xs))) deep) asked.0 l short
+                  (level_left level at (calls_in x.0) (all_calls (map calls_in (begun xs))) deep)
+                  (loops_left homes (call_loops x.0).loops more stand) asked.0 l short
                   (narrow s last is_at env at c inside _ (built x.0).same k (or_left (built x.0).same more_same) h),
               all_fine xs op m k c env inside bs
-                  (level_right level at (calls_in x.0) (all_calls (map calls_in (begun xs))) deep) asked.1 l short
+                  (level_right level at (calls_in x.0) (all_calls (map calls_in (begun xs))) deep)
+                  (loops_right homes (call_loops x.0).loops more stand) asked.1 l short
                   (narrow s last is_at env at c inside _ more_same k (or_rest (built x.0).same more_same) h),
             )
 
@@ -367,13 +500,14 @@ module _ (s : Setting) (most : Bounds) (bounds : AreBounds most) (last : ℕ) (i
         map_fine : (m : LoopKind) (counts starts : List ℕ) (xs : List Known) (n k : ℕ) (c : Context) (env : Env)
             (inside : Bool) (bs : List ℕ)
             → AreLevel level at (all_calls (map calls_in (begun xs)))
+            → LoopsStand homes (all_loops (map call_loops (begun xs)))
             → HaveCounts counts n × ((k t : ℕ) → k < n → t < get_or counts k 0 → k < length starts) × (inner : ℕ)
             × (inner ≤ most.uses)
             × ((k t : ℕ) → k < n → t < get_or counts k 0 → get_or starts k 0 + t < inner)
             × all_parts Asked (begun xs) inner
             → k < n → Fits s last is_at env at c inside (any_same (all_built_of xs)) k
             → Fine s (loop_term rule m counts starts (all_built_of xs) inside c) env bs
-        map_fine m counts starts xs n k c env inside bs deep asked l h = go chosen refl
+        map_fine m counts starts xs n k c env inside bs deep stand asked l h = go chosen refl
           where
             lower : Bool
             lower = any_lower (all_built_of xs)
@@ -393,13 +527,8 @@ module _ (s : Setting) (most : Bounds) (bounds : AreBounds most) (last : ℕ) (i
             counted : value_of s count env ≡ pos times
             counted = numbers_of.count_is s env counts c k (h.ordinal.value env.level env.nodes)
 
-            -- the last iteration has a number
-            short : (z : ℕ) → z ≡ times → z ≤ most.uses
-            short zero e = omega arith
-            short (suc z) e = let g = asked.4 k z l (omega (arith, e)) in let f = asked.3 in omega (arith, g, f)
-
             few : times ≤ most.uses
-            few = short times refl
+            few = few_turns counts starts n k asked.2 asked.3 asked.4 l
 
             has : HasValue s count env
             has = counts_has s env counts c n k (h.ordinal.value env.level env.nodes) (h.has.has env.level env.nodes)
@@ -412,7 +541,7 @@ module _ (s : Setting) (most : Bounds) (bounds : AreBounds most) (last : ℕ) (i
             body_fine spread may t turned =
                 fine_seq s Nothing (at_turn env t) bs _
                 (all_fine xs (op_of m) asked.2 (get_or starts k 0 + t) (in_map spread count starts c) (at_turn env t)
-                (inside || is_some spread) bs deep asked.5 (asked.4 k t l turned) asked.3
+                (inside || is_some spread) bs deep stand asked.5 (asked.4 k t l turned) asked.3
                 (in_turn s most bounds last is_at machine env at c inside same k spread may count times counted few has
                 starts asked.2 t turned asked.3 (asked.4 k t l turned) (asked.1 k t l turned) h))
 
@@ -433,11 +562,115 @@ module _ (s : Setting) (most : Bounds) (bounds : AreBounds most) (last : ℕ) (i
                 fine_spread s Nothing env bs count times r _ counted has
                 (node_some r may (spread_lower rule r m inside lower same e) h.way) (body_fine (Some r) may)
 
+        -- a part of a loop whose transfers overlap, whatever is seen there
+        abbrev FinePart : (rows : List CallInstance) → AreLevel level at (calls_in_rows true rows) → at < last
+            → (counts starts : List ℕ) (k : ℕ) → get_or counts k 0 ≤ most.uses → (ℕ → Context → Term) → Type 0
+        FinePart rows row_deep low counts starts k few = PartOf Nothing at made rows row_deep low counts starts k few
+            (λ turns d. Unit {0}) (λ turns t d z. tt)
+
+        -- a loop whose transfers overlap, in the context in which it stands
+        pipe_fine : (m : LoopKind) (spread : Option SpreadRule) (counts starts : List ℕ) (xs : List Known) (p : Pipe)
+            → IsPipedCall level at bodies homes made rule m spread counts starts (begun xs) p → (n k : ℕ) (c : Context)
+            (env : Env) (inside : Bool) (bs : List ℕ) → MayBe spread inside
+            → AreLevel level at (all_calls (map calls_in (begun xs))) → LoopsStand homes
+            (loop_round m counts starts (map call_loops (begun xs)))
+            → HaveCounts counts n × ((k t : ℕ) → k < n → t < get_or counts k 0 → k < length starts) × (inner : ℕ)
+            × (inner ≤ most.uses)
+            × ((k t : ℕ) → k < n → t < get_or counts k 0 → get_or starts k 0 + t < inner)
+            × all_parts Asked (begun xs) inner
+            → k < n → Fits s last is_at env at c inside (any_same (all_built_of xs)) k → (loop : Term)
+            → Fine s (pipe_term bodies homes made (Some p) counts starts c loop) env bs
+        pipe_fine m spread counts starts xs p is n k c env inside bs may deep stand asked l h loop =
+            lanes_meet Nothing at made p.rows row_deep low counts starts k few (λ turns d. Unit {0})
+            (λ turns t d z. tt) _ _ _ comes works leaves p.spread c env inside bs
+            (record { free = λ r z. may.free r (is.spread_is r z) }) fits tt
+            (count_counted s env.turns counts c n k (record { number = h.ordinal; has = h.has }) asked.0 l
+            (uses_fit s most bounds last is_at machine (get_or counts k 0) few))
+          where
+            piped : IsPiped (record { kind = m; rows = p.rows; counts = counts; starts = starts })
+            piped = is.stands stand
+
+            row_deep : AreLevel level at (calls_in_rows true p.rows)
+            row_deep = is.deep deep
+
+            low : at < last
+            low = lows xs asked.2 asked.5 is.lower
+
+            fits : Fits s last is_at env at c inside false k
+            fits = subst (λ (v : Bool). Fits s last is_at env at c inside v k) is.same h
+
+            few : get_or counts k 0 ≤ most.uses
+            few = few_turns counts starts n k asked.2 asked.3 asked.4 l
+
+            form : ℕ
+            form = row_form (slice_get p.rows 0)
+
+            rowed : (set : ℕ) (d : Context) → All IsRowed (pipe_moves bodies homes made p.rows set d)
+            rowed set d = moves_rowed None (bodies form).arrays (map (home_in_set set) (homes form).params) d p.rows 0
+                (row_args (slice_get p.rows 0)) (tabled.rows form) one_fits
+
+            comes : FinePart p.rows row_deep low counts starts k few (λ set d. come_term (pipe_moves bodies homes made p.rows set d))
+            comes set t lt e bs here d sees x number = fine_par s Nothing e bs _
+                (fine_all s Nothing e bs IsRowed come_in_term (come_fine s e bs)
+                (pipe_moves bodies homes made p.rows set (at_iteration starts x d)) (rowed set (at_iteration starts x d)))
+
+            leaves : FinePart p.rows row_deep low counts starts k few (λ set d. leave_term (pipe_moves bodies homes made p.rows set d))
+            leaves set t lt e bs here d sees x number = fine_par s Nothing e bs _
+                (fine_all s Nothing e bs IsRowed back_term (back_fine s e bs)
+                (pipe_moves bodies homes made p.rows set (at_iteration starts x d)) (rowed set (at_iteration starts x d)))
+
+            works : FinePart p.rows row_deep low counts starts k few (pipe_work bodies homes made p.rows)
+            works set t lt e bs here d sees x number =
+                let row = piped.there k t lt in
+                let to = form_level at p.rows (get_or starts k 0 + t) row.0 row.1 row_deep in
+                fine_seq s Nothing e bs _ (
+                  fine_par s Nothing e bs _
+                      (fine_all s Nothing e bs IsRowed fill_held_term (fill_fine s e bs)
+                      (pipe_moves bodies homes made p.rows set (at_iteration starts x d)) (rowed set (at_iteration starts x d))),
+                  (
+                    callee_fine form (at_iteration starts x d)
+                        (pipe_moves bodies homes made p.rows set (at_iteration starts x d)) e bs
+                        (record { level_is = here.level_is ∙ sym to; here = here.here }),
+                    tt,
+                  ),
+                )
+
+        -- whether its transfers overlap or don't
+        run_fine : (m : LoopKind) (counts starts : List ℕ) (xs : List Known) (n k : ℕ) (c : Context) (env : Env)
+            (inside : Bool) (bs : List ℕ)
+            → AreLevel level at (all_calls (map calls_in (begun xs))) → LoopsStand homes
+            (loop_round m counts starts (map call_loops (begun xs)))
+            → LoopsStand homes (all_loops (map call_loops (begun xs)))
+            → HaveCounts counts n × ((k t : ℕ) → k < n → t < get_or counts k 0 → k < length starts) × (inner : ℕ)
+            × (inner ≤ most.uses)
+            × ((k t : ℕ) → k < n → t < get_or counts k 0 → get_or starts k 0 + t < inner)
+            × all_parts Asked (begun xs) inner
+            → k < n → Fits s last is_at env at c inside (any_same (all_built_of xs)) k
+            → Fine s (run_term bodies homes made rule m counts starts (all_built_of xs) inside c) env bs
+        run_fine m counts starts xs n k c env inside bs deep stand more asked l h = go (pipe_of homes m spread hs) refl
+          where
+            spread : Option SpreadRule
+            spread = spread_of rule m inside (any_lower (all_built_of xs)) (any_same (all_built_of xs))
+
+            hs : List (Option (Chain Num))
+            hs = chains (all_built_of xs)
+
+            loop : Term
+            loop = loop_term rule m counts starts (all_built_of xs) inside c
+
+            go : (o : Option Pipe) → pipe_of homes m spread hs ≡ o
+                → Fine s (pipe_term bodies homes made o counts starts c loop) env bs
+            go None e = map_fine m counts starts xs n k c env inside bs deep more asked l h
+            go (Some p) e = pipe_fine m spread counts starts xs p
+                (piped_call level at bodies homes made rule m spread counts starts (begun xs) p e) n k c env inside bs
+                (may_be rule m inside (any_lower (all_built_of xs)) (any_same (all_built_of xs))) deep stand asked l h
+                loop
+
         agrees_step : (y : Statement-F Known) → Agrees (roll-Statement (map-Statement Known Statement (λ q. q.0) y))
         agrees_step (Statement-F.Call lower times) = subst Agrees (sym (b.rolls-Call lower times)) (record {
           low = λ m h e. (subst (λ (f : AskedOfStatement). f m) (tabled_call most last at lower times) h).2
               (sym (ap (λ (p : TermPart). p.lower) (built_call bodies homes made rule lower times)) ∙ e);
-          is = λ op m k c env inside bs deep h l short g.
+          is = λ op m k c env inside bs deep stand h l short g.
               let asked = subst (λ (f : AskedOfStatement). f m) (tabled_call most last at lower times) h in
               subst (λ (p : TermPart). Fine s (p.build op inside c) env bs)
               (sym (built_call bodies homes made rule lower times))
@@ -453,7 +686,8 @@ module _ (s : Setting) (most : Bounds) (bounds : AreBounds most) (last : ℕ) (i
                   lows xs asked.2 asked.5 (sym
                   (ap (λ (p : TermPart). p.lower) (built_map bodies homes made rule place m counts starts (begun xs)))
                   ∙ e);
-              is = λ op n k c env inside bs deep h l short g.
+              is = λ op n k c env inside bs deep stand h l short g.
+                  let loops = map_loops homes place m counts starts (begun xs) stand in
                   let asked = subst (λ (f : AskedOfStatement). f n)
                   (tabled_map most last at place m counts starts (begun xs)) h in
                   let deeper = subst (AreLevel level at) (calls_map place m counts starts (begun xs)) deep in
@@ -467,10 +701,10 @@ module _ (s : Setting) (most : Bounds) (bounds : AreBounds most) (last : ℕ) (i
                   (map_alone level at bodies homes made rule place m counts starts (begun xs)) deep
                   (lows xs asked.2 asked.5) k c env inside bs fits
                   (held_fine env.turns c (chain_of first_num m starts (chains (all_built_of xs))))
-                  (loop_term rule m counts starts (all_built_of xs))
-                  (map_fine m counts starts xs n k c env inside bs deeper asked l fits)
-                  (λ in_env more t f. map_fine m counts starts xs n k (at_child_already c) in_env true more deeper asked
-                  l f));
+                  (run_term bodies homes made rule m counts starts (all_built_of xs))
+                  (run_fine m counts starts xs n k c env inside bs deeper loops.0 loops.1 asked l fits)
+                  (λ in_env new t f. run_fine m counts starts xs n k (at_child_already c) in_env true new deeper
+                  loops.0 loops.1 asked l f));
             })
 
         agrees : (x : Statement) → Agrees x
@@ -489,46 +723,49 @@ module _ (s : Setting) (most : Bounds) (bounds : AreBounds most) (last : ℕ) (i
         calls_joined (x ∷ xs) = ap (λ l. calls_in x ++ l) (calls_joined xs)
 
         list_fine : 1 ≤ most.uses → (list : List Statement) (c : Context) (env : Env) (bs : List ℕ)
-            → AreLevel level at (calls_in_all list) → all_parts Asked list 1 → Fits s last is_at env at c false true 0
+            → AreLevel level at (calls_in_all list) → LoopsStand homes (all_loops (map call_loops list))
+            → all_parts Asked list 1 → Fits s last is_at env at c false true 0
             → Fine s (term.Seq (all_terms (map built list) None false c)) env bs
-        list_fine used list c env bs deep asked h =
+        list_fine used list c env bs deep stand asked h =
             fine_seq s Nothing env bs _
-            (subst (λ (xs : List Statement). AreLevel level at (calls_in_all xs) → all_parts Asked xs 1
+            (subst (λ (xs : List Statement). AreLevel level at (calls_in_all xs)
+            → LoopsStand homes (all_loops (map call_loops xs)) → all_parts Asked xs 1
             → each_part (Meets s Nothing) (all_terms (map built xs) None false c) env bs) (known_are list)
-            (λ d a. all_fine (known list) None 1 0 c env false bs
-            (subst (AreLevel level at) (calls_joined (begun (known list))) d) a (omega arith) used
-            (narrow s last is_at env at c false true _ 0 (λ e. absurd (cc)) h)) deep asked)
+            (λ d z a. all_fine (known list) None 1 0 c env false bs
+            (subst (AreLevel level at) (calls_joined (begun (known list))) d) z a (omega arith) used
+            (narrow s last is_at env at c false true _ 0 (λ e. absurd (cc)) h)) deep stand asked)
 
     body_fine : 1 ≤ most.uses → (at : ℕ) (h : Homes) (x : Body) (c : Context) (env : Env) (bs : List ℕ)
-        → AreLevel level at (calls_of x) → TabledBody most last at x → Fits s last is_at env at c false true 0
-        → Fine s (body_term bodies homes made h x c) env bs
-    body_fine used at h (body.Inner list) c env bs deep asked g = list_fine at h.rule used list c env bs deep asked g
-    body_fine used at h (body.Leaf code) c env bs deep asked g
+        → AreLevel level at (calls_of x) → LoopsStand homes (call_loops_of x) → TabledBody most last at x
+        → Fits s last is_at env at c false true 0 → Fine s (body_term bodies homes made h x c) env bs
+    body_fine used at h (body.Inner list) c env bs deep stand asked g
+        = list_fine at h.rule used list c env bs deep stand asked g
+    body_fine used at h (body.Leaf code) c env bs deep stand asked g
         = fine_act s Nothing env bs (action.Leaf h.code c.views c.path) tt
 
-  pub forms_fine : (d : ℕ) → AreFine (term_of bodies homes d)
-  forms_fine zero f c env bs h = fine_skip s Nothing env bs
-  forms_fine (suc d) f c env bs h
-      = body_fine (term_of bodies homes d) (forms_fine d) bounds.once (level f) (homes f) (bodies f).body c env bs
-      (leveled.calls f) (tabled.body f) h
+  pub forms_fine : PipesStand bodies homes → (d : ℕ) → AreFine (term_of bodies homes d)
+  forms_fine pipes zero f c env bs h = fine_skip s Nothing env bs
+  forms_fine pipes (suc d) f c env bs h
+      = body_fine (term_of bodies homes d) (forms_fine pipes d) bounds.once (level f) (homes f) (bodies f).body c env bs
+      (leveled.calls f) (pipes.each f) (tabled.body f) h
 
-  pub entry_fine : level 0 ≡ 0 → is_at 0 0 → (d : ℕ) (args : List Argument) (bs : List ℕ)
+  pub entry_fine : PipesStand bodies homes → level 0 ≡ 0 → is_at 0 0 → (d : ℕ) (args : List Argument) (bs : List ℕ)
       → Fine s (entry_term bodies homes d args) at_root bs
-  entry_fine first root d args bs =
-      arm_fine (term_of bodies homes d) (forms_fine d) [] None false (entry_row args ∷ [])
+  entry_fine pipes first root d args bs =
+      arm_fine (term_of bodies homes d) (forms_fine pipes d) [] None false (entry_row args ∷ [])
       (entry_context (bodies 0) (homes 0)) at_root 0 false bs (entry_row args)
       (call_there s 0 [] tt tt 0 args) first (λ e. absurd (cc)) one_fits root
       (begins s most bounds last is_at machine at_root 0 (record { level_is = refl; here = root }))
 
 pub term_is_fine : TermIsFine
-term_is_fine s most bounds last nodes level_of machine bodies homes level leveled tabled d k c env buffers h
-    = forms_fine s most bounds last (NodeAt nodes level_of) machine bodies homes level leveled tabled d k c env buffers
-    h
+term_is_fine s most bounds last nodes level_of machine bodies homes level leveled tabled pipes d k c env buffers h
+    = forms_fine s most bounds last (NodeAt nodes level_of) machine bodies homes level leveled tabled pipes d k c env
+    buffers h
 
 pub entry_is_fine : EntryIsFine
-entry_is_fine s most bounds last nodes level_of machine bodies homes level leveled tabled first root d args buffers
-    = entry_fine s most bounds last (NodeAt nodes level_of) machine bodies homes level leveled tabled first root d args
-    buffers
+entry_is_fine s most bounds last nodes level_of machine bodies homes level leveled tabled pipes first root d args buffers
+    = entry_fine s most bounds last (NodeAt nodes level_of) machine bodies homes level leveled tabled pipes first root d
+    args buffers
 
 -- a million iterations and 64 children
 pub within_limits : AreBounds (record { uses = 1048576; children = 64 })

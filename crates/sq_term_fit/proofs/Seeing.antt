@@ -24,7 +24,7 @@ use Rattle.sq_term.specs.declared.context.Move.{Move}
 use Rattle.sq_placed.specs.Seats.{firsts, cons_some}
 use Rattle.sq_placed.specs.Tables.{no_shape, placed_locals}
 use Rattle.sq_term.specs.Terms.{lift_view, in_map, in_callee, local_view, own_view, block_view, offsets, bytes_at}
-use Rattle.sq_term.specs.Terms.{bytes_of, bytes_in, move_of, moves_from}
+use Rattle.sq_term.specs.Terms.{bytes_of, bytes_in, move_of, moves_from, lift_context, at_iteration}
 use Rattle.sq_term.specs.Stands.{Each, none, more, IsNumber}
 use Rattle.sq_term_fit.specs.Fits.{Has}
 use Rattle.sq_term_fit.specs.Rooms.{InView, RowsInside, IsRoomy, IsRoomyMove, IsBelow, HaveSizes, IsWhole, AreWhole}
@@ -77,7 +77,7 @@ pub own_fits : (s : Setting) (sizes : HaveSizes s) (turns : List ℕ) (x : Shape
 own_fits s sizes turns x w InPlace f v g = g
 own_fits s sizes turns x w (Own b) f v g = roomy_buffer s sizes turns b x w.tops w.shaped w.dims f w.small
 own_fits s sizes turns x w (Held b loops) f v g = roomy_buffer s sizes turns b x w.tops w.shaped w.dims f w.small
-own_fits s sizes turns x w (Twin b c) f v g = roomy_buffer s sizes turns b x w.tops w.shaped w.dims f w.small
+own_fits s sizes turns x w (Twin b c) f v g = roomy_buffer s sizes turns b x w.tops w.shaped w.dims f.0 w.small
 
 module _ (s : Setting) (sizes : HaveSizes s) (turns : List ℕ) where
   module _ (c : Context) (outer : List Shape) (seen : Each (IsRoomy s turns) c.views outer) (times : List CallInstance)
@@ -177,6 +177,25 @@ sees_turn s turns outer c spread count starts t fits h = record {
         has
             = record { has = λ l nodes. turn_has s (record { turns = turns; level = l; nodes = nodes }) t fits };
       }) none);
+}
+
+-- one loop further in
+pub sees_lifted : (s : Setting) (turns : List ℕ) (outer : List Shape) (t : ℕ) (c : Context) → Sees s turns outer c
+    → Sees s (t ∷ turns) outer (lift_context c)
+sees_lifted s turns outer t c h = record {
+  views = each_left (IsRoomy s turns) (IsRoomy s (t ∷ turns)) lift_view (roomy_turn s turns t) h.views;
+  numbers = h.numbers;
+  path = each_left (IsCounted s turns) (IsCounted s (t ∷ turns)) (lift 1)
+      (λ x v g. record { number = lifted_is s turns x v t g.number; has = has_lifted s turns x t g.has }) h.path;
+}
+
+-- in an iteration of a loop whose transfers overlap
+pub sees_iteration : (s : Setting) (turns : List ℕ) (outer : List Shape) (starts : List ℕ) (x : Num) (t : ℕ)
+    (c : Context) → IsCounted s turns x t → Sees s turns outer c → Sees s turns outer (at_iteration starts x c)
+sees_iteration s turns outer starts x t c g h = record {
+  views = h.views;
+  numbers = h.numbers ++ t ∷ [];
+  path = each_append (IsCounted s turns) h.path (more g none);
 }
 
 -- what is asked of a leaf

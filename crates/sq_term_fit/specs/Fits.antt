@@ -27,11 +27,11 @@ pub record Bounds : Type 0 where
   pub uses : ℕ
   pub children : ℕ
 
--- as many iterations as many children have numbers in 64 bits
+-- one more iteration for each of one more child: their number is one in 64 bits
 pub record AreBounds (most : Bounds) : Type 0 where
   pub once : 1 ≤ most.uses
   pub some : 1 ≤ most.children
-  pub fits : IsValue Long (pos (most.uses * most.children))
+  pub fits : IsValue Long (pos (suc most.uses * suc most.children))
 
 -- ---- the machine: a node is of a level
 
@@ -84,7 +84,7 @@ abbrev pub IsThere : Setting → Home → Type 0
 IsThere s InPlace = Unit {0}
 IsThere s (Own b) = b < s.buffers
 IsThere s (Held b loops) = b < s.buffers
-IsThere s (Twin b c) = Unit {0}
+IsThere s (Twin b c) = (b < s.buffers) × (c < s.buffers)
 
 abbrev pub AreThere : Setting → List Home → Type 0
 AreThere s [] = Unit {0}

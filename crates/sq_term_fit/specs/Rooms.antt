@@ -124,7 +124,7 @@ abbrev pub HomeFits : Setting → Home → Shape → Type 0
 HomeFits s InPlace x = Unit {0}
 HomeFits s (Own b) x = FitsInto s b x
 HomeFits s (Held b loops) x = FitsInto s b x
-HomeFits s (Twin b c) x = FitsInto s b x
+HomeFits s (Twin b c) x = FitsInto s b x × FitsInto s c x
 
 -- an argument for a parameter of this shape: its array is there, and the block ends inside it
 pub record ArgFits (outer : List Shape) (a : Argument) (y : Shape) : Type 0 where
