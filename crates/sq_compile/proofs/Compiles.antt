@@ -1,5 +1,5 @@
 -- What placing the program's draft answers, in words of the program.
-use Rattle.std.proofs.Common.{◌≡◌, List, [], ap, ◌∙◌, subst, sym}
+use Rattle.std.proofs.Common.{◌≡◌, List, ap, ◌∙◌, subst, sym}
 use Rattle.std.specs.Prelude.{Result, Ok, Err, IfOk, IfErr}
 use Rattle.sq_ir.specs.declared.plan.Draft.{Draft}
 use Rattle.sq_ir.specs.declared.plan.Plan.{Plan}
@@ -11,10 +11,11 @@ use Rattle.sq_store.specs.declared.fitting.StoreFault.TheVariants.{Capacity, NoM
 use Rattle.sq_store.specs.Place.{IsPlaced, IsRefusal, IsOver}
 use Rattle.sq_spec.specs.declared.resolved.Resolved.{Resolved}
 use Rattle.sq_homes.specs.Drafts.{IsDraftOf}
-use Rattle.sq_homes_laws.specs.Simple.{AreMemories, Walked}
+use Rattle.sq_homes_laws.specs.Choosing.{AreMemories, Walked, NonePipes}
+use Rattle.sq_forms_fit.specs.Piped.{UnpipedFits}
 use Rattle.sq_hoist.specs.Choices.{hoisted}
 use Rattle.sq_hoist.specs.Notes.{notes_of}
-use Rattle.sq_hoist_laws.specs.Laws.{ChoicesAreHoisted, ChoicesHold}
+use Rattle.sq_hoist_laws.specs.Laws.{ChoicesAreHoisted, HoistedOverlapNothing, ChoicesHold}
 use Rattle.sq_needs.specs.Needed.{KeepInPlace, NeedsAreSums, SumsAreNeeds, NeedsAreSmall}
 use Rattle.sq_plan_good.specs.Good.{HasNoRace, DraftsCanBePlaced, PlacedAreGood}
 use Rattle.sq_plan_good.specs.Good.{IsGoodFor}
@@ -24,7 +25,8 @@ use Rattle.sq_compile.specs.Compiled.{IsPlanOf, IsRefusedFor}
 use Rattle.sq_compile.proofs.Keeping.{hoisted_keep}
 use Rattle.sq_compile.proofs.Lacking.{none_lacks, first_lack}
 
-module _ (can : DraftsCanBePlaced) (are_hoisted : ChoicesAreHoisted) (r : Resolved) (walked : Walked r) (d : Draft) (its : IsDraftOf r (hoisted r) d)
+module _ (can : DraftsCanBePlaced) (are_hoisted : ChoicesAreHoisted) (nothing : HoistedOverlapNothing)
+    (r : Resolved) (walked : Walked r) (d : Draft) (its : IsDraftOf r (hoisted r) d)
     (nodes : List PlanNode) (are : nodes ≡ memories_of r) (memories : AreMemories r.machine.now.levels nodes) where
   placeable : IsPlaceable d nodes
   placeable = can r (hoisted r) (are_hoisted r walked) d its nodes memories
@@ -40,15 +42,16 @@ module _ (can : DraftsCanBePlaced) (are_hoisted : ChoicesAreHoisted) (r : Resolv
             (subst (λ (ns : List PlanNode). IsPlaced d ns p) are h);
       }
 
-  pub good : PlacedAreGood → ChoicesHold → d.notes ≡ notes_of r → (result : Result Plan StoreFault)
+  pub good : PlacedAreGood → ChoicesHold → NonePipes → UnpipedFits → d.notes ≡ notes_of r → (result : Result Plan StoreFault)
       → IfOk result (λ plan. IsPlaceable d nodes → IsPlaced d nodes plan)
       → IfOk result (λ p. HasNoRace r → IsPlanOf r p)
-  good law hold noted (Ok p) h = λ race_free. record {
+  good law hold none fit noted (Ok p) h = λ race_free. record {
     placed = of_plan noted p (h placeable);
     good = subst (λ (ns : List PlanNode). IsGoodFor r (hoisted r) ns p) are
-        (law r race_free (hoisted r) (are_hoisted r walked) (hold r walked) d its nodes memories p (h placeable));
+        (law r race_free (hoisted r) (are_hoisted r walked) (hold r walked)
+        (fit _ _ (none r (hoisted r) (nothing r))) d its nodes memories p (h placeable));
   }
-  good law hold noted (Err fault) h = tt
+  good law hold none fit noted (Err fault) h = tt
 
   pub placed : d.notes ≡ notes_of r → (result : Result Plan StoreFault)
       → IfOk result (λ plan. IsPlaceable d nodes → IsPlaced d nodes plan) → IfOk result (λ p. IsPlacedFor r p)
@@ -59,7 +62,7 @@ module _ (can : DraftsCanBePlaced) (are_hoisted : ChoicesAreHoisted) (r : Resolv
   module _ (agree : NeedsAreSums) (sums : SumsAreNeeds) (small : NeedsAreSmall)
       (limits : WithinLimits r.machine.now) where
     keep : KeepInPlace r (hoisted r)
-    keep = hoisted_keep r (are_hoisted r walked)
+    keep = hoisted_keep r (are_hoisted r walked) (nothing r)
 
     pub fits : (result : Result Plan StoreFault) → IfOk result (λ plan. IsPlaceable d nodes → IsPlaced d nodes plan)
         → IfOk result (λ p. NoneLacks r)

@@ -4,7 +4,7 @@ use Rattle.std.specs.Prelude.{slice_get}
 use Rattle.sq_forms.specs.declared.form.Form.{Form}
 use Rattle.sq_spec.specs.declared.resolved.Resolved.{Resolved}
 use Rattle.sq_homes.specs.Drafts.{no_choice}
-use Rattle.sq_homes_laws.specs.Simple.{AreHoisted}
+use Rattle.sq_homes_laws.specs.Choosing.{MayBeChosen, NoneOverlaps}
 use Rattle.sq_hoist.specs.Choices.{choices_from, find_leaves, sites_of, hoisted}
 use Rattle.sq_needs.specs.Needed.{KeepInPlace}
 
@@ -17,8 +17,9 @@ kept_from found k [] i f e = absurd (cc e)
 kept_from found k (g ∷ fs) zero f e = ap (λ (x : Form). x.in_place) (same e)
 kept_from found k (g ∷ fs) (suc i) f e = kept_from found (suc k) fs i f e
 
-pub hoisted_keep : (r : Resolved) → AreHoisted r (hoisted r) → KeepInPlace r (hoisted r)
-hoisted_keep r are = record {
+pub hoisted_keep : (r : Resolved) → MayBeChosen r (hoisted r) → NoneOverlaps (hoisted r) → KeepInPlace r (hoisted r)
+hoisted_keep r are nothing = record {
   hoisted = are;
+  none = nothing;
   in_place = λ k f e. kept_from (find_leaves (sites_of r)) 0 r.forms k f e;
 }

@@ -13,7 +13,7 @@ use Rattle.sq_store.specs.Place.{need_at, capacity_at, level_at, excess_at, IsSh
 use Rattle.sq_spec.specs.declared.resolved.Resolved.{Resolved}
 use Rattle.sq_spec.proofs.Rows.{get_or_map}
 use Rattle.sq_homes.specs.Drafts.{IsDraftOf}
-use Rattle.sq_homes_laws.specs.Simple.{Walked}
+use Rattle.sq_homes_laws.specs.Choosing.{Walked}
 use Rattle.sq_hoist.specs.Choices.{hoisted}
 use Rattle.sq_draft_laws.specs.Memories.{plan_node}
 use Rattle.sq_plan_good.specs.Planned.{memories_of}

@@ -1,10 +1,10 @@
 -- Each leaf event is a call of a form that is a leaf, at a node of its level.
-use Rattle.std.proofs.Common.{◌≡◌, ℕ, List, map, length, refl, sym, ◌∙◌}
+use Rattle.std.proofs.Common.{ℕ, List, map, refl, ◌∙◌}
 use Rattle.sq_spec.specs.declared.body.FormBody.{FormBody}
 use Rattle.sq_ir.specs.declared.term.Action.{Action}
 use Rattle.sq_ir.specs.declared.term.Action.TheVariants as action
 use Rattle.sq_ir.specs.Written.{Setting, Env, at_root, event_of, node_of}
-use Rattle.sq_ir.specs.Plans.{AskedOfActions, Meets}
+use Rattle.sq_ir.specs.Plans.{AskedOfActions}
 use Rattle.sq_ir.proofs.Meeting.{met-entry}
 use Rattle.sq_placed.specs.declared.home.Homes.{Homes}
 use Rattle.sq_term.specs.Terms.{entry_term, buffer_or}
@@ -49,5 +49,5 @@ leaves_are_at_levels s most bounds last nodes level_of machine bodies homes leve
     (λ env bs a h. is_at s nodes level_of bodies homes level env bs a h.0 h.1) 0 buffers term at_root
     (at_nodes s most last (NodeAt nodes level_of) machine asked term at_root buffers here
     (entry_up s bodies homes level leveled roomy near Nothing first root n args _ fits at_root refl
-    (entry_is_fine s most bounds last nodes level_of machine bodies homes level leveled tabled first here n args
-    buffers)))
+    (entry_is_fine s most bounds last nodes level_of machine bodies homes level leveled tabled
+    near.stand first here n args buffers)))

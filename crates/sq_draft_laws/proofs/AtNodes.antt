@@ -1,6 +1,7 @@
 -- Where an action stands the node in force is of the level in force.
-use Rattle.std.proofs.Common.{◌≡◌, ℕ, zero, suc, ◌==◌, ◌++◌, true, false, Bool, List, [], ◌∷◌, map, ℤ, pos, negsuc, Option, Some}
-use Rattle.std.proofs.Common.{None, refl, sym, subst, arith, if◌then◌else◌}
+use Rattle.std.proofs.Common.{◌≡◌, ℕ, zero, suc, ◌==◌, ◌++◌, true, false, Bool, List, [], ◌∷◌, map, ℤ, pos}
+use Rattle.std.proofs.Common.{negsuc, Option, Some}
+use Rattle.std.proofs.Common.{None, sym, subst, arith, if◌then◌else◌}
 use Rattle.std.proofs.lemmas.Bool.Decides.{nat_tests}
 use Rattle.sq_ir.specs.declared.num.Num.{Num}
 use Rattle.sq_ir.specs.declared.term.Term.{Term, roll-Term}

@@ -1,6 +1,7 @@
--- Tables and homes that are as asked: a `mapseq` of two lower calls of a leaf, which their argument leaves.
+-- Tables and homes that are as asked: a `mapseq` of two lower calls of a leaf that overlaps its transfers. One argument
+-- leaves the loop, and one has two buffers.
 use Rattle.std.proofs.Common.{◌≡◌, ℕ, zero, suc, ◌+◌, ◌≤◌, true, List, [], ◌∷◌, length, get_or, slice_get}
-use Rattle.std.proofs.Common.{Some, None, sym, false, ◌<◌, Option, subst, arith, ap, ◌∙◌, ◌++◌}
+use Rattle.std.proofs.Common.{Some, None, refl, sym, false, ◌<◌, Option, subst, arith, ap, ◌∙◌, ◌++◌}
 use Rattle.sq_text.specs.declared.place.Place.{Place}
 use Rattle.sq_text.specs.declared.spread.SpreadRule.TheVariants.{Cyclic}
 use Rattle.sq_leaf.specs.declared.shape.Shape.{Shape}
@@ -15,20 +16,25 @@ use Rattle.sq_spec.specs.declared.body.FormBody.{FormBody}
 use Rattle.sq_spec.specs.Bodies.{no_body}
 use Rattle.sq_spec_laws.specs.TableRows.{Table, tables_in}
 use Rattle.sq_work.specs.declared.reduction.Reduction.{Reduction}
-use Rattle.sq_placed.specs.declared.home.Home.TheVariants.{InPlace, Own, Held}
+use Rattle.sq_placed.specs.Pipes.{CallLoop, CallLoops, loop_round, call_loops, call_loops_of, AreHeads, no_heads}
+use Rattle.sq_placed.specs.Pipes.{more_heads, IsPiped, LoopsStand, PipesStand}
+use Rattle.sq_placed.proofs.Pipes.{loops_call, loops_map}
+use Rattle.sq_placed.specs.declared.home.Home.TheVariants.{InPlace, Own, Held, Twin}
 use Rattle.sq_placed.specs.declared.home.Homes.{Homes}
 use Rattle.sq_plan_laws.specs.Seated.{IsNear}
-use Rattle.sq_draft_laws.specs.Scope.{IsSingle, HomesAreNear}
+use Rattle.sq_draft_laws.specs.Scope.{HomesAreNear}
 use Rattle.sq_draft_laws.specs.Paths.{Nested, nested_of, PathsFit, LeavesAreSmall}
 use Rattle.sq_draft_laws.proofs.Every.{Every, every_at}
 use Rattle.sq_rooms.specs.Orders.{EachOf, Round, rounds_of}
 use Rattle.sq_rooms.specs.Held.{IsHeldRow, AreHeldRows, AreHeldInside}
+use Rattle.sq_rooms.specs.Overlapping.{IsSuited, AskedInMaps, RowOverlaps, BodyOverlaps, OverlapsStand}
+use Rattle.sq_rooms.proofs.Overlaps.{overlaps_call, overlaps_map}
 use Rattle.sq_draft_laws.proofs.Scoped.{tables_call, tables_map, rounds_call, rounds_map}
 use Rattle.sq_draft_laws.proofs.Paths.{RowsFit, nested_call, nested_map}
 
 module _ (place : Place) (leaf : LeafSource) (x : Shape) (a : Argument) where
   abbrev row : CallInstance
-  row = record { form = 1; args = a ∷ [] }
+  row = record { form = 1; args = a ∷ a ∷ [] }
 
   abbrev call : Statement
   call = b.Call true (row ∷ row ∷ [])
@@ -38,13 +44,13 @@ module _ (place : Place) (leaf : LeafSource) (x : Shape) (a : Argument) where
 
   abbrev bodies : ℕ → FormBody
   bodies zero = record { arrays = x ∷ []; body = body.Inner (loop ∷ []) }
-  bodies (suc zero) = record { arrays = x ∷ []; body = body.Leaf leaf }
+  bodies (suc zero) = record { arrays = x ∷ x ∷ []; body = body.Leaf leaf }
   bodies (suc (suc k)) = no_body
 
-  -- each array in a buffer of its own, the leaf's round the loop
+  -- the entry's array in a buffer of its own, the leaf's first one round the loop, its second one in two in turn
   abbrev homes : ℕ → Homes
   homes zero = record { rule = Cyclic; code = 0; params = Own 0 ∷ []; locals = []; overlaps = false }
-  homes (suc k) = record { rule = Cyclic; code = 0; params = Held 1 1 ∷ []; locals = []; overlaps = false }
+  homes (suc k) = record { rule = Cyclic; code = 0; params = Held 1 1 ∷ Twin 2 3 ∷ []; locals = []; overlaps = true }
 
   -- one map stands round the leaf
   abbrev round : ℕ → ℕ
@@ -89,10 +95,11 @@ module _ (place : Place) (leaf : LeafSource) (x : Shape) (a : Argument) where
   Near t = Every (λ (r : CallInstance). (k : ℕ) → k < length r.args
       → IsNear t.lower (get_or (homes r.form).params k InPlace)) t.times
 
-  -- the one argument's home
-  first : (k : ℕ) → k < 1 → IsNear true (get_or (Held 1 1 ∷ []) k InPlace)
+  -- the arguments' homes
+  first : (k : ℕ) → k < 2 → IsNear true (get_or (Held 1 1 ∷ Twin 2 3 ∷ []) k InPlace)
   first zero l = tt
-  first (suc k) l = absurd (omega (arith, l))
+  first (suc zero) l = tt
+  first (suc (suc k)) l = absurd (omega (arith, l))
 
   -- ---- the loop that it leaves
 
@@ -101,9 +108,10 @@ module _ (place : Place) (leaf : LeafSource) (x : Shape) (a : Argument) where
       (rounds_map place loop_kind.Sequential (2 ∷ []) (0 ∷ []) (call ∷ []))
       ∙ ap (λ (f : ℕ → List Round). f 1 ++ []) (rounds_call true (row ∷ row ∷ []))
 
-  one_loop : (i b n : ℕ) → get_or (Held 1 1 ∷ []) i InPlace ≡ Held b n → n ≡ 1
+  one_loop : (i b n : ℕ) → get_or (Held 1 1 ∷ Twin 2 3 ∷ []) i InPlace ≡ Held b n → n ≡ 1
   one_loop zero b n e = cc
-  one_loop (suc i) b n e = absurd (cc e)
+  one_loop (suc zero) b n e = absurd (cc e)
+  one_loop (suc (suc i)) b n e = absurd (cc e)
 
   one_form : (j : ℕ) (q : CallInstance) → slice_get (row ∷ row ∷ []) j ≡ Some q → q.form ≡ 1
   one_form zero q e = let same : row ≡ q = cc e in sym (ap (λ (r : CallInstance). r.form) same)
@@ -122,15 +130,82 @@ module _ (place : Place) (leaf : LeafSource) (x : Shape) (a : Argument) where
   held_inside (suc zero) = tt
   held_inside (suc (suc k)) = tt
 
-  are_near : HomesAreNear bodies homes
-  are_near = record { single = single; near = near; held = held_inside }
-    where
-      single : (f i : ℕ) → IsSingle (get_or (homes f).params i InPlace)
-      single zero zero = tt
-      single zero (suc i) = tt
-      single (suc f) zero = tt
-      single (suc f) (suc i) = tt
+  -- ---- the loop's transfers
 
+  overlaps : RowOverlaps homes true true (row ∷ row ∷ []) row
+  overlaps = record { lower_is = λ o. refl; alone_is = λ o. refl; one = λ o j q e. one_form j q e }
+
+  calls_overlap : (f : ℕ) → BodyOverlaps homes (bodies f).body
+  calls_overlap zero = (
+    subst (λ (f : AskedInMaps). f false false)
+        (sym (overlaps_map homes place loop_kind.Sequential (2 ∷ []) (0 ∷ []) (call ∷ []))) (
+          subst (λ (f : AskedInMaps). f false true) (sym (overlaps_call homes true (row ∷ row ∷ [])))
+              (overlaps, (overlaps, tt)),
+          tt,
+        ),
+    tt,
+  )
+  calls_overlap (suc zero) = tt
+  calls_overlap (suc (suc f)) = tt
+
+  suited : (f : ℕ) → EachOf (IsSuited (homes f).overlaps) (homes f).params
+  suited zero = (refl, tt)
+  suited (suc f) = (tt, (refl, tt))
+
+  overlaps_stand : OverlapsStand bodies homes
+  overlaps_stand = record { entry = refl; params = suited; calls = calls_overlap }
+
+  call_loop : CallLoop
+  call_loop = record
+      { kind = loop_kind.Sequential; rows = row ∷ row ∷ []; counts = 2 ∷ []; starts = 0 ∷ [] }
+
+  row_is : (j : ℕ) (q : CallInstance) → slice_get (row ∷ row ∷ []) j ≡ Some q → row ≡ q
+  row_is zero q e = cc e
+  row_is (suc zero) q e = cc e
+  row_is (suc (suc j)) q e = absurd (cc e)
+
+  same_heads : AreHeads row.args row.args
+  same_heads = more_heads (record { mode = refl; is_reduced = refl; array = refl })
+      (more_heads (record { mode = refl; is_reduced = refl; array = refl }) no_heads)
+
+  piped : IsPiped call_loop
+  unfolding call_loop
+  piped = record {
+    there = there;
+    form = λ i j r q e f. one_form i r e ∙ sym (one_form j q f);
+    heads = λ i j r q e f. subst (λ (z : CallInstance). AreHeads z.args q.args) (row_is i r e)
+        (subst (λ (z : CallInstance). AreHeads row.args z.args) (row_is j q f) same_heads);
+  }
+    where
+      row_there : (t : ℕ) → t < 2 → (r : CallInstance) × (slice_get (row ∷ row ∷ []) t ≡ Some r)
+      row_there zero l = (row, refl)
+      row_there (suc zero) l = (row, refl)
+      row_there (suc (suc t)) l = absurd (omega (arith, l))
+
+      there : (k t : ℕ) → t < get_or (2 ∷ []) k 0 → (r : CallInstance)
+          × (slice_get (row ∷ row ∷ []) (get_or (0 ∷ []) k 0 + t) ≡ Some r)
+      there zero t l = let z : 0 + t ≡ t = omega arith in let x = row_there t l in
+          (x.0, ap (slice_get (row ∷ row ∷ [])) z ∙ x.1)
+      there (suc k) t l = absurd (omega (arith, l))
+
+  loops_are : (call_loops loop).loops ++ [] ≡ call_loop ∷ []
+  unfolding call_loop
+  loops_are = ap (λ (l : CallLoops). l.loops ++ [])
+      (loops_map place loop_kind.Sequential (2 ∷ []) (0 ∷ []) (call ∷ []))
+      ∙ ap (λ (l : CallLoops). (loop_round loop_kind.Sequential (2 ∷ []) (0 ∷ []) (l ∷ []) ++ (l.loops ++ [])) ++ [])
+      (loops_call true (row ∷ row ∷ []))
+
+  pipes_stand : PipesStand bodies homes
+  pipes_stand = record { each = each }
+    where
+      each : (f : ℕ) → LoopsStand homes (call_loops_of (bodies f).body)
+      each zero = subst (LoopsStand homes) (sym loops_are) ((λ e. piped), tt)
+      each (suc zero) = tt
+      each (suc (suc f)) = tt
+
+  are_near : HomesAreNear bodies homes
+  are_near = record { near = near; held = held_inside; overlaps = overlaps_stand; stand = pipes_stand }
+    where
       near : (f : ℕ) (list : List Statement) → (bodies f).body ≡ body.Inner list → (i : ℕ) (t : Table)
           → slice_get (tables_in list None) i ≡ Some t → (j : ℕ) (r : CallInstance) → slice_get t.times j ≡ Some r
           → (k : ℕ) → k < length r.args → IsNear t.lower (get_or (homes r.form).params k InPlace)

@@ -43,10 +43,11 @@ slots_are_in_scope s most bounds last nodes level_of machine bodies homes level 
     here n args fits =
     let buffers = map buffer_or (homes 0).params in
     let term = entry_term bodies homes n args in
-    meets_less s (with_both Nothing (Settled s bodies (leveled_by homes level))) (InScope s) (λ env bs a h. h.1.0) term at_root buffers
+    meets_less s (with_both Nothing (Settled s bodies (leveled_by homes level))) (InScope s) (λ env bs a h. h.1.0) term
+    at_root buffers
     (entry_up s bodies homes level leveled roomy near Nothing first root n args _ fits at_root refl
-    (entry_is_fine s most bounds last nodes level_of machine bodies homes level leveled tabled first here n args
-    buffers))
+    (entry_is_fine s most bounds last nodes level_of machine bodies homes level leveled tabled
+    near.stand first here n args buffers))
 
 -- ---- events
 
@@ -131,12 +132,14 @@ plans_are_well_formed s leaves most bounds last nodes level_of machine bodies ho
     let term = entry_term bodies homes n args in
     let tree = plan_tree s (entry_placed bodies homes n args) (entry_shapes bodies args) buffers in
     let both = entry_up s bodies homes level leveled roomy near (RowsInside s) first root n args _ fits at_root refl
-    (entry_is_roomy s most bounds last nodes level_of machine bodies homes level leveled tabled roomy first here entry n
-    args fits buffers) in
+    (entry_is_roomy s most bounds last nodes level_of machine bodies homes level leveled tabled
+    near.stand roomy first here entry n args fits buffers) in
     let all = all_both (MayRun leaves) (λ e. IsRoomy s.capacity e × HasPath e) tree runs
     (all_both (IsRoomy s.capacity) HasPath tree inside paths) in
     let events = scoped_all (Runs s leaves bodies forms small low) 0 buffers (written s term at_root)
     (subst (AllEvents (Runs s leaves bodies forms small low))
-    (sym (plans_are_written s bodies homes level leveled first root n args many)) all) in
+    (sym (plans_are_written s bodies homes level leveled near.stand first root n args many))
+    all) in
     joined s (Asked s leaves bodies forms small low) (Asked s leaves bodies forms small low) (IsAllowed leaves s)
-    (Runs s leaves bodies forms small low) (allowed s leaves bodies forms small low) term at_root buffers both both events
+    (Runs s leaves bodies forms small low) (allowed s leaves bodies forms small low) term at_root buffers both both
+    events

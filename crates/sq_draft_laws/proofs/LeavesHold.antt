@@ -51,7 +51,7 @@ use Rattle.sq_forms_fit.specs.Sizes.{IsSized}
 use Rattle.sq_forms_fit.proofs.RowsHold.{body_is}
 use Rattle.sq_forms_fit.proofs.Whole.{arrays_are_sized}
 use Rattle.sq_homes_laws.specs.Programs.{BodiesAreTables}
-use Rattle.sq_homes_laws.specs.Simple.{Walked}
+use Rattle.sq_homes_laws.specs.Choosing.{Walked}
 use Rattle.sq_draft_laws.specs.Leaves.{LeavesOfDraftsStand}
 use Rattle.sq_draft_laws.proofs.Codes.{coded}
 use Rattle.sq_draft_laws.proofs.FormDims.{forms_have_counts}

@@ -15,6 +15,8 @@ pub mod Every
 pub mod Rising
 pub mod Moves
 pub mod Holding
+pub mod Lanes
+pub mod Sets
 pub mod Scoped
 pub mod Near
 pub mod Paths

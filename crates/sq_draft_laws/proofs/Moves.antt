@@ -1,5 +1,5 @@
 -- The arguments of a call and the arrays of a callee stand in buffers in scope, and rows that are moved have bytes.
-use Rattle.std.proofs.Common.{◌≡◌, ℕ, zero, suc, ◌+◌, ◌*◌, ◌<◌, ◌≤◌, ℤ, pos, Bool, List, [], ◌∷◌}
+use Rattle.std.proofs.Common.{◌≡◌, ℕ, zero, suc, ◌+◌, ◌*◌, ◌<◌, ◌≤◌, ℤ, pos, Bool, true, false, List, [], ◌∷◌}
 use Rattle.std.proofs.Common.{map, length, get_or, slice_get, Option, Some, None, refl, sym, ap, subst, ◌∙◌, arith}
 use Rattle.std.proofs.Common.{Contains, if◌then◌else◌}
 use Rattle.sq_num.specs.declared.Elem.{Elem}
@@ -28,17 +28,17 @@ use Rattle.sq_placed.specs.declared.home.Home.{Home}
 use Rattle.sq_placed.specs.declared.home.Home.TheVariants.{InPlace, Own, Held, Twin}
 use Rattle.sq_placed.specs.Seats.{cons_some}
 use Rattle.sq_placed.specs.Tables.{no_shape, placed_locals}
-use Rattle.sq_placed.specs.Trees.{is_moved, buffer_of, local_buffers}
+use Rattle.sq_placed.specs.Trees.{is_moved, is_held, buffer_of, local_buffers}
 use Rattle.sq_term.specs.declared.context.Context.{Context}
 use Rattle.sq_term.specs.declared.context.Move.{Move}
 use Rattle.sq_term.specs.Terms.{by_rows, copy_term, fill_term, add_term, clear_term, copy_in_term, copy_out_term}
 use Rattle.sq_term.specs.Terms.{bring_term_by, bring_term, back_term_by, back_term, local_view, offsets, block_view}
 use Rattle.sq_term.specs.Terms.{own_view, move_of, moves_from, buffers_from, hold_in_term_by, hold_in_term}
-use Rattle.sq_term.specs.Terms.{hold_out_term_by, hold_out_term}
+use Rattle.sq_term.specs.Terms.{hold_out_term_by, hold_out_term, come_in_term, fill_held_term}
 use Rattle.sq_term.specs.Stands.{IsOf, LocalsOf, below}
 use Rattle.sq_term_fit.specs.Rooms.{IsWhole, AreWhole}
 use Rattle.sq_plan_laws.specs.Seated.{IsNear}
-use Rattle.sq_draft_laws.specs.Scope.{InScope, IsSingle}
+use Rattle.sq_draft_laws.specs.Scope.{InScope}
 use Rattle.sq_draft_laws.proofs.Back.{with_both}
 use Rattle.sq_draft_laws.proofs.Every.{Every, Among, first_there, later_there}
 use Rattle.sq_draft_laws.proofs.Rising.{Rises, AllRise, rise_skip, rise_act, rise_loop, rise_if}
@@ -134,6 +134,10 @@ module _ (s : Setting) (bodies : ℕ → FormBody) (forms : Leveled) (P : AskedO
   if_up : (b : Bool) (x : Term) → Up x → Up (if b then x else term.Skip)
   if_up b x h = rise_if s P (with_both P (Settled s bodies forms)) level bs b x h
 
+  unless_up : (b : Bool) (x : Term) → Up x → Up (if b then term.Skip else x)
+  unless_up true x h = skip_up
+  unless_up false x h = h
+
   module _ (m : Move) (h : IsMoved s level bs m) where
     come : Up (copy_in_term m)
     come = copy_up m.own m.outside m.own h.some h.outside h.own.scope
@@ -158,6 +162,13 @@ module _ (s : Setting) (bodies : ℕ → FormBody) (forms : Leveled) (P : AskedO
         go None Input = skip_up
         go None Output = if_up (is_moved m.home) (copy_out_term m) back
         go None Both = if_up (is_moved m.home) (copy_out_term m) back
+
+    -- in a loop whose transfers overlap
+    pub come_in_up : Up (come_in_term m)
+    come_in_up = unless_up (is_held m.home) (bring_term m) bring_up
+
+    pub fill_held_up : Up (fill_held_term m)
+    fill_held_up = if_up (is_held m.home) (bring_term m) bring_up
 
     -- round a loop that it leaves
     pub hold_in_up : Up (hold_in_term m)
@@ -197,6 +208,13 @@ module _ (s : Setting) (bodies : ℕ → FormBody) (forms : Leveled) (P : AskedO
   )
 
 -- ---- the arguments of a call
+
+-- it has one buffer at most, and not two that are used in turn
+abbrev pub IsSingle : Home → Type 0
+IsSingle InPlace = Unit {0}
+IsSingle (Own b) = Unit {0}
+IsSingle (Held b loops) = Unit {0}
+IsSingle (Twin b c) = ⊥
 
 pub extents_own : (shape : Shape) (h : Home) (v : LeafView) → v.extents ≡ shape.extents → (own_view shape h v).extents
     ≡ shape.extents

@@ -7,14 +7,12 @@ use Rattle.sq_spec.specs.declared.statement.CallInstance.{CallInstance}
 use Rattle.sq_spec.specs.declared.body.Body.{Body}
 use Rattle.sq_spec.specs.declared.body.FormBody.{FormBody}
 use Rattle.sq_spec_laws.specs.TableRows.{Table}
-use Rattle.sq_placed.specs.declared.home.Home.TheVariants.{InPlace, Held}
+use Rattle.sq_placed.specs.declared.home.Home.TheVariants.{InPlace}
 use Rattle.sq_placed.specs.declared.home.Homes.{Homes}
 use Rattle.sq_cells.specs.Tree.{Cause}
 use Rattle.sq_plan_laws.specs.Seated.{IsNear}
 use Rattle.sq_forms_fit.specs.Rows.{operator_of, RowFits, BodyFits}
 use Rattle.sq_forms_fit.proofs.Facts.{passed, passed_there}
-use Rattle.sq_rooms.specs.Orders.{EachOf, rounds_of}
-use Rattle.sq_rooms.specs.Held.{IsHeldRow, AreHeldRows, AreHeldInside}
 use Rattle.sq_draft_laws.specs.Laws.{FormsAreNear}
 
 there : (xs : List Argument) (k : ℕ) → k < length xs → (a : Argument) × (slice_get xs k ≡ Some a)
@@ -34,25 +32,11 @@ near_row leaves bodies homes mays f t r fits k l =
     (passed_there (operator_of t.red) (bodies r.form).arrays (homes r.form).params 0 r.args k a.0 a.1))
 
 pub forms_are_near : FormsAreNear
-forms_are_near leaves bodies homes mays fit single held = record {
-  single = single;
+forms_are_near leaves bodies homes mays fit held overlaps stand = record {
   near = λ f list e i t g j r h k l.
       let list_fits = subst (λ (x : Body). BodyFits leaves bodies homes mays f x) e (fit f) in
       near_row leaves bodies homes mays f t r ((list_fits.tables i t g).rows j r h) k l;
   held = held;
+  overlaps = overlaps;
+  stand = stand;
 }
-
--- ---- where no parameter leaves a loop
-
-each_row : {A : Type 0} (P : A → Type 0) → ((x : A) → P x) → (xs : List A) → EachOf P xs
-each_row P h [] = tt
-each_row P h (x ∷ xs) = (h x, each_row P h xs)
-
-pub none_leaves : (bodies : ℕ → FormBody) (homes : ℕ → Homes)
-    → ((f i b n : ℕ) → get_or (homes f).params i InPlace ≡ Held b n → ⊥) → AreHeldInside bodies homes
-none_leaves bodies homes h f = each_row (AreHeldRows homes)
-    (λ q. each_row (IsHeldRow homes q) (λ r. record {
-      some = λ i b n e. absurd (h r.form i b n e);
-      round = λ i b n e. absurd (h r.form i b n e);
-      one = λ i b n e j x there. absurd (h r.form i b n e);
-    }) q.rows) (rounds_of (bodies f).body)

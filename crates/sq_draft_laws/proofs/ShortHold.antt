@@ -53,7 +53,7 @@ use Rattle.sq_draft_laws.specs.Paths.{Nested, nested_of, PathsFit, LeavesAreSmal
 use Rattle.sq_forms_fit.specs.Homes.{bodies_of}
 use Rattle.sq_forms_fit.proofs.RowsHold.{body_is}
 use Rattle.sq_homes_laws.specs.Programs.{BodiesAreTables}
-use Rattle.sq_homes_laws.specs.Simple.{Walked}
+use Rattle.sq_homes_laws.specs.Choosing.{Walked}
 use Rattle.sq_draft_laws.specs.Short.{round_by, round_of, LeavesAreShort}
 use Rattle.sq_draft_laws.proofs.Dimensions.{map_many}
 use Rattle.sq_draft_laws.proofs.EachForm.{each_good}

@@ -1,5 +1,5 @@
 -- The term of a program's entry, as a plan, is well formed.
-use Rattle.std.specs.Prelude.{◌≡◌, ℕ, ◌≤◌, ◌<◌, ◌^◌, Bool, List, length, map, take, get_or}
+use Rattle.std.specs.Prelude.{◌≡◌, ℕ, ◌≤◌, ◌<◌, ◌^◌, Bool, List, length, map, take}
 use Rattle.std.specs.List.{All}
 use Rattle.sq_leaf.specs.declared.shape.Shape.{Shape}
 use Rattle.sq_blocks.specs.declared.argument.Argument.{Argument}
@@ -8,7 +8,7 @@ use Rattle.sq_ir.specs.Unordered.{AllEvents}
 use Rattle.sq_ir.specs.Events.{Event, Copy, Fill, Accumulate, Leaf, Leaves}
 use Rattle.sq_ir.specs.Written.{Setting, at_root}
 use Rattle.sq_ir.specs.Plans.{Meets, IsAllowed}
-use Rattle.sq_placed.specs.declared.home.Home.TheVariants.{InPlace}
+use Rattle.sq_placed.specs.Pipes.{PipesStand}
 use Rattle.sq_placed.specs.declared.home.Homes.{Homes}
 use Rattle.sq_placed.specs.Tables.{entry_placed}
 use Rattle.sq_cells.specs.Tree.{Cause}
@@ -20,9 +20,10 @@ use Rattle.sq_term_fit.specs.Rooms.{RowFits, AreRoomy, EntryFits}
 use Rattle.sq_plan_laws.specs.Entry.{plan_tree, IsPlan}
 use Rattle.sq_plan_laws.specs.Room.{IsRoomy}
 use Rattle.sq_rooms.specs.Held.{AreHeldInside}
+use Rattle.sq_rooms.specs.Overlapping.{OverlapsStand}
 use Rattle.sq_forms_fit.specs.Rows.{FormsFit}
 use Rattle.sq_forms_fit.specs.Entry.{entry_shapes}
-use Rattle.sq_draft_laws.specs.Scope.{InScope, IsSingle, HomesAreNear}
+use Rattle.sq_draft_laws.specs.Scope.{InScope, HomesAreNear}
 use Rattle.sq_draft_laws.specs.Paths.{PathsFit, LeavesAreSmall}
 
 -- What the entry's actions name is in scope, with the entry's buffers in scope round it.
@@ -39,9 +40,8 @@ SlotsAreInScope = (s : Setting) (most : Bounds) → AreBounds most → (last nod
 -- In tables that fit no lower call has a parameter in the caller's array.
 abbrev pub FormsAreNear : Type 0
 FormsAreNear = (leaves : Leaves Cause) (bodies : ℕ → FormBody) (homes : ℕ → Homes) (mays : ℕ → ℕ → Bool)
-    → FormsFit leaves bodies homes mays
-    → ((f i : ℕ) → IsSingle (get_or (homes f).params i InPlace)) → AreHeldInside bodies homes
-    → HomesAreNear bodies homes
+    → FormsFit leaves bodies homes mays → AreHeldInside bodies homes → OverlapsStand bodies homes
+    → PipesStand bodies homes → HomesAreNear bodies homes
 
 -- ---- paths
 

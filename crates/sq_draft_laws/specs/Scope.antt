@@ -10,11 +10,12 @@ use Rattle.sq_spec.specs.declared.statement.Statement.{Statement}
 use Rattle.sq_spec.specs.declared.body.Body.TheVariants as body
 use Rattle.sq_spec.specs.declared.body.FormBody.{FormBody}
 use Rattle.sq_spec_laws.specs.TableRows.{Table, tables_in}
-use Rattle.sq_placed.specs.declared.home.Home.{Home}
-use Rattle.sq_placed.specs.declared.home.Home.TheVariants.{InPlace, Own, Held, Twin}
+use Rattle.sq_placed.specs.declared.home.Home.TheVariants.{InPlace}
+use Rattle.sq_placed.specs.Pipes.{PipesStand}
 use Rattle.sq_placed.specs.declared.home.Homes.{Homes}
 use Rattle.sq_plan_laws.specs.Seated.{IsNear}
 use Rattle.sq_rooms.specs.Held.{AreHeldInside}
+use Rattle.sq_rooms.specs.Overlapping.{OverlapsStand}
 
 -- the view's buffer is in scope, and of the level of the node in force
 pub record IsSeen (s : Setting) (env : Env) (buffers : List ℕ) (v : LeafView) : Type 0 where
@@ -30,19 +31,14 @@ InScope s env bs (action.Leaf code views path) = All (IsSeen s env bs) views
 
 -- ---- homes
 
--- it has one buffer at most, and not two that are used in turn
-abbrev pub IsSingle : Home → Type 0
-IsSingle InPlace = Unit {0}
-IsSingle (Own b) = Unit {0}
-IsSingle (Held b loops) = Unit {0}
-IsSingle (Twin b c) = ⊥
-
 -- A parameter stands in place, or in a buffer round each call or round loops; in the caller's array only a call at the
--- same level has one, and what leaves loops leaves those of a call that is all that stands in them.
+-- same level has one, and what leaves loops leaves those of a call that is all that stands in them. Two buffers in turn
+-- has only one of a form whose calls stand each alone in a loop that overlaps its transfers.
 pub record HomesAreNear (bodies : ℕ → FormBody) (homes : ℕ → Homes) : Type 0 where
-  pub single : (f i : ℕ) → IsSingle (get_or (homes f).params i InPlace)
   pub near : (f : ℕ) (list : List Statement) → (bodies f).body ≡ body.Inner list
       → (i : ℕ) (t : Table) → slice_get (tables_in list None) i ≡ Some t
       → (j : ℕ) (r : CallInstance) → slice_get t.times j ≡ Some r
       → (k : ℕ) → k < length r.args → IsNear t.lower (get_or (homes r.form).params k InPlace)
   pub held : AreHeldInside bodies homes
+  pub overlaps : OverlapsStand bodies homes
+  pub stand : PipesStand bodies homes

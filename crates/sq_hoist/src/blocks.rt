@@ -11,7 +11,8 @@ use sq_rect::overlap;
 use sq_spec::CallInstance;
 use sq_text::Span;
 
-fn shares(x: &Argument, y: &Argument) -> bool
+/// Whether two blocks of one array share an element.
+pub fn shares(x: &Argument, y: &Argument) -> bool
     ensures { result ≡ calls.shares x.now y.now }
 {
     let dims = x.rect.as_slice().len();
@@ -87,13 +88,15 @@ fn stays(i: usize, rows: &[CallInstance]) -> bool
     }
 }
 
-fn front(rows: &[CallInstance], n: usize) -> &[CallInstance]
+/// The first n rows, or all.
+pub fn front(rows: &[CallInstance], n: usize) -> &[CallInstance]
     ensures { result.now ≡ take n rows.now }
 {
     if n < rows.len() { &rows[..n] } else { rows }
 }
 
-fn behind(rows: &[CallInstance], n: usize) -> &[CallInstance]
+/// Those behind the first n.
+pub fn behind(rows: &[CallInstance], n: usize) -> &[CallInstance]
     ensures { result.now ≡ drop n rows.now }
 {
     if n < rows.len() { &rows[n..] } else { &[] }

@@ -53,8 +53,9 @@ fn push_form_sites(
     Ok(())
 }
 
-// The tables of one form are there at a time.
-fn sites_of(alloc: Global, r: &Resolved<'_>) -> Result<Items<Site>, AllocError>
+/// The calls in plain loops of all forms, by the number of the form in which they stand. The tables of one form are there
+/// at a time.
+pub fn sites_of(alloc: Global, r: &Resolved<'_>) -> Result<Items<Site>, AllocError>
     ensures { IfOk result (λ ss. ss ≡ spec.sites_of r.now) }
 {
     let mut out = Items::new(alloc);

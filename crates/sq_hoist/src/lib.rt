@@ -9,4 +9,9 @@ mod nest;
 mod notes;
 mod sites;
 
-pub use hoisting::hoist;
+pub use blocks::{behind, front, shares};
+pub use choices::choices_of;
+pub use hoisting::{hoist, sites_of};
+pub use names::name_at;
+pub use notes::push_site;
+pub use sites::Site;

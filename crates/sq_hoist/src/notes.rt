@@ -84,7 +84,8 @@ fn push_out(
     Ok(())
 }
 
-fn push_site(
+/// The notes of a call in plain loops.
+pub fn push_site(
     alloc: Global,
     out: &mut Notes,
     r: &Resolved<'_>,

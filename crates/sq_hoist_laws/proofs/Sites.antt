@@ -195,7 +195,7 @@ AreLocal look ss ts = EachOf (λ (t : Table). EachOf (λ (q : CallInstance). loo
 
 module _ (number : ℕ → ℕ) (look : ℕ → Leaves) where
   -- calls that are numbered from lo on are below lo and as many as they are
-  lowers : (lo hi : ℕ) (ts : List Table) → lo + length ts ≤ hi → Numbered number lo ts
+  pub lowers : (lo hi : ℕ) (ts : List Table) → lo + length ts ≤ hi → Numbered number lo ts
       → (low : ℕ) → low ≤ lo → LowersSo (IsWithin number low hi) ts
   lowers lo hi [] less n low down = tt
   lowers lo hi (t ∷ ts) less n low down = (

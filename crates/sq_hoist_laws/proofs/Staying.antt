@@ -50,13 +50,13 @@ covered_length [] (x ∷ c) h = absurd h
 covered_length (s ∷ a) [] h = absurd h
 covered_length (s ∷ a) (x ∷ c) h = ap suc (covered_length a c h.2)
 
-equal_is : (m n : ℕ) → m ≡ n → (m == n) ≡ true
+pub equal_is : (m n : ℕ) → m ≡ n → (m == n) ≡ true
 equal_is m n h = grind (arith, nat_tests)
 
 all_three : (a b c : Bool) → a ≡ true → b ≡ true → c ≡ true → (a && b && c) ≡ true
 all_three a b c p q r = (λ i. p i && q i && r i)
 
-shares_is : (x y : Argument) → SharesElement x y → shares x y ≡ true
+pub shares_is : (x y : Argument) → SharesElement x y → shares x y ≡ true
 shares_is x y h =
     let same : length x.rect ≡ length y.rect = covered_length x.rect h.blocks.coordinate h.blocks.in_one
     ∙ sym (covered_length y.rect h.blocks.coordinate h.blocks.in_other) in

@@ -1,6 +1,6 @@
 -- What is known of the tables of a program's forms.
 use Rattle.std.proofs.Common.{◌≡◌, ℕ, zero, suc, ◌+◌, ◌==◌, Bool, true, false, List, [], ◌∷◌, map, get_or}
-use Rattle.std.proofs.Common.{slice_get, Option, Some, None, is_some, refl, sym, ap, subst, ◌∙◌, arith}
+use Rattle.std.proofs.Common.{length, slice_get, Option, Some, None, is_some, refl, sym, ap, subst, ◌∙◌, arith}
 use Rattle.std.proofs.lemmas.Bool.Decides.{nat_tests}
 use Rattle.sq_text.specs.Names.{Bytes}
 use Rattle.sq_ast.specs.declared.stmt.Call.{Call}
@@ -58,6 +58,11 @@ no_flag all k (suc i) [] = refl
 no_flag all k zero (x ∷ xs) = refl
 no_flag all k (suc i) (x ∷ xs) = no_flag all (k + 1) i xs
 
+many_flags : (same : Bool) (all : List Argument) (k : ℕ) (xs : List Argument)
+    → length (flags_from same all k xs) ≡ length xs
+many_flags same all k [] = refl
+many_flags same all k (x ∷ xs) = ap suc (many_flags same all (k + 1) xs)
+
 not_same : (m n k : ℕ) → (m == suc n) ≡ true → k ≡ n → (m == k) ≡ false
 not_same m n k e is = grind (arith, nat_tests, e, is)
 
@@ -105,6 +110,7 @@ module _ (r : Resolved)
     pub number : number_of q.form ≡ i
     pub not_entry : q.form ≡ 0 → ⊥
     pub flat : lower ≡ true → IsFlat q.form
+    pub many : (form : Form) → slice_get r.forms q.form ≡ Some form → length form.in_place ≡ length q.args
 
   pub record TableIs (k i : ℕ) (t : Table) : Type 0 where
     pub rows : EachOf (RowIs k i t.lower) t.times
@@ -168,22 +174,32 @@ module _ (r : Resolved)
           ∙ ap (λ o. get_or (key_by o) 1 0) f.1
           ∙ ap (λ (key : Key). get_or key 1 0) f.2
 
-      flat : lower ≡ true → IsFlat q.form
-      flat low f at j =
+      form_flags : (f : Form) → slice_get r.forms q.form ≡ Some f
+          → f.in_place ≡ flags (row.reached.callee.level == frame.level) row.reached.arguments
+      form_flags f at =
           let runs = runs_at (form_number r.found.entries row.call.key) callee
           (its.ran.callees row.index row.call row.there).there in
           let same : Some f ≡ Some (with_locals callee.1 runs.ran.scope.locals) =
           sym at ∙ ap (slice_get r.forms) row.form ∙ runs.ran.kept in
           let is : f ≡ with_locals callee.1 runs.ran.scope.locals = cc same in
+          ap (λ (g : Form). g.in_place) is
+          ∙ (its.ran.callees row.index row.call row.there).is.in_place
+          ∙ ap (λ (d : Called). d.form.in_place) row.reached.is
+
+      flat : lower ≡ true → IsFlat q.form
+      flat low f at j =
           let below = sym row.level ∙ low in
           let far : (row.reached.callee.level == frame.level) ≡ false =
           not_same row.reached.callee.level frame.level frame.level below refl in
-          ap (λ (g : Form). get_or g.in_place j false) is
-          ∙ ap (λ (fs : List Bool). get_or fs j false)
-          ((its.ran.callees row.index row.call row.there).is.in_place
-          ∙ ap (λ (d : Called). d.form.in_place) row.reached.is
-          ∙ ap (λ s. flags s row.reached.arguments) far)
+          ap (λ (fs : List Bool). get_or fs j false)
+          (form_flags f at ∙ ap (λ s. flags s row.reached.arguments) far)
           ∙ no_flag row.reached.arguments 0 j row.reached.arguments
+
+      many : (f : Form) → slice_get r.forms q.form ≡ Some f → length f.in_place ≡ length q.args
+      many f at =
+          ap length (form_flags f at)
+          ∙ many_flags (row.reached.callee.level == frame.level) row.reached.arguments 0 row.reached.arguments
+          ∙ ap length (sym row.args)
 
       row_is : RowIs k i lower q
       row_is = record {
@@ -192,6 +208,7 @@ module _ (r : Resolved)
             keyed.is;
         not_entry = not_first;
         flat = flat;
+        many = many;
       }
 
     -- ---- the words of a row are those of the text

@@ -4,7 +4,7 @@ use Rattle.sq_spec.specs.Bodies.{body_of}
 use Rattle.sq_term.specs.Terms.{homes_in}
 use Rattle.sq_forms_fit.specs.Held.{HoldsFit}
 use Rattle.sq_homes.specs.Drafts.{homes_of}
-use Rattle.sq_homes_laws.specs.Simple.{Walked, AreHoisted}
+use Rattle.sq_homes_laws.specs.Choosing.{Walked, MayBeChosen, NoneOverlaps}
 use Rattle.sq_hoist.specs.Choices.{hoisted}
 use Rattle.sq_hoist_laws.specs.Times.{BodyIsBegun}
 use Rattle.std.specs.Prelude.{ℕ}
@@ -16,7 +16,11 @@ TablesHaveTimes = (r : Resolved) → Walked r → (k : ℕ)
 
 -- What leaves loops isn't in place, and leaves plain loops that stand round its call, which has one form.
 abbrev pub ChoicesAreHoisted : Type 0
-ChoicesAreHoisted = (r : Resolved) → Walked r → AreHoisted r (hoisted r)
+ChoicesAreHoisted = (r : Resolved) → Walked r → MayBeChosen r (hoisted r)
+
+-- No loop overlaps its transfers.
+abbrev pub HoistedOverlapNothing : Type 0
+HoistedOverlapNothing = (r : Resolved) → NoneOverlaps (hoisted r)
 
 -- It has the same block in all calls that the outermost loop begins which it leaves, apart from other arguments.
 abbrev pub ChoicesHold : Type 0

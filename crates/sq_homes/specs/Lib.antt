@@ -1,3 +1,4 @@
 pub mod Numbering
 pub mod Drafts
+pub mod Begun
 pub mod Laws

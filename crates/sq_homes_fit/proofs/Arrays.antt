@@ -15,7 +15,7 @@ use Rattle.sq_spec.specs.declared.body.FormBody.{FormBody}
 use Rattle.sq_spec.specs.declared.resolved.Resolved.{Resolved}
 use Rattle.sq_spec_laws.specs.Needs.{rounded}
 use Rattle.sq_placed.specs.declared.home.Home.{Home}
-use Rattle.sq_placed.specs.declared.home.Home.TheVariants.{InPlace, Held}
+use Rattle.sq_placed.specs.declared.home.Home.TheVariants.{InPlace, Held, Twin}
 use Rattle.sq_placed.specs.declared.home.Homes.{Homes}
 use Rattle.sq_placed.specs.Placed.{PlacedArg, PlacedLocal}
 use Rattle.sq_placed.specs.Tables.{no_shape, placed_args, placed_locals, locals_of}
@@ -27,11 +27,11 @@ use Rattle.sq_forms_fit.proofs.Shapes.{at_mapped}
 use Rattle.sq_homes.specs.declared.choice.Choice.{Choice}
 use Rattle.sq_homes.specs.Numbering.{standing, array_size, shape_size, local_base, locals_count}
 use Rattle.sq_homes.specs.Drafts.{bodies_of, homes_of, buffers_of, choice_in, buffer_at}
-use Rattle.sq_homes_laws.specs.Simple.{Walked, AreHoisted}
+use Rattle.sq_homes_laws.specs.Choosing.{Walked, MayBeChosen}
 use Rattle.sq_homes_fit.proofs.Forms.{past_or}
 use Rattle.sq_homes_fit.proofs.Numbers.{first_of, form_from}
 use Rattle.sq_homes_fit.proofs.Numbered.{in_range}
-use Rattle.sq_homes_fit.proofs.Places.{StandsAt, param_stands, local_stands}
+use Rattle.sq_homes_fit.proofs.Places.{StandsAt, param_stands, second_stands, local_stands}
 use Rattle.sq_homes_fit.proofs.Hoisted.{IsForm, params_many, param_is}
 use Rattle.sq_homes_fit.proofs.Ordered.{locals_are}
 
@@ -109,7 +109,7 @@ fits_in x =
 
 -- ---- of a form
 
-module _ (r : Resolved) (w : Walked r) (choices : List Choice) (are : AreHoisted r choices) (k : ℕ) (b : FormBody)
+module _ (r : Resolved) (w : Walked r) (choices : List Choice) (are : MayBeChosen r choices) (k : ℕ) (b : FormBody)
     (f : IsForm r choices are k b) where
   abbrev c : Choice
   c = choice_in choices k
@@ -122,7 +122,7 @@ module _ (r : Resolved) (w : Walked r) (choices : List Choice) (are : AreHoisted
 
   -- the buffer of the i-th array has this number
   abbrev pub HasNumber : (i n : ℕ) → Type 0
-  HasNumber i n = StandsAt c f.chosen.moved f.chosen.overlaps b first i n
+  HasNumber i n = StandsAt c f.chosen.moved b first i n
 
   -- a parameter's
   pub param_number : (i n : ℕ) → home_buffer (get_or homes.params i InPlace) ≡ Some n → HasNumber i n
@@ -134,8 +134,21 @@ module _ (r : Resolved) (w : Walked r) (choices : List Choice) (are : AreHoisted
           absurd (cc z)
       by (Some h) g =
           let p = param_is r choices are k b f i h g in
-          param_stands c f.chosen.moved f.chosen.overlaps b first i n p.less
+          param_stands c f.chosen.moved b first i n p.less
           (ap home_buffer (p.is ∙ sym (get_or_from_slice_get homes.params i h InPlace g)) ∙ e)
+
+  -- and in the second set
+  pub second_number : (i m n : ℕ) → get_or homes.params i InPlace ≡ Twin m n → HasNumber i n
+  second_number i m n e = by (slice_get homes.params i) refl
+    where
+      by : (o : Option Home) → slice_get homes.params i ≡ o → HasNumber i n
+      by None g =
+          let z : InPlace ≡ Twin m n = sym (past_or homes.params i InPlace g) ∙ e in
+          absurd (cc z)
+      by (Some h) g =
+          let p = param_is r choices are k b f i h g in
+          second_stands c f.chosen.moved b first i m n p.less
+          (p.is ∙ sym (get_or_from_slice_get homes.params i h InPlace g) ∙ e)
 
   pub held_number : (i n m : ℕ) → get_or homes.params i InPlace ≡ Held n m → HasNumber i n
   held_number i n m e = param_number i n (ap home_buffer e)
@@ -157,7 +170,7 @@ module _ (r : Resolved) (w : Walked r) (choices : List Choice) (are : AreHoisted
       let q = in_range (local_base first c) (locals_count b.arrays c) j n
       (ap (λ (l : List ℕ). slice_get l j) (sym (locals_are r w choices are k b f)) ∙ e) in
       subst (HasNumber (length c.in_place + j)) (sym q.is)
-      (local_stands c f.chosen.moved f.chosen.overlaps b first j q.less)
+      (local_stands c f.chosen.moved b first j q.less)
 
   -- one array's alone
   pub same_array : (i j n : ℕ) → HasNumber i n → HasNumber j n → i ≡ j

@@ -32,7 +32,7 @@ use Rattle.sq_spec_laws.proofs.TableRowsHold.{rows_are_reached}
 use Rattle.sq_term.specs.Terms.{body_in}
 use Rattle.sq_rooms.specs.Orders.{EachOf}
 use Rattle.sq_homes.specs.Drafts.{bodies_of}
-use Rattle.sq_homes_laws.specs.Simple.{Walked}
+use Rattle.sq_homes_laws.specs.Choosing.{Walked}
 use Rattle.sq_homes_laws.proofs.Programs.{bodies_are_tables}
 use Rattle.sq_homes_fit.proofs.Rounds.{each_of, BodySo}
 

@@ -30,14 +30,14 @@ use Rattle.sq_forms_fit.proofs.RowsHold.{arrays_are, params_are, mays_are}
 use Rattle.sq_forms_fit.proofs.Shapes.{param_shape}
 use Rattle.sq_homes.specs.declared.choice.Choice.{Choice}
 use Rattle.sq_homes.specs.Drafts.{bodies_of, homes_of, args_of, extents_by, choice_in}
-use Rattle.sq_homes_laws.specs.Simple.{Walked, AreHoisted}
+use Rattle.sq_homes_laws.specs.Choosing.{Walked, MayBeChosen}
 use Rattle.sq_homes_fit.specs.Homes.{EntriesAreWhole, HasOwn, EntriesHaveBuffers}
 use Rattle.sq_homes_fit.proofs.Forms.{tasks, instances, resolving, body_at, run_of, sized, bodies_are}
 use Rattle.sq_homes_fit.proofs.Forms.{body_there}
 use Rattle.sq_homes_fit.proofs.Fitting.{homes_fit}
 use Rattle.sq_homes_fit.proofs.Numbers.{first_of}
 use Rattle.sq_homes_fit.proofs.Hoisted.{IsForm, is_form, param_is}
-use Rattle.sq_homes_fit.proofs.Places.{own_number, HomeIs, stays, owns, leaves, home_by}
+use Rattle.sq_homes_fit.proofs.Places.{own_number, HomeIs, stays, owns, owns_two, leaves, home_by}
 
 -- ---- the arguments of the entry
 
@@ -157,7 +157,7 @@ module _ (r : Resolved) (w : Walked r) where
       (entry r).found run i)
       ∙ may))
 
-  module _ (choices : List Choice) (are : AreHoisted r choices) where
+  module _ (choices : List Choice) (are : MayBeChosen r choices) where
     abbrev homes : Homes
     homes = homes_in (homes_of r choices) 0
 
@@ -192,17 +192,18 @@ module _ (r : Resolved) (w : Walked r) where
     own_home : (i : ℕ) (h : Home) → slice_get homes.params i ≡ Some h → HasOwn h
     own_home i h e =
         let p = param_is r choices are 0 (body_at r 0) its i h e in
-        by p.is (home_by c its.chosen.moved its.chosen.overlaps (first_of r choices 0) i)
+        by p.is (home_by c its.chosen.moved (first_of r choices 0) i)
       where
         left : loops_left h ≡ 0
         left = ap loops_left (sym (get_or_from_slice_get homes.params i h InPlace e)) ∙ are.entry i
 
-        by : {x : Home} → x ≡ h → HomeIs c its.chosen.moved its.chosen.overlaps (first_of r choices 0) i x → HasOwn h
+        by : {x : Home} → x ≡ h → HomeIs c its.chosen.moved (first_of r choices 0) i x → HasOwn h
         by is (stays f l) = absurd (none_in_place i f)
-        by is (owns f l) = record {
-          buffer = own_number c its.chosen.moved its.chosen.overlaps (first_of r choices 0) i;
+        by is (owns f l o) = record {
+          buffer = own_number c its.chosen.moved (first_of r choices 0) i;
           is = sym is;
         }
+        by is (owns_two f l o) = let no : true ≡ false = sym o ∙ are.first in absurd (cc no)
         by is (leaves n f l) =
             let z : suc n ≡ 0 = ap loops_left is ∙ left in
             absurd (omega (arith, z))

@@ -20,7 +20,7 @@ use Rattle.sq_forms_fit.specs.Entry.{entry_shapes}
 use Rattle.sq_forms_fit.proofs.Shapes.{mapped_at, at_mapped}
 use Rattle.sq_homes.specs.declared.choice.Choice.{Choice}
 use Rattle.sq_homes.specs.Drafts.{bodies_of, homes_of, args_of, entry_of, choice_in}
-use Rattle.sq_homes_laws.specs.Simple.{Walked, AreHoisted, setting_of}
+use Rattle.sq_homes_laws.specs.Choosing.{Walked, MayBeChosen, setting_of}
 use Rattle.sq_homes_laws.proofs.Standing.{map_length}
 use Rattle.sq_homes_fit.specs.Owned.{draft_placed, DraftsOwn}
 use Rattle.sq_homes_fit.proofs.Entry.{entry, form, entries_are_whole, entries_have_buffers}
@@ -46,7 +46,7 @@ take_many zero xs h = refl
 take_many (suc n) [] h = absurd (omega (arith, h))
 take_many (suc n) (x ∷ xs) h = ap suc (take_many n xs (omega (arith, h)))
 
-module _ (r : Resolved) (w : Walked r) (choices : List Choice) (are : AreHoisted r choices) where
+module _ (r : Resolved) (w : Walked r) (choices : List Choice) (are : MayBeChosen r choices) where
   abbrev fb : ℕ → FormBody
   fb = body_in (bodies_of r)
 

@@ -1,48 +1,30 @@
 -- The homes of a draft fit its forms.
-use Rattle.std.proofs.Common.{◌≡◌, ℕ, ◌+◌, ◌-◌, Bool, true, List, length, if◌then◌else◌, Some, ap, ◌∙◌, arith}
+use Rattle.std.proofs.Common.{◌≡◌, ℕ, ◌-◌, true, List, length, Some, ap, ◌∙◌, arith}
 use Rattle.std.specs.Prelude.{slice_get}
-use Rattle.std.specs.List.{range_with_len}
 use Rattle.std.proofs.lemmas.List.FromFn.{length-range_with_len}
-use Rattle.sq_text.specs.declared.spread.SpreadRule.{SpreadRule}
 use Rattle.sq_forms.specs.declared.form.Found.{Found}
 use Rattle.sq_forms.specs.Resolving.{with_locals}
 use Rattle.sq_forms.specs.Steps.{Key}
-use Rattle.sq_spec.specs.declared.body.FormBody.{FormBody}
 use Rattle.sq_spec.specs.declared.resolved.Resolved.{Resolved}
 use Rattle.sq_placed.specs.declared.home.Home.{Home}
-use Rattle.sq_placed.specs.declared.home.Home.TheVariants.{InPlace, Own}
+use Rattle.sq_placed.specs.declared.home.Home.TheVariants.{InPlace}
 use Rattle.sq_placed.specs.declared.home.Homes.{Homes}
 use Rattle.sq_term.specs.Terms.{homes_in}
 use Rattle.sq_forms_fit.specs.Homes.{AreHomes}
 use Rattle.sq_homes.specs.declared.choice.Choice.{Choice}
 use Rattle.sq_homes.specs.Drafts.{homes_of, choice_in}
-use Rattle.sq_homes.specs.Numbering.{form_homes, home_of, others, position, local_base, locals_count}
-use Rattle.sq_homes_laws.specs.Simple.{Walked, AreHoisted}
-use Rattle.sq_homes_laws.proofs.Standing.{map_length}
+use Rattle.sq_homes.specs.Numbering.{local_base, locals_count}
+use Rattle.sq_homes_laws.specs.Choosing.{Walked, MayBeChosen}
 use Rattle.sq_homes_fit.specs.Homes.{HomesFitForms}
 use Rattle.sq_homes_fit.proofs.Found.{found_plain}
-use Rattle.sq_homes_fit.proofs.Forms.{plain, body_at, resolving, run_of, body_there, arrays_of_form}
+use Rattle.sq_homes_fit.proofs.Forms.{body_at, resolving, run_of, body_there, arrays_of_form}
 use Rattle.sq_homes_fit.proofs.Numbers.{first_of}
-use Rattle.sq_homes_fit.proofs.Places.{HomeIs, stays, owns, leaves, home_by}
+use Rattle.sq_homes_fit.proofs.Places.{HomeIs, stays, owns, owns_two, leaves, home_by}
 use Rattle.sq_homes_fit.proofs.Hoisted.{IsForm, is_form, params_many, param_is}
-
--- ---- of choices in which nothing leaves a loop
-
-abbrev pub own_or : (n : ℕ) → Bool → Home
-own_or n flag = if flag then InPlace else Own n
-
--- the number of a parameter's buffer
-abbrev pub number_of : (first : ℕ) → List Bool → ℕ → ℕ
-number_of first flags i = first + 0 + position i (others (plain flags))
-
-pub params_long : (first : ℕ) (rule : SpreadRule) (code : ℕ) (b : FormBody) (flags : List Bool)
-    → length (form_homes first rule code b (plain flags)).params ≡ length flags
-params_long first rule code b flags = map_length (home_of first (plain flags)) (range_with_len 0 (length flags))
-    ∙ length-range_with_len 0 (length flags)
 
 -- ---- of a draft
 
-module _ (r : Resolved) (w : Walked r) (choices : List Choice) (are : AreHoisted r choices) (k : ℕ) (form : Key × Found)
+module _ (r : Resolved) (w : Walked r) (choices : List Choice) (are : MayBeChosen r choices) (k : ℕ) (form : Key × Found)
     (there : slice_get r.found.entries k ≡ Some form) where
   abbrev homes : Homes
   homes = homes_in (homes_of r choices) k
@@ -56,13 +38,14 @@ module _ (r : Resolved) (w : Walked r) (choices : List Choice) (are : AreHoisted
   found_in_place : (i : ℕ) → slice_get homes.params i ≡ Some InPlace → slice_get form.1.in_place i ≡ Some true
   found_in_place i e =
       let p = param_is r choices are k (body_at r k) its i InPlace e in
-      by p.is (home_by c its.chosen.moved its.chosen.overlaps (first_of r choices k) i)
+      by p.is (home_by c its.chosen.moved (first_of r choices k) i)
     where
-      by : {x : Home} → x ≡ InPlace → HomeIs c its.chosen.moved its.chosen.overlaps (first_of r choices k) i x
+      by : {x : Home} → x ≡ InPlace → HomeIs c its.chosen.moved (first_of r choices k) i x
           → slice_get form.1.in_place i ≡ Some true
       by is (stays f l) = (are.each k (with_locals form.1 (run_of r w k form there).ran.scope.locals)
           (run_of r w k form there).ran.kept).in_place i f
-      by is (owns f l) = absurd (cc is)
+      by is (owns f l o) = absurd (cc is)
+      by is (owns_two f l o) = absurd (cc is)
       by is (leaves n f l) = absurd (cc is)
 
   pub homes_fit : AreHomes form.1 (body_at r k).arrays homes

@@ -1,15 +1,15 @@
 -- What is known of each form of a draft: its body, its homes and its buffers.
-use Rattle.std.proofs.Common.{◌≡◌, ℕ, zero, suc, ◌+◌, ◌<◌, ◌≤◌, Bool, true, false, List, [], ◌∷◌, length, map}
-use Rattle.std.proofs.Common.{get_or, Some, None, refl, sym, ap, ap₂, ◌∙◌, subst, arith, length-append}
+use Rattle.std.proofs.Common.{◌≡◌, ℕ, zero, suc, ◌+◌, ◌<◌, ◌≤◌, List, [], ◌∷◌, length, map}
+use Rattle.std.proofs.Common.{get_or, Some, None, refl, sym, ap, ◌∙◌, arith, length-append}
 use Rattle.std.specs.Prelude.{slice_get}
 use Rattle.std.specs.List.{range_with_len}
-use Rattle.std.proofs.lemmas.Option.{slice_get_within, get_or_from_slice_get}
+use Rattle.std.proofs.lemmas.Option.{slice_get_within}
 use Rattle.sq_ast.specs.declared.program.Variant.{Variant}
 use Rattle.sq_mapfile.specs.declared.mapping.Instance.{Instance}
 use Rattle.sq_leaf.specs.declared.shape.Shape.{Shape}
 use Rattle.sq_forms.specs.declared.form.Found.{Found}
 use Rattle.sq_forms.specs.declared.form.LocalArray.{LocalArray}
-use Rattle.sq_forms.specs.Resolving.{Resolving, with_locals}
+use Rattle.sq_forms.specs.Resolving.{Resolving}
 use Rattle.sq_forms.specs.Steps.{Key}
 use Rattle.sq_form_laws.specs.Served.{FormRuns}
 use Rattle.sq_form_laws.proofs.FitHold.{forms_run}
@@ -18,19 +18,15 @@ use Rattle.sq_spec.specs.declared.body.FormBody.{FormBody}
 use Rattle.sq_spec.specs.declared.resolved.Resolved.{Resolved}
 use Rattle.sq_spec.specs.Bodies.{body_of, found_body, no_body}
 use Rattle.sq_spec.specs.Works.{shapes_of}
-use Rattle.sq_term.specs.Terms.{body_in, homes_in, no_homes}
+use Rattle.sq_term.specs.Terms.{body_in}
 use Rattle.sq_forms_fit.specs.Sizes.{IsSized}
 use Rattle.sq_forms_fit.proofs.RowsHold.{arrays_are}
 use Rattle.sq_forms_fit.proofs.Shapes.{dims_are}
 use Rattle.sq_forms_fit.proofs.Whole.{arrays_are_sized}
-use Rattle.sq_homes.specs.declared.choice.Choice.{Choice}
-use Rattle.sq_homes.specs.Drafts.{bodies_of, homes_of, homes_from, buffers_of, choice_in, instance_at, rule_by}
-use Rattle.sq_homes.specs.Drafts.{buffer_at}
-use Rattle.sq_homes.specs.Numbering.{standing, form_homes}
-use Rattle.sq_homes_laws.specs.Simple.{Walked, AreSimple}
+use Rattle.sq_homes.specs.Drafts.{bodies_of}
+use Rattle.sq_homes_laws.specs.Choosing.{Walked}
 use Rattle.sq_homes_laws.proofs.Programs.{bodies_are_tables}
-use Rattle.sq_homes_laws.proofs.Standing.{map_length, forms_stand}
-use Rattle.sq_homes_fit.proofs.Found.{found_plain}
+use Rattle.sq_homes_laws.proofs.Standing.{map_length}
 
 -- ---- lists
 
@@ -55,14 +51,6 @@ pub past_or : {A : Type 0} (xs : List A) (i : ℕ) (d : A) → slice_get xs i �
 past_or [] i d h = refl
 past_or (x ∷ xs) zero d h = absurd (cc h)
 past_or (x ∷ xs) (suc i) d h = past_or xs i d h
-
--- ---- a simple choice
-
-abbrev pub plain : List Bool → Choice
-plain flags = record { in_place = flags; leaves = []; overlaps = false }
-
-is_plain : (c : Choice) → c.leaves ≡ [] → c.overlaps ≡ false → c ≡ plain c.in_place
-is_plain c l o = ap₂ (λ (ls : List ℕ) (b : Bool). record { in_place = c.in_place; leaves = ls; overlaps = b }) l o
 
 -- ---- forms
 
@@ -128,54 +116,3 @@ module _ (r : Resolved) (w : Walked r) where
         locals = length locals;
         many = ap length is ∙ (sym long ∙ (ap length dims ∙ all));
       }
-
-none_behind : (r : Resolved) (choices : List Choice) (k base code : ℕ) (bs : List FormBody) (f : ℕ) → slice_get bs f
-    ≡ None
-    → slice_get (homes_from r choices k base code bs) f ≡ None
-none_behind r choices k base code [] f h = refl
-none_behind r choices k base code (x ∷ bs) zero h = absurd (cc h)
-none_behind r choices k base code (x ∷ bs) (suc f) h = none_behind r choices (suc k) _ _ bs f h
-
--- the homes and the buffers of a form
-pub record IsDrafted (r : Resolved) (choices : List Choice) (k : ℕ) (f : Found) : Type 0 where
-  pub flags : List Bool
-  pub choice : choice_in choices k ≡ plain flags
-  pub many : length flags ≡ length f.extents
-  pub in_place : (i : ℕ) → get_or flags i false ≡ true → slice_get f.in_place i ≡ Some true
-  pub first : ℕ
-  pub code : ℕ
-  pub homes : homes_in (homes_of r choices) k
-      ≡ form_homes first (rule_by (instance_at r k)) code (body_at r k) (plain flags)
-  pub buffers : (i : ℕ) → i < length (standing (body_at r k) (plain flags))
-      → slice_get (buffers_of r choices) (first + i)
-      ≡ slice_get (map (buffer_at r k (body_at r k)) (standing (body_at r k) (plain flags))) i
-
-module _ (r : Resolved) (w : Walked r) (choices : List Choice) (simple : AreSimple r choices) where
-  pub drafted : (k : ℕ) (form : Key × Found) → slice_get r.found.entries k ≡ Some form → IsDrafted r choices k form.1
-  drafted k form there =
-      let run = run_of r w k form there in
-      let own = simple.each k (with_locals form.1 run.ran.scope.locals) run.ran.kept in
-      let c = choice_in choices k in
-      let st = forms_stand r choices k (body_at r k) (body_there r w k form there) in
-      let is = is_plain c own.leaves own.overlaps in
-      let plainly = found_plain r.typed.now r.machine.now.levels r.mapping.now w.read (resolving r) w.through k form
-      there in
-      record {
-        flags = c.in_place;
-        choice = is;
-        many = own.flags ∙ plainly.flags;
-        in_place = own.in_place;
-        first = st.first;
-        code = st.code;
-        homes = get_or_from_slice_get (homes_of r choices) k
-            (form_homes st.first (rule_by (instance_at r k)) st.code (body_at r k) c) no_homes st.homes
-            ∙ ap (form_homes st.first (rule_by (instance_at r k)) st.code (body_at r k)) is;
-        buffers = subst
-            (λ (d : Choice). (i : ℕ) → i < length (standing (body_at r k) d)
-            → slice_get (buffers_of r choices) (st.first + i)
-            ≡ slice_get (map (buffer_at r k (body_at r k)) (standing (body_at r k) d)) i) is st.buffers;
-      }
-
-  pub no_homes_there : (k : ℕ) → slice_get r.found.entries k ≡ None → homes_in (homes_of r choices) k ≡ no_homes
-  no_homes_there k none = past_or (homes_of r choices) k no_homes
-      (none_behind r choices 0 0 0 (bodies_of r) k (no_body_there r w k none))

@@ -6,7 +6,7 @@ use Rattle.sq_spec.specs.declared.statement.CallInstance.{CallInstance}
 use Rattle.sq_spec.specs.declared.body.FormBody.{FormBody}
 use Rattle.sq_spec.specs.declared.resolved.Resolved.{Resolved}
 use Rattle.sq_placed.specs.declared.home.Home.{Home}
-use Rattle.sq_placed.specs.declared.home.Home.TheVariants.{InPlace, Own, Held}
+use Rattle.sq_placed.specs.declared.home.Home.TheVariants.{InPlace, Own, Held, Twin}
 use Rattle.sq_placed.specs.declared.home.Homes.{Homes}
 use Rattle.sq_term.specs.Terms.{body_in, homes_in}
 use Rattle.sq_term_fit.specs.Leaves.{loops_left}
@@ -15,17 +15,17 @@ use Rattle.sq_rooms.specs.Held.{IsHeldRow, AreHeldRows}
 use Rattle.sq_homes.specs.declared.choice.Choice.{Choice}
 use Rattle.sq_homes.specs.Numbering.{left_by}
 use Rattle.sq_homes.specs.Drafts.{bodies_of, homes_of, choice_in}
-use Rattle.sq_homes_laws.specs.Simple.{left_in, AreHoisted}
+use Rattle.sq_homes_laws.specs.Choosing.{left_in, MayBeChosen}
 use Rattle.sq_homes_laws.proofs.Hoisting.{no_homes_at}
 use Rattle.sq_homes_fit.specs.Homes.{HomesAreHeldInside}
 use Rattle.sq_homes_fit.proofs.Forms.{past_or}
 use Rattle.sq_homes_fit.proofs.Numbers.{first_of}
 use Rattle.sq_homes_fit.proofs.Rounds.{each_as}
-use Rattle.sq_homes_fit.proofs.Places.{HomeIs, stays, owns, leaves, home_by}
+use Rattle.sq_homes_fit.proofs.Places.{HomeIs, stays, owns, owns_two, leaves, home_by}
 use Rattle.sq_homes_fit.proofs.Leaving.{RowIsIn, RoundIsIn, rounds_are_in}
 use Rattle.sq_homes_fit.proofs.Hoisted.{is_form, param_is}
 
-module _ (r : Resolved) (choices : List Choice) (are : AreHoisted r choices) where
+module _ (r : Resolved) (choices : List Choice) (are : MayBeChosen r choices) where
   abbrev homes : ℕ → Homes
   homes = homes_in (homes_of r choices)
 
@@ -40,15 +40,15 @@ module _ (r : Resolved) (choices : List Choice) (are : AreHoisted r choices) whe
           let its = is_form r choices are f a h in
           let p = param_is r choices are f a its i x g in
           of p.is (get_or_from_slice_get (homes f).params i x InPlace g)
-          (home_by (choice_in choices f) its.chosen.moved its.chosen.overlaps (first_of r choices f) i)
+          (home_by (choice_in choices f) its.chosen.moved (first_of r choices f) i)
         where
           of : {y : Home} → {moved : (j : ℕ) → 0 < left_by (choice_in choices f) j
-              → get_or (choice_in choices f).in_place j false ≡ false}
-              → {overlaps : (choice_in choices f).overlaps ≡ false} → y ≡ x
+              → get_or (choice_in choices f).in_place j false ≡ false} → y ≡ x
               → get_or (homes f).params i InPlace ≡ x
-              → HomeIs (choice_in choices f) moved overlaps (first_of r choices f) i y → 0 < n
+              → HomeIs (choice_in choices f) moved (first_of r choices f) i y → 0 < n
           of is at (stays c l) = let z : InPlace ≡ Held b n = is ∙ (sym at ∙ e) in absurd (cc z)
-          of is at (owns c l) = let z : Own _ ≡ Held b n = is ∙ (sym at ∙ e) in absurd (cc z)
+          of is at (owns c l o) = let z : Own _ ≡ Held b n = is ∙ (sym at ∙ e) in absurd (cc z)
+          of is at (owns_two c l o) = let z : Twin _ _ ≡ Held b n = is ∙ (sym at ∙ e) in absurd (cc z)
           of is at (leaves m c l) =
               let z : suc m ≡ n = ap loops_left (is ∙ (sym at ∙ e)) in
               omega (arith, z)

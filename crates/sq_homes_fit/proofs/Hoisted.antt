@@ -15,7 +15,7 @@ use Rattle.sq_term.specs.Terms.{no_homes, body_in, homes_in}
 use Rattle.sq_homes.specs.declared.choice.Choice.{Choice}
 use Rattle.sq_homes.specs.Numbering.{home_of, form_homes, local_base, locals_count}
 use Rattle.sq_homes.specs.Drafts.{bodies_of, homes_of, choice_in, instance_at, rule_by}
-use Rattle.sq_homes_laws.specs.Simple.{IsHoisted, AreHoisted}
+use Rattle.sq_homes_laws.specs.Choosing.{IsChosenFor, MayBeChosen}
 use Rattle.sq_homes_laws.proofs.Standing.{map_length}
 use Rattle.sq_homes_laws.proofs.Hoisting.{no_item, at_index, bodies_many}
 use Rattle.sq_homes_fit.proofs.Numbers.{first_of, FormIsAt, form_is_at}
@@ -52,7 +52,7 @@ param_at f n i h e =
           ∙ get_or_from_slice_get (map f (range_with_len 0 n)) i h InPlace e;
     }
 
-module _ (r : Resolved) (choices : List Choice) (hoisted : AreHoisted r choices) where
+module _ (r : Resolved) (choices : List Choice) (hoisted : MayBeChosen r choices) where
   abbrev homes : ℕ → Homes
   homes = homes_in (homes_of r choices)
 
@@ -63,7 +63,7 @@ module _ (r : Resolved) (choices : List Choice) (hoisted : AreHoisted r choices)
     pub at_body : slice_get (bodies_of r) k ≡ Some b
     pub body : body_in (bodies_of r) k ≡ b
     pub at : FormIsAt r choices k b
-    pub chosen : IsHoisted form (choice_in choices k)
+    pub chosen : IsChosenFor form (choice_in choices k)
     pub params : (homes k).params
         ≡ map (home_of (first_of r choices k) (choice_in choices k))
         (range_with_len 0 (length (choice_in choices k).in_place))

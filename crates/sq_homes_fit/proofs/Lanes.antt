@@ -1,6 +1,6 @@
 -- Each iteration of a draft's spread maps has a child.
-use Rattle.std.proofs.Common.{◌≡◌, ℕ, zero, suc, ◌-◌, ◌<◌, Bool, true, false, List, [], ◌∷◌, length, Option}
-use Rattle.std.proofs.Common.{Some, None, is_some, refl, sym, subst, arith}
+use Rattle.std.proofs.Common.{◌≡◌, ℕ, zero, suc, ◌+◌, ◌-◌, ◌<◌, Bool, true, false, List, [], ◌∷◌, length, Option}
+use Rattle.std.proofs.Common.{Some, None, slice_get, is_some, refl, sym, subst, arith}
 use Rattle.sq_num.specs.declared.RedOp.{RedOp}
 use Rattle.sq_text.specs.declared.place.Place.{Place}
 use Rattle.sq_text.specs.declared.spread.SpreadRule.{SpreadRule}
@@ -17,9 +17,9 @@ use Rattle.sq_spec.specs.declared.statement.Statement.{Statement}
 use Rattle.sq_spec.specs.declared.body.FormBody.{FormBody}
 use Rattle.sq_spec.specs.declared.resolved.Resolved.{Resolved}
 use Rattle.sq_placed.specs.declared.home.Homes.{Homes}
-use Rattle.sq_placed.specs.Placed.{Placed, PlacedArg, Call}
+use Rattle.sq_placed.specs.Placed.{Placed, PlacedArg, Call, Piped}
 use Rattle.sq_placed.specs.Tables.{map_placed, placed_call, placed_of, leaving_chain, held_arg, chain_form, chain_row}
-use Rattle.sq_placed.specs.Tables.{hold_placed}
+use Rattle.sq_placed.specs.Tables.{hold_placed, placed_rule, row_call, row_body}
 use Rattle.sq_cells.specs.Machine.{fan_of, lane, lane_of}
 use Rattle.sq_plan_laws.specs.Seated.{at_node}
 use Rattle.sq_term.specs.Terms.{body_in, homes_in}
@@ -33,7 +33,7 @@ use Rattle.sq_plan_room.specs.Buffers.{HaveLanes}
 use Rattle.sq_homes.specs.declared.choice.Choice.{Choice}
 use Rattle.sq_homes.specs.Drafts.{bodies_of, homes_of, buffers_of}
 use Rattle.sq_homes_laws.specs.Given.{level_at}
-use Rattle.sq_homes_laws.specs.Simple.{Walked, AreHoisted, AreMemories, setting_of}
+use Rattle.sq_homes_laws.specs.Choosing.{Walked, MayBeChosen, AreMemories, setting_of}
 use Rattle.sq_homes_laws.proofs.Descending.{calls_descend}
 use Rattle.sq_homes_laws.proofs.Programs.{bodies_are_tables}
 use Rattle.sq_homes_fit.specs.Drafts.{limits}
@@ -53,7 +53,7 @@ lane_below : (s : Setting) (rule : SpreadRule) (node n t : ℕ) → 0 < s.childr
 unfolding fan_of lane
 lane_below s rule node n t some l = (spreads rule n (s.children node) some).below t l
 
-module _ (r : Resolved) (w : Walked r) (choices : List Choice) (are_hoisted : AreHoisted r choices) where
+module _ (r : Resolved) (w : Walked r) (choices : List Choice) (are_hoisted : MayBeChosen r choices) where
   abbrev fb : ℕ → FormBody
   fb = body_in (bodies_of r)
 
@@ -138,6 +138,40 @@ module _ (r : Resolved) (w : Walked r) (choices : List Choice) (are_hoisted : Ar
         let there : IsAt (level_at r q.form) node = subst (λ (m : ℕ). IsAt m node) (sym l) at in
         ih q.form node there 0 (some_child q.form node there)
 
+    -- a loop that overlaps its transfers
+    pipe_laned : (d k node : ℕ) → IsAt (level_at r k) node
+        → ((f n : ℕ) → IsAt (level_at r f) n → Laned f n (placed_of fb fh d f))
+        → (spread : Option SpreadRule) (place : Place) (count start : ℕ) (rows : List CallInstance)
+        → ((i : ℕ) (q : CallInstance) → slice_get rows i ≡ Some q → level_at r q.form ≡ below true (level_at r k))
+        → level_at r k < last
+        → Laned k node (Piped (placed_rule place spread) count
+        (λ t. row_call fb fh (placed_of fb fh d) (slice_get rows (start + t))) (λ t. row_body fb fh (placed_of fb fh d) (slice_get rows (start + t))))
+    pipe_laned d k node at ih spread place count start rows deep low child ok = go spread
+      where
+        inside : (c t : ℕ) → c < s.children node
+            → HaveLanes s (row_body fb fh (placed_of fb fh d) (slice_get rows (start + t))) (s.child node c) 0
+        inside c t less = by (slice_get rows (start + t)) refl
+          where
+            by : (o : Option CallInstance) → slice_get rows (start + t) ≡ o
+                → HaveLanes s (row_body fb fh (placed_of fb fh d) o) (s.child node c) 0
+            by None e = tt
+            by (Some q) e =
+                let n = s.child node c in
+                let there : IsAt (level_at r q.form) n =
+                subst (λ (m : ℕ). IsAt m n) (sym (deep (start + t) q e)) (its.machine.below (level_at r k) node c at less) in
+                ih q.form n there 0 (some_child q.form n there)
+
+        go : (rule : Option SpreadRule) → HaveLanes s (Piped (placed_rule place rule) count
+            (λ t. row_call fb fh (placed_of fb fh d) (slice_get rows (start + t)))
+            (λ t. row_body fb fh (placed_of fb fh d) (slice_get rows (start + t)))) node child
+        go None = λ t l. (tt, inside child t (ok low))
+        go (Some rule) = λ t l.
+            let lane = lane_below s rule node count t (some_child k node at low) l in (
+              lane,
+              inside (lane_of rule (at_node s node) count t) t
+                  (subst (λ (n : ℕ). lane_of rule (at_node s node) count t < n) (fan_is s node) lane),
+            )
+
     -- a loop that arguments leave has the lanes of the loop
     hold_laned : (k node : ℕ) (ps : List (ℕ × Argument)) (f : (ℕ × Argument) → PlacedArg) (x : Placed)
         → Laned k node x → Laned k node (hold_placed ps f x)
@@ -154,6 +188,8 @@ module _ (r : Resolved) (w : Walked r) (choices : List Choice) (are_hoisted : Ar
       loop = λ m place spread count x d h. loop_laned form node at m place spread count x d h;
       hold = λ h k x g. hold_laned form node (leaving_chain fh h)
           (held_arg (fb (chain_form h)) (fh (chain_form h)) (chain_row h k)) x g;
+      pipe = λ spread place count start rows known low. pipe_laned d form node at ih spread place count start rows
+          (λ i q e. (known i q e).1) low;
       leaf = λ code leaf shapes child ok. tt;
       row = λ op lower q x l e. call_laned d form node at ih op lower q l e;
     }

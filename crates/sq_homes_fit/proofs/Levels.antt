@@ -23,13 +23,13 @@ use Rattle.sq_homes.specs.Drafts.{bodies_of, buffers_from, buffer_at, choice_in,
 use Rattle.sq_homes.specs.Numbering.{left_by, standing, IsHomeIn}
 use Rattle.sq_homes.proofs.Numbered.{homes_are_own}
 use Rattle.sq_homes_laws.specs.Given.{level_at}
-use Rattle.sq_homes_laws.specs.Simple.{Walked, AreHoisted}
+use Rattle.sq_homes_laws.specs.Choosing.{Walked, MayBeChosen}
 use Rattle.sq_homes_fit.specs.Levels.{LevelsAreThere, BeginsAtRoot, DraftsBeginAtRoot}
 use Rattle.sq_homes_fit.proofs.Found.{IsPlain, found_plain}
 use Rattle.sq_homes_fit.proofs.Forms.{tasks, instances, resolving, body_at, many_forms, run_of, body_there}
 use Rattle.sq_homes_fit.proofs.Forms.{none_from}
 use Rattle.sq_homes_fit.proofs.Hoisted.{is_form}
-use Rattle.sq_homes_fit.proofs.Places.{HomeIs, stays, owns, leaves, home_by}
+use Rattle.sq_homes_fit.proofs.Places.{HomeIs, stays, owns, owns_two, leaves, home_by}
 use Rattle.sq_homes_fit.proofs.Entry.{entry, extents, form, none_in_place}
 
 -- ---- a formed variant has a parameter
@@ -113,7 +113,7 @@ module _ (r : Resolved) (w : Walked r) where
       let many = run.fits.many in
       omega (arith, one, many)
 
-  module _ (choices : List Choice) (are : AreHoisted r choices) where
+  module _ (choices : List Choice) (are : MayBeChosen r choices) where
     some_standing : 0 < length (standing (body_at r 0) (choice_in choices 0))
     some_standing =
         let f = is_form r choices are 0 (body_at r 0) (body_there r w 0 (form r) (entry r).found) in
@@ -123,16 +123,16 @@ module _ (r : Resolved) (w : Walked r) where
         let flags = f.chosen.flags ∙ ap (λ (x : Form). length x.in_place) same in
         let plain = (plain_at 0 (form r) (entry r).found).flags in
         let some = some_extents in
-        by (home_by c f.chosen.moved f.chosen.overlaps 0 0)
+        by (home_by c f.chosen.moved 0 0)
         (homes_are_own 0 (body_at r 0) c 0 (omega (arith, flags, plain, some)))
       where
         by : {h : Home} → {moved : (i : ℕ) → 0 < left_by (choice_in choices 0) i
-            → get_or (choice_in choices 0).in_place i false ≡ false} → {overlaps : (choice_in choices 0).overlaps ≡ false}
-            → HomeIs (choice_in choices 0) moved overlaps 0 0 h
+            → get_or (choice_in choices 0).in_place i false ≡ false} → HomeIs (choice_in choices 0) moved 0 0 h
             → IsHomeIn 0 (length (standing (body_at r 0) (choice_in choices 0))) h
             → 0 < length (standing (body_at r 0) (choice_in choices 0))
         by (stays f l) own = absurd (none_in_place r w choices are 0 f)
-        by (owns f l) own = let less = own.1 in omega (arith, less)
+        by (owns f l o) own = let less = own.1 in omega (arith, less)
+        by (owns_two f l o) own = let less = own.0.1 in omega (arith, less)
         by (leaves n f l) own = let less = own.1 in omega (arith, less)
 
     begins : BeginsAtRoot r choices

@@ -22,6 +22,7 @@ pub mod SameArrays
 pub mod Ordered
 pub mod HeldInside
 pub mod Parts
+pub mod PlainCalls
 pub mod Owned
 pub mod EachOwned
 pub mod EntryOwned

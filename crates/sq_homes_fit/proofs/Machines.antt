@@ -9,7 +9,7 @@ use Rattle.sq_ir.specs.declared.plan.PlanNode.{PlanNode}
 use Rattle.sq_nests.proofs.Machines.{child-there, root-there, layered}
 use Rattle.sq_term_fit.specs.Fits.{AreBounds, IsMachine, NodeAt}
 use Rattle.sq_term_fit.proofs.Meeting.{within_limits}
-use Rattle.sq_homes_laws.specs.Simple.{AreMemories}
+use Rattle.sq_homes_laws.specs.Choosing.{AreMemories}
 use Rattle.sq_homes_fit.specs.Drafts.{limits}
 use Rattle.sq_homes_fit.specs.Lanes.{MachinesAreMachines}
 

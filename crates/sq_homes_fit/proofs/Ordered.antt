@@ -22,18 +22,18 @@ use Rattle.sq_placed.specs.Tables.{placed_locals, locals_of}
 use Rattle.sq_term.specs.Terms.{body_in, homes_in}
 use Rattle.sq_term_fit.specs.Leaves.{loops_left}
 use Rattle.sq_rooms.specs.Orders.{EachOf, Round, rounds_of, held_at, held_over, params_of, round_held}
-use Rattle.sq_rooms.specs.Callers.{home_buffers, Numbering, own, IsRowOf, AreRowsOf, AreNumbered}
+use Rattle.sq_rooms.specs.Callers.{home_buffers, home_set, Numbering, own, IsRowOf, AreRowsOf, AreNumbered}
 use Rattle.sq_homes.specs.declared.choice.Choice.{Choice}
-use Rattle.sq_homes.specs.Numbering.{deepest, hoisted, others, locals_count, local_base}
+use Rattle.sq_homes.specs.Numbering.{deepest, hoisted, others, again, locals_count, local_base}
 use Rattle.sq_homes.specs.Drafts.{bodies_of, homes_of, buffers_of, choice_in}
-use Rattle.sq_homes_laws.specs.Simple.{Walked, left_in, AreHoisted}
+use Rattle.sq_homes_laws.specs.Choosing.{Walked, left_in, MayBeChosen}
 use Rattle.sq_homes_laws.proofs.Hoisting.{at_index, bodies_many, no_homes_at, left_within}
 use Rattle.sq_homes_fit.specs.Numbers.{BuffersAreNumbered}
 use Rattle.sq_homes_fit.proofs.Numbers.{many, first_of, form_from, index_from}
 use Rattle.sq_homes_fit.proofs.Numbered.{drop_many, range_joined, in_range, caller_by, caller_of}
 use Rattle.sq_homes_fit.proofs.Rounds.{each_of, one_of, rounds_so}
 use Rattle.sq_homes_fit.proofs.Callers.{walk, RowIs, rows_are}
-use Rattle.sq_homes_fit.proofs.Places.{held_first, deep, standing_is, held_are, others_are, locals_from}
+use Rattle.sq_homes_fit.proofs.Places.{held_first, deep, held_are, others_are}
 use Rattle.sq_homes_fit.proofs.Leaving.{RowIsIn, RoundIsIn, rounds_are_in}
 use Rattle.sq_homes_fit.proofs.Hoisted.{IsForm, is_form, no_body_at, params_many}
 
@@ -120,7 +120,7 @@ locals_by (x ∷ shapes) n = ap (λ l. n ∷ l) (locals_by shapes (n + 1))
 
 -- ---- forms
 
-module _ (r : Resolved) (w : Walked r) (choices : List Choice) (are : AreHoisted r choices) where
+module _ (r : Resolved) (w : Walked r) (choices : List Choice) (are : MayBeChosen r choices) where
   abbrev bodies : ℕ → FormBody
   bodies = body_in (bodies_of r)
 
@@ -152,9 +152,9 @@ module _ (r : Resolved) (w : Walked r) (choices : List Choice) (are : AreHoisted
     held_here =
         held_same (most_left (homes k).params) (deepest c.leaves) (homes k).params (within_most (homes k).params) (λ i.
         let l = left_within r choices k i b f.at_body in
-        let m = deep c f.chosen.moved f.chosen.overlaps c.leaves i in
+        let m = deep c f.chosen.moved c.leaves i in
         omega (arith, l, m))
-        ∙ ap (held_over (deepest c.leaves) 0) f.params ∙ held_are c f.chosen.moved f.chosen.overlaps first
+        ∙ ap (held_over (deepest c.leaves) 0) f.params ∙ held_are c f.chosen.moved first
 
     pub locals_are : local_buffers (locals_of (bodies k) (homes k)) ≡ range_with_len (local_base first c) kept
     locals_are =
@@ -166,31 +166,30 @@ module _ (r : Resolved) (w : Walked r) (choices : List Choice) (are : AreHoisted
         ∙ ap (λ (l : List ℕ). local_buffers (placed_locals shapes l)) (f.locals ∙ ap (range_with_len n) m)
         ∙ locals_by shapes n ∙ ap (range_with_len n) (sym m)
 
-    many_is : many choices k b ≡ length (hoisted c) + (length (others c) + kept)
+    many_is : many choices k b ≡ length (hoisted c) + (length (others c) + (length (again c) + kept))
     many_is =
-        let e = ap length (standing_is c f.chosen.moved f.chosen.overlaps b) in
         let locals = range_with_len (length c.in_place) kept in
-        let x = length-append (hoisted c) (others c ++ locals) in
-        let y = length-append (others c) locals in
+        let x = length-append (hoisted c) (others c ++ (again c ++ locals)) in
+        let y = length-append (others c) (again c ++ locals) in
+        let z = length-append (again c) locals in
         let l = length-range_with_len (length c.in_place) kept in
-        omega (arith, e, x, y, l)
+        omega (arith, x, y, z, l)
 
     own_are : own buffers bodies homes numbering k ≡ range_with_len first (many choices k b)
     own_are =
         let h = length (hoisted c) in
-        let o = length (others c) in
-        let base : local_base first c ≡ first + h + o = locals_from c f.chosen.moved f.chosen.overlaps first in
+        let rest = length (others c) + (length (again c) + kept) in
         ap₂ (λ (xs ys : List ℕ). xs ++ ys) held_here
-        (ap₂ (λ (xs ys : List ℕ). xs ++ ys)
-        (ap home_buffers f.params ∙ others_are c f.chosen.moved f.chosen.overlaps first)
-        (locals_are ∙ ap (λ m. range_with_len m kept) base)
-        ∙ range_joined (first + h) o kept)
-        ∙ range_joined first h (o + kept) ∙ ap (range_with_len first) (sym many_is)
+        (ap (λ (hs : List Home). home_buffers hs ++ (home_set 0 hs ++ (home_set 1 hs
+        ++ local_buffers (locals_of (bodies k) (homes k))))) f.params
+        ∙ others_are c f.chosen.moved first (local_buffers (locals_of (bodies k) (homes k))) kept locals_are)
+        ∙ range_joined first h rest ∙ ap (range_with_len first) (sym many_is)
 
   none_own : (k : ℕ) → slice_get (bodies_of r) k ≡ None → own buffers bodies homes numbering k ≡ []
   none_own k h =
       ap₂ (λ (x : FormBody) (y : Homes). held_over (most_left y.params) 0 y.params
-      ++ (home_buffers y.params ++ local_buffers (locals_of x y))) (no_body_at r choices are k h)
+      ++ (home_buffers y.params ++ (home_set 0 y.params ++ (home_set 1 y.params ++ local_buffers (locals_of x y)))))
+      (no_body_at r choices are k h)
       (no_homes_at r choices k h)
 
   places : (k i n : ℕ) → slice_get (own buffers bodies homes numbering k) i ≡ Some n

@@ -1,6 +1,6 @@
 -- Each array of a call has a buffer of its own, that nothing further in brings into scope; and so has each argument that
 -- leaves a loop.
-use Rattle.std.proofs.Common.{◌≡◌, ℕ, zero, suc, ◌+◌, ◌<◌, ◌≤◌, Bool, true, false, List, [], ◌∷◌, map}
+use Rattle.std.proofs.Common.{◌≡◌, ℕ, zero, suc, ◌+◌, ◌<◌, ◌≤◌, Bool, true, false, List, [], ◌∷◌, ◌++◌, map}
 use Rattle.std.proofs.Common.{length, slice_get, get_or, Option, Some, None, if◌then◌else◌, refl, sym, ap, subst, ◌∙◌}
 use Rattle.std.proofs.Common.{arith}
 use Rattle.std.specs.List.{All, Contains}
@@ -15,7 +15,7 @@ use Rattle.sq_spec.specs.declared.statement.CallInstance.{CallInstance}
 use Rattle.sq_spec.specs.declared.body.FormBody.{FormBody}
 use Rattle.sq_spec.specs.declared.resolved.Resolved.{Resolved}
 use Rattle.sq_placed.specs.declared.home.Home.{Home}
-use Rattle.sq_placed.specs.declared.home.Home.TheVariants.{InPlace, Held}
+use Rattle.sq_placed.specs.declared.home.Home.TheVariants.{InPlace, Own, Held, Twin}
 use Rattle.sq_placed.specs.declared.home.Homes.{Homes}
 use Rattle.sq_placed.specs.Placed.{Placed, PlacedArg, PlacedLocal, PlacedCall}
 use Rattle.sq_placed.specs.Tables.{no_shape, placed_args, locals_of, placed_call, leaves_loop, leaving_args}
@@ -25,7 +25,7 @@ use Rattle.sq_placed_bytes.specs.Codes.{bytes_in}
 use Rattle.sq_placed_bytes.proofs.Lists.{same_some}
 use Rattle.sq_term.specs.Terms.{body_in, homes_in}
 use Rattle.sq_plan_room.specs.Buffers.{home_buffer, opened_buffer, HasBuffer, OpensBuffer, HoldsBuffer, Opens}
-use Rattle.sq_plan_room.specs.Buffers.{IsAmong, CallOwns, HoldOwns}
+use Rattle.sq_plan_room.specs.Buffers.{IsAmong, CallOwns, HoldOwns, buffer_in, opened_in, array_buffers, HasInSet, OpensInSet, IsTwice, PipeOwns}
 use Rattle.sq_plan_room.proofs.Live.{opens_has}
 use Rattle.sq_forms_fit.specs.Sizes.{IsSized}
 use Rattle.sq_forms_fit.proofs.Shapes.{mapped_at, at_mapped}
@@ -33,7 +33,7 @@ use Rattle.sq_forms_fit.proofs.Whole.{arrays_are_sized}
 use Rattle.sq_forms_fit.proofs.Carried.{leaves_by, left_at}
 use Rattle.sq_homes.specs.declared.choice.Choice.{Choice}
 use Rattle.sq_homes.specs.Drafts.{bodies_of, homes_of, choice_in}
-use Rattle.sq_homes_laws.specs.Simple.{Walked, AreHoisted, setting_of}
+use Rattle.sq_homes_laws.specs.Choosing.{Walked, MayBeChosen, setting_of}
 use Rattle.sq_homes_laws.proofs.Hoisting.{at_index, bodies_many}
 use Rattle.sq_homes_laws.proofs.Programs.{bodies_are_tables}
 use Rattle.sq_homes_laws.proofs.Standing.{map_length}
@@ -41,10 +41,37 @@ use Rattle.sq_homes_fit.proofs.Forms.{past_or}
 use Rattle.sq_homes_fit.proofs.Numbers.{first_of, form_from}
 use Rattle.sq_homes_fit.proofs.Lists.{Split, front, behind, split}
 use Rattle.sq_homes_fit.proofs.Callers.{walk, RowIs}
-use Rattle.sq_homes_fit.proofs.Places.{HomeIs, stays, owns, leaves, home_by}
-use Rattle.sq_homes_fit.proofs.Hoisted.{IsForm, is_form, param_is}
-use Rattle.sq_homes_fit.proofs.Arrays.{args_many, arg_at, HasNumber, param_number, held_number, held_less, local_number}
+use Rattle.sq_homes_fit.proofs.Places.{HomeIs, stays, owns, owns_two, leaves, home_by, others_some}
+use Rattle.sq_homes_fit.proofs.Hoisted.{IsForm, is_form, param_is, params_many}
+use Rattle.sq_homes_fit.proofs.Arrays.{args_many, arg_at, HasNumber, param_number, second_number, held_number, held_less, local_number}
 use Rattle.sq_homes_fit.proofs.Arrays.{same_array, form_is, fits, local_shape}
+
+-- ---- what a set brings into scope it has
+
+opened_has : (k : ℕ) (h : Home) (n : ℕ) → opened_in k h ≡ Some n → buffer_in k h ≡ Some n
+opened_has zero InPlace n e = e
+opened_has zero (Own b) n e = e
+opened_has zero (Held b loops) n e = absurd (cc e)
+opened_has zero (Twin b c) n e = e
+opened_has (suc k) InPlace n e = e
+opened_has (suc k) (Own b) n e = e
+opened_has (suc k) (Held b loops) n e = absurd (cc e)
+opened_has (suc k) (Twin b c) n e = e
+
+front_in : (ps : List PlacedArg) (rest : List (Option ℕ)) (k i n : ℕ)
+    → slice_get (map (λ (p : PlacedArg). opened_in k p.home) ps ++ rest) i ≡ Some (Some n)
+    → slice_get (map (λ (p : PlacedArg). buffer_in k p.home) ps ++ rest) i ≡ Some (Some n)
+front_in [] rest k i n e = e
+front_in (p ∷ ps) rest k zero n e = ap Some (opened_has k p.home n (same_some e))
+front_in (p ∷ ps) rest k (suc i) n e = front_in ps rest k i n e
+
+pub opens_in : (c : PlacedCall) (k i n : ℕ) → OpensInSet c k i n → HasInSet c k i n
+opens_in c k i n e = front_in c.args (map (λ (l : PlacedLocal). Some l.buffer) c.locals) k i n e
+
+past_none : {A : Type 0} (xs : List A) (i : ℕ) → slice_get xs i ≡ None → i < length xs → ⊥
+past_none [] i e l = omega (arith, l)
+past_none (x ∷ xs) zero e l = cc e
+past_none (x ∷ xs) (suc i) e l = past_none xs i e (omega (arith, l))
 
 -- ---- the arguments that leave a loop, in order
 
@@ -79,7 +106,7 @@ left_once l hs i (a ∷ args) m n p q g h same =
     go true ih (suc j) (suc k) x y = ap suc (ih j k x y)
     go false ih j k x y = ih j k x y
 
-module _ (r : Resolved) (w : Walked r) (choices : List Choice) (are : AreHoisted r choices) where
+module _ (r : Resolved) (w : Walked r) (choices : List Choice) (are : MayBeChosen r choices) where
   abbrev fb : ℕ → FormBody
   fb = body_in (bodies_of r)
 
@@ -149,13 +176,6 @@ module _ (r : Resolved) (w : Walked r) (choices : List Choice) (are : AreHoisted
       many_args : length args ≡ length flags
       many_args = args_many op (fb q.form).arrays (fh q.form).params 0 q.args ∙ is.args
 
-      arg_number : (i n : ℕ)
-          → slice_get (map (λ (p : PlacedArg). home_buffer p.home) args) i ≡ Some (Some n) → HasIt i n
-      arg_number i n h =
-          let m = mapped_at (λ (p : PlacedArg). home_buffer p.home) args i (Some n) h in
-          let a = arg_at op (fb q.form).arrays (fh q.form).params q.args i m.of m.there in
-          param_number r w choices are q.form is.body is.form i n (sym (ap home_buffer a.home) ∙ m.is)
-
       kept_number : (j n : ℕ) → slice_get (map (λ (x : PlacedLocal). Some x.buffer) locals) j ≡ Some (Some n)
           → HasIt (length args + j) n
       kept_number j n h =
@@ -165,24 +185,47 @@ module _ (r : Resolved) (w : Walked r) (choices : List Choice) (are : AreHoisted
           (local_number r w choices are q.form is.body is.form j n
           (at_mapped (λ (x : PlacedLocal). x.buffer) locals j m.of m.there ∙ ap (λ z. Some z) buffer))
 
-      abbrev outside : List (Option ℕ)
-      outside = map (λ (p : PlacedArg). home_buffer p.home) args
-
-      abbrev opened : List (Option ℕ)
-      opened = map (λ (p : PlacedArg). opened_buffer p.home) args
+      abbrev outside : (Home → Option ℕ) → List (Option ℕ)
+      outside buffer = map (λ (p : PlacedArg). buffer p.home) args
 
       abbrev inside : List (Option ℕ)
       inside = map (λ (x : PlacedLocal). Some x.buffer) locals
 
-      its_number : (i n : ℕ) → HasBuffer c i n → HasIt i n
-      its_number i n h = by (split outside inside i (Some n) h)
+      -- of its arguments some buffer, and of its locals theirs
+      number_by : (buffer : Home → Option ℕ)
+          → ((i n : ℕ) → buffer (get_or (fh q.form).params i InPlace) ≡ Some n → HasIt i n) → (i n : ℕ)
+          → slice_get (array_buffers buffer c) i ≡ Some (Some n) → HasIt i n
+      number_by buffer given i n h = by (split (outside buffer) inside i (Some n) h)
         where
-          by : Split outside inside i (Some n) → HasIt i n
-          by (front e) = arg_number i n e
+          by : Split (outside buffer) inside i (Some n) → HasIt i n
+          by (front e) =
+              let m = mapped_at (λ (p : PlacedArg). buffer p.home) args i (Some n) e in
+              let a = arg_at op (fb q.form).arrays (fh q.form).params q.args i m.of m.there in
+              given i n (sym (ap buffer a.home) ∙ m.is)
           by (behind j m e) =
-              let l = map_length (λ (p : PlacedArg). home_buffer p.home) args in
+              let l = map_length (λ (p : PlacedArg). buffer p.home) args in
               let at : length args + j ≡ i = omega (arith, l, m) in
               subst (λ (x : ℕ). HasIt x n) at (kept_number j n e)
+
+      its_number : (i n : ℕ) → HasBuffer c i n → HasIt i n
+      its_number = number_by home_buffer (param_number r w choices are q.form is.body is.form)
+
+      -- in one of two sets
+      set_number : (k i n : ℕ) → HasInSet c k i n → HasIt i n
+      set_number k = number_by (buffer_in k) (λ i n. by k i n (get_or (fh q.form).params i InPlace) refl)
+        where
+          by : (k i n : ℕ) (h : Home) → get_or (fh q.form).params i InPlace ≡ h
+              → buffer_in k h ≡ Some n → HasIt i n
+          by zero i n InPlace e g = absurd (let z = g in cc z)
+          by zero i n (Own x) e g = param_number r w choices are q.form is.body is.form i n (ap home_buffer e ∙ g)
+          by zero i n (Held x l) e g = param_number r w choices are q.form is.body is.form i n (ap home_buffer e ∙ g)
+          by zero i n (Twin x y) e g = param_number r w choices are q.form is.body is.form i n (ap home_buffer e ∙ g)
+          by (suc k) i n InPlace e g = absurd (let z = g in cc z)
+          by (suc k) i n (Own x) e g = param_number r w choices are q.form is.body is.form i n (ap home_buffer e ∙ g)
+          by (suc k) i n (Held x l) e g = param_number r w choices are q.form is.body is.form i n (ap home_buffer e ∙ g)
+          by (suc k) i n (Twin x y) e g =
+              let z : y ≡ n = let f = g in cc f in
+              second_number r w choices are q.form is.body is.form i x n (e ∙ ap (Twin x) z)
 
       its_shape : (i : ℕ) (x : Shape) → slice_get (shapes_of c) i ≡ Some x → x ≡ get_or is.body.arrays i no_shape
       its_shape i x h
@@ -207,6 +250,9 @@ module _ (r : Resolved) (w : Walked r) (choices : List Choice) (are : AreHoisted
       pub its_form : (i n : ℕ) → HasBuffer c i n → of_form n ≡ q.form
       its_form i n h = form_is r w choices are q.form is.body is.form i n (its_number i n h)
 
+      pub set_form : (k i n : ℕ) → HasInSet c k i n → of_form n ≡ q.form
+      set_form k i n h = form_is r w choices are q.form is.body is.form i n (set_number k i n h)
+
       its_locals : (j : ℕ) (l : PlacedLocal) → slice_get locals j ≡ Some l → All (λ n. 0 < n) l.shape.extents
       its_locals j l h =
           (sized q.form (length flags + j) l.shape
@@ -214,30 +260,40 @@ module _ (r : Resolved) (w : Walked r) (choices : List Choice) (are : AreHoisted
           ∙ local_shape r w choices are q.form is.body is.form j l h)).some
 
       -- what the call brings into scope leaves no loop
-      pub not_held : (i j n m : ℕ) → OpensBuffer c j n → get_or (fh q.form).params i InPlace ≡ Held n m → ⊥
-      not_held i j n m o e = by (split opened inside j (Some n) o)
+      not_left : (opens : Home → Option ℕ) → ((i n m : ℕ) → opens (Held n m) ≡ None)
+          → ((j n : ℕ) → slice_get (array_buffers opens c) j ≡ Some (Some n) → HasIt j n) → (i j n m : ℕ)
+          → slice_get (array_buffers opens c) j ≡ Some (Some n) → get_or (fh q.form).params i InPlace ≡ Held n m → ⊥
+      not_left opens none number i j n m o e = by (split (outside opens) inside j (Some n) o)
         where
           same : i ≡ j
           same = same_array r w choices are q.form is.body is.form i j n
-              (held_number r w choices are q.form is.body is.form i n m e) (its_number j n (opens_has c j n o))
+              (held_number r w choices are q.form is.body is.form i n m e) (number j n o)
 
-          by : Split opened inside j (Some n) → ⊥
+          by : Split (outside opens) inside j (Some n) → ⊥
           by (front g) =
-              let x = mapped_at (λ (p : PlacedArg). opened_buffer p.home) args j (Some n) g in
+              let x = mapped_at (λ (p : PlacedArg). opens p.home) args j (Some n) g in
               let a = arg_at op (fb q.form).arrays (fh q.form).params q.args j x.of x.there in
               let home : x.of.home ≡ Held n m = a.home
               ∙ (ap (λ l. get_or (fh q.form).params l InPlace) (sym same) ∙ e) in
-              let z : None ≡ Some n = sym (ap opened_buffer home) ∙ x.is in
+              let z : None ≡ Some n = sym (ap opens home ∙ none i n m) ∙ x.is in
               cc z
           by (behind l g h) =
               let less = held_less r w choices are q.form is.body is.form i n m e in
-              let long = map_length (λ (p : PlacedArg). opened_buffer p.home) args in
+              let long = map_length (λ (p : PlacedArg). opens p.home) args in
               let many = many_args in
               omega (arith, less, long, many, g, same)
 
+      pub not_held : (i j n m : ℕ) → OpensBuffer c j n → get_or (fh q.form).params i InPlace ≡ Held n m → ⊥
+      not_held = not_left opened_buffer (λ i n m. refl) (λ j n o. its_number j n (opens_has c j n o))
+
+      pub not_held_in : (k i j n m : ℕ) → OpensInSet c k j n → get_or (fh q.form).params i InPlace ≡ Held n m → ⊥
+      not_held_in zero = not_left (opened_in 0) (λ i n m. refl) (λ j n o. set_number 0 j n (opens_in c 0 j n o))
+      not_held_in (suc k)
+          = not_left (opened_in (suc k)) (λ i n m. refl) (λ j n o. set_number (suc k) j n (opens_in c (suc k) j n o))
+
       -- ---- the call owns its buffers, in loops that hold these
 
-      module _ (held : List ℕ)
+      module _ (one : (choice_in choices q.form).overlaps ≡ false) (held : List ℕ)
           (covered : (i n m : ℕ) → get_or (fh q.form).params i InPlace ≡ Held n m → (lower ≡ true) × Contains held n)
         where
           its_homes : (i : ℕ) (p : PlacedArg) → slice_get args i ≡ Some p → IsAmong lower held p.home
@@ -246,11 +302,12 @@ module _ (r : Resolved) (w : Walked r) (choices : List Choice) (are : AreHoisted
               subst (IsAmong lower held) (sym a.home) (by (slice_get (fh q.form).params i) refl)
             where
               of : {x y : Home} → x ≡ y → get_or (fh q.form).params i InPlace ≡ y
-                  → HomeIs (choice_in choices q.form) is.form.chosen.moved is.form.chosen.overlaps
+                  → HomeIs (choice_in choices q.form) is.form.chosen.moved
                   (first_of r choices q.form) i x
                   → IsAmong lower held y
               of e at (stays f l) = subst (IsAmong lower held) e tt
-              of e at (owns f l) = subst (IsAmong lower held) e tt
+              of e at (owns f l o) = subst (IsAmong lower held) e tt
+              of e at (owns_two f l o) = let no : true ≡ false = sym o ∙ one in absurd (cc no)
               of e at (leaves n f l) = subst (IsAmong lower held) e (covered i _ (suc n) (at ∙ sym e))
 
               by : (o : Option Home) → slice_get (fh q.form).params i ≡ o
@@ -260,7 +317,7 @@ module _ (r : Resolved) (w : Walked r) (choices : List Choice) (are : AreHoisted
                   let at = get_or_from_slice_get (fh q.form).params i y InPlace g in
                   subst (IsAmong lower held) (sym at)
                   (of (param_is r choices are q.form is.body is.form i y g).is at
-                  (home_by (choice_in choices q.form) is.form.chosen.moved is.form.chosen.overlaps
+                  (home_by (choice_in choices q.form) is.form.chosen.moved
                   (first_of r choices q.form) i))
 
           pub call_owns : (nodes : List PlanNode) (offset : ℕ → ℕ) (x : Placed)
@@ -275,6 +332,55 @@ module _ (r : Resolved) (w : Walked r) (choices : List Choice) (are : AreHoisted
                 fits r w choices are q.form is.body is.form i n y (its_number i n g) (its_shape i y h);
             some = its_locals;
           }
+
+      -- ---- the call of a loop that overlaps its transfers owns both sets
+
+      module _ (two : (choice_in choices q.form).overlaps ≡ true) (held : List ℕ)
+          (covered : (i n m : ℕ) → get_or (fh q.form).params i InPlace ≡ Held n m → Contains held n) where
+        twice : (i : ℕ) (p : PlacedArg) → slice_get args i ≡ Some p → IsTwice held p.home
+        twice i p h =
+            let a = arg_at op (fb q.form).arrays (fh q.form).params q.args i p h in
+            subst (IsTwice held) (sym a.home) (by (slice_get (fh q.form).params i) refl)
+          where
+            less : i < length (choice_in choices q.form).in_place
+            less =
+                let l = slice_get_within args i p h in
+                let m = many_args in
+                omega (arith, l, m)
+
+            of : {x y : Home} → x ≡ y → get_or (fh q.form).params i InPlace ≡ y
+                → HomeIs (choice_in choices q.form) is.form.chosen.moved (first_of r choices q.form) i x
+                → IsTwice held y
+            of e at (stays f l) = let no : true ≡ false = sym f ∙ are.doubled q.form two i in absurd (cc no)
+            of e at (owns f l o) = let no : true ≡ false = sym two ∙ o in absurd (cc no)
+            of e at (owns_two f l o) =
+                let some = others_some (choice_in choices q.form) is.form.chosen.moved is.body i less f l in
+                subst (IsTwice held) e (λ g. omega (arith, g, some))
+            of e at (leaves n f l) = subst (IsTwice held) e (covered i _ (suc n) (at ∙ sym e))
+
+            by : (o : Option Home) → slice_get (fh q.form).params i ≡ o
+                → IsTwice held (get_or (fh q.form).params i InPlace)
+            by None g =
+                let m = params_many r choices are q.form is.body is.form in
+                absurd (past_none (fh q.form).params i g (omega (arith, less, m)))
+            by (Some y) g =
+                let at = get_or_from_slice_get (fh q.form).params i y InPlace g in
+                subst (IsTwice held) (sym at)
+                (of (param_is r choices are q.form is.body is.form i y g).is at
+                (home_by (choice_in choices q.form) is.form.chosen.moved (first_of r choices q.form) i))
+
+        pub pipe_owns : (nodes : List PlanNode) (offset : ℕ → ℕ) (x : Placed)
+            → ((n : ℕ) → Opens x n → q.form < of_form n)
+            → PipeOwns (setting_of r choices nodes offset) held c x
+        pipe_owns nodes offset x further = record {
+          homes = twice;
+          distinct = λ k l i j n g h.
+              same_array r w choices are q.form is.body is.form i j n (set_number k i n g) (set_number l j n h);
+          inner = λ k i n g h. let a = set_form k i n g in let f = further n h in omega (arith, a, f);
+          sizes = λ k i n y g h.
+              fits r w choices are q.form is.body is.form i n y (set_number k i n g) (its_shape i y h);
+          some = its_locals;
+        }
 
     -- ---- the arguments that leave a loop, with their blocks in this row
 

@@ -20,12 +20,15 @@ use Rattle.sq_spec.specs.declared.body.Body.TheVariants as body
 use Rattle.sq_spec.specs.declared.body.FormBody.{FormBody}
 use Rattle.sq_spec_laws.specs.TableRows.{Table, red_of, all_tables, tables_step, tables_of, tables_in}
 use Rattle.sq_placed.specs.declared.home.Homes.{Homes}
-use Rattle.sq_placed.specs.Placed.{Placed, Nothing, Then, Call, Leaf}
+use Rattle.sq_placed.specs.Placed.{Placed, Nothing, Then, Call, Piped, Leaf}
 use Rattle.sq_placed.specs.Tables.{is_beside, op_of, spread_of, map_placed, Chain, chain_of, first_of}
 use Rattle.sq_placed.specs.Tables.{leaving_chain, hold_placed, holds, held_arg, chain_form}
 use Rattle.sq_placed.specs.Tables.{chain_row, PlacedPart, chains, any_lower, any_same, all_placed, row_placed}
 use Rattle.sq_placed.specs.Tables.{placed_call, placed_step, statement_placed, body_placed}
+use Rattle.sq_placed.specs.Tables.{Pipe, overlapped, pipe_of, placed_rule, row_call, row_body}
+use Rattle.sq_placed.specs.Tables.{pipe_placed}
 use Rattle.sq_placed.proofs.Opened.{part_call, part_map}
+use Rattle.sq_placed.proofs.Pipes.{taken, chains_placed}
 use Rattle.sq_term.specs.Stands.{below, calls_in_rows, all_calls, calls_in, calls_in_all, calls_of, AreLevel}
 use Rattle.sq_term.proofs.Opened.{calls_call, calls_map}
 use Rattle.sq_rooms.specs.Lowers.{statements, any_of, lower_in}
@@ -81,6 +84,11 @@ module _ (bodies : ℕ → FormBody) (homes : ℕ → Homes) (callee : ℕ → P
     pub hold : (h : Option (Chain ℕ)) (k : ℕ) (w : Placed) → P w
         → P (hold_placed (leaving_chain homes h) (held_arg (bodies (chain_form h)) (homes (chain_form h)) (chain_row h k))
         w)
+    -- a loop that overlaps its transfers
+    pub pipe : (spread : Option SpreadRule) (place : Place) (count start : ℕ) (rows : List CallInstance)
+        → ((i : ℕ) (q : CallInstance) → slice_get rows i ≡ Some q → R q × (level q.form ≡ below true at)) → deep
+        → P (Piped (placed_rule place spread) count (λ t. row_call bodies homes callee (slice_get rows (start + t)))
+        (λ t. row_body bodies homes callee (slice_get rows (start + t))))
     pub leaf : (code : ℕ) (source : LeafSource) (shapes : List Shape) → P (Leaf code source shapes)
     pub row : (op : Option RedOp) (lower : Bool) (q : CallInstance) → R q → level q.form ≡ below lower at
         → (lower ≡ true → deep) → P (Call (placed_call bodies homes op lower q) (callee q.form))
@@ -139,6 +147,29 @@ module _ (bodies : ℕ → FormBody) (homes : ℕ → Homes) (callee : ℕ → P
       lower = refl;
     }
 
+    -- the rows of a loop that overlaps its transfers
+    abbrev Rows : List CallInstance → Type 0
+    Rows rows = deep × ((i : ℕ) (q : CallInstance) → slice_get rows i ≡ Some q → R q × (level q.form ≡ below true at))
+
+    one_call : (red : Option Reduction) (rows : List CallInstance)
+        → TablesSo R (tables_of (b.Call true rows) red ++ []) → AreLevel level at (calls_in (b.Call true rows) ++ [])
+        → ((lower_in (b.Call true rows) || false) ≡ true → deep) → Rows rows
+    one_call red rows h l d =
+        let so = subst (λ (f : Option Reduction → List Table). TablesSo R (f red ++ [])) (tables_call true rows) h in
+        let deeper = subst (AreLevel level at) (calls_call true rows)
+        (level_left level at (calls_in (b.Call true rows)) [] l) in (
+          d (or_first (lower_in (b.Call true rows)) false (lower_call true rows)),
+          λ i q e. (one_of R rows so.0 i q e, row_level level at true rows deeper i q e),
+        )
+
+    pipe_rows : (red : Option Reduction) (m : LoopKind) (spread : Option SpreadRule) (xs : List Statement) (p : Pipe)
+        → pipe_of homes m spread (chains (map part xs)) ≡ Some p → TablesSo R (all_tables (map tables_of xs) red)
+        → AreLevel level at (all_calls (map calls_in xs)) → (any_of (map lower_in xs) ≡ true → deep) → Rows p.rows
+    pipe_rows red m spread xs p e =
+        subst (λ (ys : List Statement). TablesSo R (all_tables (map tables_of ys) red)
+        → AreLevel level at (all_calls (map calls_in ys)) → (any_of (map lower_in ys) ≡ true → deep) → Rows p.rows)
+        (sym (taken homes m spread (chains_placed bodies homes callee rule xs) p e).one) (one_call red p.rows)
+
     loop_good : (place : Place) (m : LoopKind) (counts starts : List ℕ) (xs : List G)
         → GoodAs (placed_step bodies homes callee rule (Statement-F.Map place m counts starts (map part (begun xs))))
         (tables_step (Statement-F.Map place m counts starts (map tables_of (begun xs))))
@@ -146,20 +177,38 @@ module _ (bodies : ℕ → FormBody) (homes : ℕ → Homes) (callee : ℕ → P
     loop_good place m counts starts xs = record {
       held = λ red h l d op inside k.
           let parts = map part (begun xs) in
-          let low = any_lower parts in
-          let same = any_same parts in
           let chain = chain_of first_of m starts (chains parts) in
           let i = inside || holds (leaving_chain homes chain) in
-          keeps.hold chain k
-          (map_placed m place (spread_of rule m i low same) (get_or counts k 0)
-          (λ t. all_placed parts (op_of m) (i || is_some (spread_of rule m i low same)) (get_or starts k 0 + t)))
-          (keeps.loop m place (spread_of rule m i low same) (get_or counts k 0)
-          (λ t. all_placed parts (op_of m) (i || is_some (spread_of rule m i low same)) (get_or starts k 0 + t))
-          (λ e. d (sym (all_lower xs) ∙ has_lower rule (is_beside m) i low same e))
-          (λ t less. all_good xs (red_of m) h l d (op_of m) (i || is_some (spread_of rule m i low same))
-          (get_or starts k 0 + t)));
+          keeps.hold chain k _ (run_good h l d i k);
       lower = all_lower xs;
     }
+      where
+        spread : Bool → Option SpreadRule
+        spread i = spread_of rule m i (any_lower (map part (begun xs))) (any_same (map part (begun xs)))
+
+        loop : Bool → ℕ → Placed
+        loop i k = map_placed m place (spread i) (get_or counts k 0)
+            (λ t. all_placed (map part (begun xs)) (op_of m) (i || is_some (spread i)) (get_or starts k 0 + t))
+
+        -- overlapped or not
+        run_good : TablesSo R (all_tables (map tables_of (begun xs)) (red_of m))
+            → AreLevel level at (all_calls (map calls_in (begun xs)))
+            → (any_of (map lower_in (begun xs)) ≡ true → deep) → (i : Bool) (k : ℕ)
+            → P (pipe_placed bodies homes callee (pipe_of homes m (spread i) (chains (map part (begun xs)))) place
+            (get_or counts k 0) (get_or starts k 0) (loop i k))
+        run_good h l d i k = by (pipe_of homes m (spread i) (chains (map part (begun xs)))) refl
+          where
+            by : (o : Option Pipe) → pipe_of homes m (spread i) (chains (map part (begun xs))) ≡ o
+                → P (pipe_placed bodies homes callee o place (get_or counts k 0) (get_or starts k 0) (loop i k))
+            by None e =
+                keeps.loop m place (spread i) (get_or counts k 0)
+                (λ t. all_placed (map part (begun xs)) (op_of m) (i || is_some (spread i)) (get_or starts k 0 + t))
+                (λ e. d (sym (all_lower xs) ∙ has_lower rule (is_beside m) i (any_lower (map part (begun xs)))
+                (any_same (map part (begun xs))) e))
+                (λ t less. all_good xs (red_of m) h l d (op_of m) (i || is_some (spread i)) (get_or starts k 0 + t))
+            by (Some p) e =
+                let known = pipe_rows (red_of m) m (spread i) (begun xs) p e h l d in
+                keeps.pipe p.spread place (get_or counts k 0) (get_or starts k 0) p.rows known.1 known.0
 
     good_step : (y : Statement-F G) → Good (roll-Statement (map-Statement G Statement (λ p. p.0) y))
     good_step (Statement-F.Call lower times) =

@@ -27,8 +27,9 @@ use Rattle.sq_rooms.proofs.Lowered.{lowered_is_placeable}
 use Rattle.sq_homes.specs.declared.choice.Choice.{Choice}
 use Rattle.sq_homes.specs.Drafts.{bodies_of, homes_of, args_of, IsDraftOf}
 use Rattle.sq_homes_laws.specs.Given.{level_at}
-use Rattle.sq_homes_laws.specs.Simple.{Walked, AreHoisted, AreMemories}
+use Rattle.sq_homes_laws.specs.Choosing.{Walked, MayBeChosen, AreMemories}
 use Rattle.sq_homes_laws.proofs.Descending.{calls_descend}
+use Rattle.sq_homes_laws.proofs.Hoisting.{chosen_stand}
 use Rattle.sq_homes_laws.proofs.Leveled.{homes_are_leveled}
 use Rattle.sq_homes_laws.proofs.Programs.{term_is_entrys}
 use Rattle.sq_homes_fit.specs.Drafts.{limits}
@@ -65,7 +66,7 @@ all_there s at (h ∷ hs) own l t =
     All-cons (IsBuffer s at) (buffer_or h) (map buffer_or hs) (one_there s at h (own 0 h refl) l.0 t.0)
     (all_there s at hs (λ i x e. own (suc i) x e) l.1 t.1)
 
-module _ (r : Resolved) (w : Walked r) (choices : List Choice) (hoisted : AreHoisted r choices) (d : Draft)
+module _ (r : Resolved) (w : Walked r) (choices : List Choice) (hoisted : MayBeChosen r choices) (d : Draft)
     (is : IsDraftOf r choices d) (nodes : List PlanNode) (are : AreMemories r.machine.now.levels nodes) where
   abbrev fb : ℕ → FormBody
   fb = body_in (bodies_of r)
@@ -102,6 +103,8 @@ module _ (r : Resolved) (w : Walked r) (choices : List Choice) (hoisted : AreHoi
     root = begins.entry;
     first = ap (λ (l : List Buffer). of_buffer l (λ x. x.level) 0) is.buffers ∙ begins.buffer;
     few = λ k. let l = levels_are_there r w k in let m = are.many in omega (arith, l, m);
+    pipes = hoisted.stand;
+    overlaps = chosen_stand r choices hoisted;
   }
 
   have_numbers : (last : ℕ) → length r.machine.now.levels ≡ suc last → HasNumbers d nodes
@@ -120,7 +123,7 @@ module _ (r : Resolved) (w : Walked r) (choices : List Choice) (hoisted : AreHoi
         there,
         subst (λ (x : Term). Meets s Nothing x at_root (d.entry ++ [])) (sym term_is)
             (entry_is_fine s limits m.bounds last (length nodes) (λ n. (node_at nodes n).level) m.machine fb fh
-            (level_at r) its tabled begins.entry m.root count (args_of r) (d.entry ++ [])),
+            (level_at r) its tabled hoisted.stand begins.entry m.root count (args_of r) (d.entry ++ [])),
       )
 
   placeable : IsPlaceable d nodes

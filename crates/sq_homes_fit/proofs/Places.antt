@@ -1,5 +1,5 @@
--- Where the arrays of a form stand among its buffers, where no loop overlaps its transfers: what leaves loops, the other
--- arguments that aren't in place, the locals.
+-- Where the arrays of a form stand among its buffers: what leaves loops; the other arguments that aren't in place, and
+-- once more where the loop of the call overlaps its transfers; the locals.
 use Rattle.std.proofs.Common.{◌≡◌, ℕ, zero, suc, ◌+◌, ◌==◌, ◌<◌, ◌≤◌, Bool, true, false, not, ◌&&◌, cond, List, []}
 use Rattle.std.proofs.Common.{◌∷◌, ◌++◌, length, map, get_or, slice_get, if◌then◌else◌, Some, refl, sym, ap, ap₂, ◌∙◌}
 use Rattle.std.proofs.Common.{subst, arith}
@@ -9,19 +9,21 @@ use Rattle.sq_spec.specs.declared.body.FormBody.{FormBody}
 use Rattle.sq_placed.specs.declared.home.Home.{Home}
 use Rattle.sq_placed.specs.declared.home.Home.TheVariants.{InPlace, Own, Held, Twin}
 use Rattle.sq_placed.specs.Tables.{leaves_loop}
-use Rattle.sq_placed.specs.Trees.{buffer_of, held_of}
+use Rattle.sq_placed.specs.Trees as trees
+use Rattle.sq_placed.specs.Trees.{buffer_of, held_of, twin_of}
 use Rattle.sq_rooms.specs.Orders.{held_at, held_over}
-use Rattle.sq_rooms.specs.Callers.{home_buffers}
+use Rattle.sq_rooms.specs.Callers.{home_buffers, home_set}
 use Rattle.sq_plan_room.specs.Buffers.{home_buffer}
 use Rattle.sq_homes.specs.declared.choice.Choice.{Choice}
 use Rattle.sq_homes.specs.Numbering.{deepest, left_by, is_moved, params_where, hoisted_from, hoisted, others, again}
 use Rattle.sq_homes.specs.Numbering.{locals_count, standing, position, home_of, local_base}
 use Rattle.sq_homes_laws.proofs.Standing.{get_left, get_right}
+use Rattle.sq_homes_fit.proofs.Numbered.{range_joined}
 use Rattle.sq_homes_fit.proofs.Lists.{Split, front, behind, split}
 
 -- ---- the place of a number in a list
 
-same_number : (m n : ℕ) → (m == n) ≡ true → m ≡ n
+pub same_number : (m n : ℕ) → (m == n) ≡ true → m ≡ n
 same_number m n h = grind (arith, nat_tests)
 
 other_number : (m n : ℕ) → (m == n) ≡ false → m ≡ n → ⊥
@@ -198,8 +200,7 @@ held_first (suc n) base hs =
 
 -- ---- of a form
 
-module _ (c : Choice) (moved : (i : ℕ) → 0 < left_by c i → get_or c.in_place i false ≡ false)
-    (overlaps : c.overlaps ≡ false) where
+module _ (c : Choice) (moved : (i : ℕ) → 0 < left_by c i → get_or c.in_place i false ≡ false) where
   abbrev many : ℕ
   many = length c.in_place
 
@@ -212,12 +213,15 @@ module _ (c : Choice) (moved : (i : ℕ) → 0 < left_by c i → get_or c.in_pla
   -- the home of a parameter
   pub data HomeIs (base i : ℕ) : Home → Type 0 where
     stays : get_or c.in_place i false ≡ true → left_by c i ≡ 0 → HomeIs base i InPlace
-    owns : get_or c.in_place i false ≡ false → left_by c i ≡ 0 → HomeIs base i (Own (own_number base i))
+    owns : get_or c.in_place i false ≡ false → left_by c i ≡ 0 → c.overlaps ≡ false
+        → HomeIs base i (Own (own_number base i))
+    owns_two : get_or c.in_place i false ≡ false → left_by c i ≡ 0 → c.overlaps ≡ true
+        → HomeIs base i (Twin (own_number base i) (own_number base i + length (others c)))
     leaves : (n : ℕ) → get_or c.in_place i false ≡ false → left_by c i ≡ suc n
         → HomeIs base i (Held (held_number base i) (suc n))
 
   pub home_by : (base i : ℕ) → HomeIs base i (home_of base c i)
-  home_by base i = by (get_or c.in_place i false) refl (left_by c i) refl
+  home_by base i = by (get_or c.in_place i false) refl (left_by c i) refl c.overlaps refl
     where
       own : Bool → Home
       own twice = if twice then Twin (own_number base i) (own_number base i + length (others c))
@@ -227,18 +231,22 @@ module _ (c : Choice) (moved : (i : ℕ) → 0 < left_by c i → get_or c.in_pla
       made in_place twice n = if in_place then InPlace
           else (if n == 0 then own twice else Held (held_number base i) n)
 
-      by : (t : Bool) → get_or c.in_place i false ≡ t → (n : ℕ) → left_by c i ≡ n
+      by : (t : Bool) → get_or c.in_place i false ≡ t → (n : ℕ) → left_by c i ≡ n → (u : Bool) → c.overlaps ≡ u
           → HomeIs base i (made (get_or c.in_place i false) c.overlaps (left_by c i))
-      by true e zero g = subst (λ t. HomeIs base i (made t c.overlaps (left_by c i))) (sym e) (stays e g)
-      by true e (suc n) g =
+      by true e zero g u o = subst (λ t. HomeIs base i (made t c.overlaps (left_by c i))) (sym e) (stays e g)
+      by true e (suc n) g u o =
           let out = moved i (omega (arith, g)) in
           let no : true ≡ false = sym e ∙ out in
           absurd (cc no)
-      by false e zero g =
+      by false e zero g false o =
           subst (λ t. HomeIs base i (made t c.overlaps (left_by c i))) (sym e)
           (subst (λ n. HomeIs base i (made false c.overlaps n)) (sym g)
-          (subst (λ t. HomeIs base i (made false t 0)) (sym overlaps) (owns e g)))
-      by false e (suc n) g =
+          (subst (λ t. HomeIs base i (made false t 0)) (sym o) (owns e g o)))
+      by false e zero g true o =
+          subst (λ t. HomeIs base i (made t c.overlaps (left_by c i))) (sym e)
+          (subst (λ n. HomeIs base i (made false c.overlaps n)) (sym g)
+          (subst (λ t. HomeIs base i (made false t 0)) (sym o) (owns_two e g o)))
+      by false e (suc n) g u o =
           subst (λ t. HomeIs base i (made t c.overlaps (left_by c i))) (sym e)
           (subst (λ m. HomeIs base i (made false c.overlaps m)) (sym g)
           (subst (λ t. HomeIs base i (if t then own c.overlaps else Held (held_number base i) (suc n)))
@@ -303,8 +311,8 @@ module _ (c : Choice) (moved : (i : ℕ) → 0 < left_by c i → get_or c.in_pla
     abbrev locals : List ℕ
     locals = range_with_len many (locals_count b.arrays c)
 
-    pub standing_is : standing b c ≡ hoisted c ++ (others c ++ locals)
-    standing_is = ap (λ (t : Bool). hoisted c ++ (others c ++ ((if t then others c else []) ++ locals))) overlaps
+    abbrev behind_those : List ℕ
+    behind_those = again c ++ locals
 
     -- the array that has this buffer stands at this place
     pub record StandsAt (base i n : ℕ) : Type 0 where
@@ -314,30 +322,50 @@ module _ (c : Choice) (moved : (i : ℕ) → 0 < left_by c i → get_or c.in_pla
 
     in_front : (place i : ℕ) → slice_get (hoisted c) place ≡ Some i → slice_get (standing b c) place ≡ Some i
     in_front place i e =
-        ap (λ (l : List ℕ). slice_get l place) standing_is
-        ∙ (get_left (hoisted c) (others c ++ locals) place (within (hoisted c) place i e) ∙ e)
+        get_left (hoisted c) (others c ++ behind_those) place (within (hoisted c) place i e) ∙ e
 
     in_middle : (place i : ℕ) → slice_get (others c) place ≡ Some i
         → slice_get (standing b c) (length (hoisted c) + place) ≡ Some i
     in_middle place i e =
-        ap (λ (l : List ℕ). slice_get l (length (hoisted c) + place)) standing_is
-        ∙ (get_right (hoisted c) (others c ++ locals) place
-        ∙ (get_left (others c) locals place (within (others c) place i e) ∙ e))
+        get_right (hoisted c) (others c ++ behind_those) place
+        ∙ (get_left (others c) behind_those place (within (others c) place i e) ∙ e)
+
+    -- in the second set
+    in_second : (place i : ℕ) → slice_get (again c) place ≡ Some i
+        → slice_get (standing b c) (length (hoisted c) + (length (others c) + place)) ≡ Some i
+    in_second place i e =
+        get_right (hoisted c) (others c ++ behind_those) (length (others c) + place)
+        ∙ (get_right (others c) behind_those place
+        ∙ (get_left (again c) locals place (within (again c) place i e) ∙ e))
+
+    -- the place of what is moved, among those of one set
+    other_there : (i : ℕ) → i < many → get_or c.in_place i false ≡ false → left_by c i ≡ 0
+        → slice_get (others c) (position i (others c)) ≡ Some i
+    other_there i less f l =
+        let moves : is_moved c i ≡ true = ap₂ (λ t m. not t && (m == 0)) f l in
+        let x = filter_there (is_moved c) 0 many i (omega arith) (omega (arith, less)) moves in
+        at_position (others c) x.0 i x.1
+
+    pub others_some : (i : ℕ) → i < many → get_or c.in_place i false ≡ false → left_by c i ≡ 0 → 0 < length (others c)
+    others_some i less f l =
+        let w = within (others c) (position i (others c)) i (other_there i less f l) in omega (arith, w)
+
+    own_stands : (base i : ℕ) → i < many → get_or c.in_place i false ≡ false → left_by c i ≡ 0
+        → StandsAt base i (own_number base i)
+    own_stands base i less f l = record {
+      place = length (hoisted c) + position i (others c);
+      number = omega arith;
+      stands = in_middle (position i (others c)) i (other_there i less f l);
+    }
 
     pub param_stands : (base i n : ℕ) → i < many → home_buffer (home_of base c i) ≡ Some n → StandsAt base i n
     param_stands base i n less h = by (home_by base i) h
       where
         by : {x : Home} → HomeIs base i x → home_buffer x ≡ Some n → StandsAt base i n
         by (stays f l) e = absurd (cc e)
-        by (owns f l) e =
-            let is : own_number base i ≡ n = cc e in
-            let moves : is_moved c i ≡ true = ap₂ (λ t m. not t && (m == 0)) f l in
-            let x = filter_there (is_moved c) 0 many i (omega arith) (omega (arith, less)) moves in
-            record {
-              place = length (hoisted c) + position i (others c);
-              number = omega (arith, is);
-              stands = in_middle (position i (others c)) i (at_position (others c) x.0 i x.1);
-            }
+        by (owns f l o) e = let is : own_number base i ≡ n = cc e in subst (StandsAt base i) is (own_stands base i less f l)
+        by (owns_two f l o) e
+            = let is : own_number base i ≡ n = cc e in subst (StandsAt base i) is (own_stands base i less f l)
         by (leaves m f l) e =
             let is : held_number base i ≡ n = cc e in
             let x = hoisted_there (deepest c.leaves) i less (omega (arith, l)) (deep c.leaves i) in
@@ -347,6 +375,24 @@ module _ (c : Choice) (moved : (i : ℕ) → 0 < left_by c i → get_or c.in_pla
               stands = in_front (position i (hoisted c)) i (at_position (hoisted c) x.0 i x.1);
             }
 
+    -- the buffer of a parameter in the second set
+    pub second_stands : (base i m n : ℕ) → i < many → home_of base c i ≡ Twin m n → StandsAt base i n
+    second_stands base i m n less h = by (home_by base i) h
+      where
+        by : {x : Home} → HomeIs base i x → x ≡ Twin m n → StandsAt base i n
+        by (stays f l) e = absurd (cc e)
+        by (owns f l o) e = absurd (cc e)
+        by (owns_two f l o) e =
+            let is : own_number base i + length (others c) ≡ n = cc e in
+            record {
+              place = length (hoisted c) + (length (others c) + position i (others c));
+              number = omega (arith, is);
+              stands = in_second (position i (others c)) i
+                  (ap (λ (t : Bool). slice_get (if t then others c else []) (position i (others c))) o
+                  ∙ other_there i less f l);
+            }
+        by (leaves k f l) e = absurd (cc e)
+
     range_there : (a n i : ℕ) → i < n → slice_get (range_with_len a n) i ≡ Some (a + i)
     range_there a zero i h = absurd (omega (arith, h))
     range_there a (suc n) zero h = let e : a ≡ a + 0 = omega arith in ap Some e
@@ -355,15 +401,13 @@ module _ (c : Choice) (moved : (i : ℕ) → 0 < left_by c i → get_or c.in_pla
 
     -- a local's
     pub local_stands : (base j : ℕ) → j < locals_count b.arrays c → StandsAt base (many + j) (local_base base c + j)
-    local_stands base j less =
-        let none : length (again c) ≡ 0 = ap (λ (t : Bool). length (if t then others c else [])) overlaps in
-        record {
-          place = length (hoisted c) + (length (others c) + j);
-          number = omega (arith, none);
-          stands = ap (λ (l : List ℕ). slice_get l (length (hoisted c) + (length (others c) + j))) standing_is
-              ∙ (get_right (hoisted c) (others c ++ locals) (length (others c) + j)
-              ∙ (get_right (others c) locals j ∙ range_there many (locals_count b.arrays c) j less));
-        }
+    local_stands base j less = record {
+      place = length (hoisted c) + (length (others c) + (length (again c) + j));
+      number = omega arith;
+      stands = get_right (hoisted c) (others c ++ behind_those) (length (others c) + (length (again c) + j))
+          ∙ (get_right (others c) behind_those (length (again c) + j)
+          ∙ (get_right (again c) locals j ∙ range_there many (locals_count b.arrays c) j less));
+    }
 
   -- ---- their buffers are in order
 
@@ -395,7 +439,9 @@ module _ (c : Choice) (moved : (i : ℕ) → 0 < left_by c i → get_or c.in_pla
             ≡ map (held_number base) (cond (left_by c a == suc d) (a ∷ those) those)
         head ih (stays f l) = one ih false
             ∙ ap (λ (t : Bool). map (held_number base) (cond t (a ∷ those) those)) (sym (out l))
-        head ih (owns f l) = one ih false
+        head ih (owns f l o) = one ih false
+            ∙ ap (λ (t : Bool). map (held_number base) (cond t (a ∷ those) those)) (sym (out l))
+        head ih (owns_two f l o) = one ih false
             ∙ ap (λ (t : Bool). map (held_number base) (cond t (a ∷ those) those)) (sym (out l))
         head ih (leaves m f l) = one ih (suc m == suc d)
             ∙ ap (λ (k : ℕ). map (held_number base) (cond (k == suc d) (a ∷ those) those)) (sym l)
@@ -412,35 +458,139 @@ module _ (c : Choice) (moved : (i : ℕ) → 0 < left_by c i → get_or c.in_pla
     pub held_are : held_over (deepest c.leaves) 0 params ≡ range_with_len base (length (hoisted c))
     held_are = all_at (deepest c.leaves) ∙ numbered base (hoisted c) (hoisted_places (deepest c.leaves))
 
-    own_at : (a n : ℕ) → home_buffers (map (home_of base c) (range_with_len a n))
-        ≡ map (own_number base) (filter (is_moved c) (range_with_len a n))
-    own_at a zero = refl
-    own_at a (suc n) = head (own_at (a + 1) n) (home_by base a)
+    -- ---- and of the others, one set or two
+
+    moves : (i : ℕ) {h : Home} → HomeIs base i h → is_moved c i ≡ trees.is_moved h
+    moves i (stays f l) = ap (λ (t : Bool). not t && (left_by c i == 0)) f
+    moves i (owns f l o) = ap₂ (λ t m. not t && (m == 0)) f l
+    moves i (owns_two f l o) = ap₂ (λ t m. not t && (m == 0)) f l
+    moves i (leaves m f l) = ap₂ (λ t k. not t && (k == 0)) f l ∙ not_same (suc m) 0 (λ z. omega (arith, z))
+
+    abbrev homes_from : (a n : ℕ) → List Home
+    homes_from a n = map (home_of base c) (range_with_len a n)
+
+    module _ (all : List Home → List ℕ) (made : Home → List ℕ → List ℕ) (none : all [] ≡ [])
+        (more : (h : Home) (hs : List Home) → all (h ∷ hs) ≡ made h (all hs)) where
+      -- where each of them has a number
+      numbers_at : (number : ℕ → ℕ) → ((i : ℕ) (h : Home) → HomeIs base i h → (rest : List ℕ) → made h rest
+          ≡ (if trees.is_moved h then number i ∷ rest else rest))
+          → (a n : ℕ) → all (homes_from a n) ≡ map number (filter (is_moved c) (range_with_len a n))
+      numbers_at number each a zero = none
+      numbers_at number each a (suc n) =
+          more (home_of base c a) (homes_from (a + 1) n)
+          ∙ each a (home_of base c a) (home_by base a) (all (homes_from (a + 1) n))
+          ∙ ap (λ (t : Bool). if t then number a ∷ all (homes_from (a + 1) n) else all (homes_from (a + 1) n))
+          (sym (moves a (home_by base a)))
+          ∙ by (is_moved c a) (numbers_at number each (a + 1) n)
+        where
+          those : List ℕ
+          those = filter (is_moved c) (range_with_len (a + 1) n)
+
+          by : (t : Bool) → all (homes_from (a + 1) n) ≡ map number those
+              → (if t then number a ∷ all (homes_from (a + 1) n) else all (homes_from (a + 1) n))
+              ≡ map number (cond t (a ∷ those) those)
+          by true ih = ap (λ l. number a ∷ l) ih
+          by false ih = ih
+
+      -- and where none has
+      nothing_at : ((i : ℕ) (h : Home) → HomeIs base i h → (rest : List ℕ) → made h rest ≡ rest) → (a n : ℕ)
+          → all (homes_from a n) ≡ []
+      nothing_at each a zero = none
+      nothing_at each a (suc n) = more (home_of base c a) (homes_from (a + 1) n)
+          ∙ each a (home_of base c a) (home_by base a) (all (homes_from (a + 1) n)) ∙ nothing_at each (a + 1) n
+
+    other_way : {A : Type 0} → c.overlaps ≡ false → c.overlaps ≡ true → A
+    other_way e o = let no : true ≡ false = sym o ∙ e in absurd (cc no)
+
+    abbrev first_other : ℕ
+    first_other = base + length (hoisted c)
+
+    one_set : c.overlaps ≡ false → home_buffers params ≡ range_with_len first_other (length (others c))
+    one_set e = numbers_at home_buffers buffer_of refl (λ h hs. refl) (own_number base) (λ i h x rest. each i x rest) 0 many
+        ∙ numbered first_other (others c) (filter_places (is_moved c) 0 many)
       where
-        rest : List ℕ
-        rest = home_buffers (map (home_of base c) (range_with_len (a + 1) n))
+        each : (i : ℕ) {h : Home} → HomeIs base i h → (rest : List ℕ) → buffer_of h rest
+            ≡ (if trees.is_moved h then own_number base i ∷ rest else rest)
+        each i (stays f l) rest = refl
+        each i (owns f l o) rest = refl
+        each i (owns_two f l o) rest = other_way e o
+        each i (leaves m f l) rest = refl
 
-        those : List ℕ
-        those = filter (is_moved c) (range_with_len (a + 1) n)
+    no_sets : (k : ℕ) → c.overlaps ≡ false → home_set k params ≡ []
+    no_sets k e = nothing_at (home_set k) (twin_of k) refl (λ h hs. refl) (λ i h x rest. each k i x rest) 0 many
+      where
+        each : (k i : ℕ) {h : Home} → HomeIs base i h → (rest : List ℕ) → twin_of k h rest ≡ rest
+        each zero i (stays f l) rest = refl
+        each zero i (owns f l o) rest = refl
+        each zero i (owns_two f l o) rest = other_way e o
+        each zero i (leaves m f l) rest = refl
+        each (suc k) i (stays f l) rest = refl
+        each (suc k) i (owns f l o) rest = refl
+        each (suc k) i (owns_two f l o) rest = other_way e o
+        each (suc k) i (leaves m f l) rest = refl
 
-        same : (t : Bool) → is_moved c a ≡ t → (l : List ℕ) → l ≡ map (own_number base) (cond t (a ∷ those) those)
-            → l ≡ map (own_number base) (cond (is_moved c a) (a ∷ those) those)
-        same t e l g = g ∙ ap (λ (u : Bool). map (own_number base) (cond u (a ∷ those) those)) (sym e)
+    no_own : c.overlaps ≡ true → home_buffers params ≡ []
+    no_own e = nothing_at home_buffers buffer_of refl (λ h hs. refl) (λ i h x rest. each i x rest) 0 many
+      where
+        each : (i : ℕ) {h : Home} → HomeIs base i h → (rest : List ℕ) → buffer_of h rest ≡ rest
+        each i (stays f l) rest = refl
+        each i (owns f l o) rest = other_way o e
+        each i (owns_two f l o) rest = refl
+        each i (leaves m f l) rest = refl
 
-        head : rest ≡ map (own_number base) those → {h : Home} → HomeIs base a h
-            → buffer_of h rest ≡ map (own_number base) (cond (is_moved c a) (a ∷ those) those)
-        head ih (stays f l) = same false (ap (λ (t : Bool). not t && (left_by c a == 0)) f) rest ih
-        head ih (owns f l) = same true (ap₂ (λ t m. not t && (m == 0)) f l) (own_number base a ∷ rest)
-            (ap (λ z. own_number base a ∷ z) ih)
-        head ih (leaves m f l) = same false
-            (ap₂ (λ t k. not t && (k == 0)) f l ∙ not_same (suc m) 0 (λ z. omega (arith, z))) rest ih
+    first_set : c.overlaps ≡ true → home_set 0 params ≡ range_with_len first_other (length (others c))
+    first_set e = numbers_at (home_set 0) (twin_of 0) refl (λ h hs. refl) (own_number base) (λ i h x rest. each i x rest) 0 many
+        ∙ numbered first_other (others c) (filter_places (is_moved c) 0 many)
+      where
+        each : (i : ℕ) {h : Home} → HomeIs base i h → (rest : List ℕ) → twin_of 0 h rest
+            ≡ (if trees.is_moved h then own_number base i ∷ rest else rest)
+        each i (stays f l) rest = refl
+        each i (owns f l o) rest = other_way o e
+        each i (owns_two f l o) rest = refl
+        each i (leaves m f l) rest = refl
 
-    -- and of the others
-    pub others_are : home_buffers params ≡ range_with_len (base + length (hoisted c)) (length (others c))
-    others_are = own_at 0 many
-        ∙ numbered (base + length (hoisted c)) (others c) (filter_places (is_moved c) 0 many)
+    abbrev second_number : ℕ → ℕ
+    second_number i = own_number base i + length (others c)
 
-    pub locals_from : local_base base c ≡ base + length (hoisted c) + length (others c)
-    locals_from =
-        let none : length (again c) ≡ 0 = ap (λ (t : Bool). length (if t then others c else [])) overlaps in
-        omega (arith, none)
+    second_in_order : map second_number (others c) ≡ range_with_len (first_other + length (others c)) (length (others c))
+    second_in_order = in_order second_number (first_other + length (others c)) (others c) (λ k i e.
+        let z = filter_places (is_moved c) 0 many k i e in omega (arith, z))
+
+    second_set : c.overlaps ≡ true
+        → home_set 1 params ≡ range_with_len (first_other + length (others c)) (length (others c))
+    second_set e = numbers_at (home_set 1) (twin_of 1) refl (λ h hs. refl) second_number (λ i h x rest. each i x rest) 0 many ∙ second_in_order
+      where
+        each : (i : ℕ) {h : Home} → HomeIs base i h → (rest : List ℕ) → twin_of 1 h rest
+            ≡ (if trees.is_moved h then second_number i ∷ rest else rest)
+        each i (stays f l) rest = refl
+        each i (owns f l o) rest = other_way o e
+        each i (owns_two f l o) rest = refl
+        each i (leaves m f l) rest = refl
+
+    -- with the locals behind them
+    pub others_are : (ls : List ℕ) (k : ℕ) → ls ≡ range_with_len (local_base base c) k
+        → home_buffers params ++ (home_set 0 params ++ (home_set 1 params ++ ls))
+        ≡ range_with_len first_other (length (others c) + (length (again c) + k))
+    others_are ls k is = by c.overlaps refl
+      where
+        o : ℕ
+        o = length (others c)
+
+        by : (t : Bool) → c.overlaps ≡ t → home_buffers params ++ (home_set 0 params ++ (home_set 1 params ++ ls))
+            ≡ range_with_len first_other (o + (length (again c) + k))
+        by false e =
+            let none : length (again c) ≡ 0 = ap (λ (t : Bool). length (if t then others c else [])) e in
+            let at : local_base base c ≡ first_other + o = omega (arith, none) in
+            let all : o + k ≡ o + (length (again c) + k) = omega (arith, none) in
+            ap₂ (λ (xs ys : List ℕ). xs ++ ys) (one_set e)
+            (ap₂ (λ (xs ys : List ℕ). xs ++ (ys ++ ls)) (no_sets 0 e) (no_sets 1 e) ∙ is ∙ ap (λ m. range_with_len m k) at)
+            ∙ range_joined first_other o k ∙ ap (range_with_len first_other) all
+        by true e =
+            let two : length (again c) ≡ o = ap (λ (t : Bool). length (if t then others c else [])) e in
+            let at : local_base base c ≡ first_other + o + o = omega (arith, two) in
+            let all : o + (o + k) ≡ o + (length (again c) + k) = omega (arith, two) in
+            ap₂ (λ (xs ys : List ℕ). xs ++ ys) (no_own e)
+            (ap₂ (λ (xs ys : List ℕ). xs ++ ys) (first_set e)
+            (ap₂ (λ (xs ys : List ℕ). xs ++ ys) (second_set e) (is ∙ ap (λ m. range_with_len m k) at)
+            ∙ range_joined (first_other + o) o k))
+            ∙ range_joined first_other o (o + k) ∙ ap (range_with_len first_other) all

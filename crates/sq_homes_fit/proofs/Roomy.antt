@@ -47,7 +47,7 @@ use Rattle.sq_plan_room.specs.Buffers.{home_buffer}
 use Rattle.sq_homes.specs.declared.choice.Choice.{Choice}
 use Rattle.sq_homes.specs.Drafts.{homes_of, buffers_of, buffer_at, args_of, choice_in}
 use Rattle.sq_homes.specs.Numbering.{standing, local_base, locals_count, shape_size}
-use Rattle.sq_homes_laws.specs.Simple.{Walked, left_in, AreHoisted, setting_of}
+use Rattle.sq_homes_laws.specs.Choosing.{Walked, left_in, MayBeChosen, setting_of}
 use Rattle.sq_homes_laws.proofs.Hoisting.{no_homes_at}
 use Rattle.sq_homes_fit.specs.Drafts.{DraftsAreRoomy}
 use Rattle.sq_homes_fit.specs.Homes.{HasOwn}
@@ -60,7 +60,7 @@ use Rattle.sq_homes_fit.proofs.Forms.{no_body_at, no_body_there}
 use Rattle.sq_homes_fit.proofs.Forms.{past_or}
 use Rattle.sq_homes_fit.proofs.Hoisted.{IsForm, is_form, params_many, param_is}
 use Rattle.sq_homes_fit.proofs.Numbers.{first_of}
-use Rattle.sq_homes_fit.proofs.Places.{StandsAt, param_stands, local_stands}
+use Rattle.sq_homes_fit.proofs.Places.{StandsAt, param_stands, second_stands, local_stands}
 use Rattle.sq_homes_fit.proofs.SameArrays.{named_all, arrays_are, calls_same}
 use Rattle.sq_homes_fit.proofs.Rows.{rows_fit}
 use Rattle.sq_homes_fit.proofs.Sizes.{rounded_up, are_whole}
@@ -82,11 +82,12 @@ of_taken (suc n) (y ∷ xs) (suc i) x h = of_taken n xs i x h
 -- ---- homes
 
 module _ (s : Setting) where
-  fits_home : (h : Home) (x : Shape) → ((n : ℕ) → home_buffer h ≡ Some n → FitsInto s n x) → HomeFits s h x
-  fits_home InPlace x f = tt
-  fits_home (Own n) x f = f n refl
-  fits_home (Held n loops) x f = f n refl
-  fits_home (Twin n m) x f = f n refl
+  fits_home : (h : Home) (x : Shape) → ((n : ℕ) → home_buffer h ≡ Some n → FitsInto s n x)
+      → ((m n : ℕ) → h ≡ Twin m n → FitsInto s n x) → HomeFits s h x
+  fits_home InPlace x f g = tt
+  fits_home (Own n) x f g = f n refl
+  fits_home (Held n loops) x f g = f n refl
+  fits_home (Twin n m) x f g = (f n refl, g n m refl)
 
   each_local : (base n : ℕ) (xs : List Shape) → length xs ≡ n
       → ((j : ℕ) (x : Shape) → slice_get xs j ≡ Some x → FitsInto s (base + j) x)
@@ -113,7 +114,7 @@ module _ (s : Setting) where
   own_into h x own fits =
       subst (λ (g : Home). FitsInto s (buffer_or g) x) (sym own.is) (subst (λ (g : Home). HomeFits s g x) own.is fits)
 
-module _ (r : Resolved) (w : Walked r) (choices : List Choice) (are : AreHoisted r choices) (nodes : List PlanNode)
+module _ (r : Resolved) (w : Walked r) (choices : List Choice) (are : MayBeChosen r choices) (nodes : List PlanNode)
     (offset : ℕ → ℕ) where
   abbrev s : Setting
   s = setting_of r choices nodes offset
@@ -142,7 +143,7 @@ module _ (r : Resolved) (w : Walked r) (choices : List Choice) (are : AreHoisted
 
     -- the buffer of an array is as large as the array
     fits_at : (i n : ℕ) (x : Shape)
-        → StandsAt c its.chosen.moved its.chosen.overlaps (body_at r k) first i n → slice_get arrays i ≡ Some x
+        → StandsAt c its.chosen.moved (body_at r k) first i n → slice_get arrays i ≡ Some x
         → FitsInto s n x
     fits_at i n x at is =
         let all = standing (body_at r k) c in
@@ -164,9 +165,10 @@ module _ (r : Resolved) (w : Walked r) (choices : List Choice) (are : AreHoisted
     param_fits i x is (Some h) e =
         let p = param_is r choices are k (body_at r k) its i h e in
         subst (λ (g : Home). HomeFits s g x) (sym (get_or_from_slice_get (homes k).params i h InPlace e))
-        (fits_home s h x (λ n g. fits_at i n x
-        (param_stands c its.chosen.moved its.chosen.overlaps (body_at r k) first i n p.less
-        (ap home_buffer p.is ∙ g)) is))
+        (fits_home s h x
+        (λ n g. fits_at i n x
+        (param_stands c its.chosen.moved (body_at r k) first i n p.less (ap home_buffer p.is ∙ g)) is)
+        (λ m n g. fits_at i n x (second_stands c its.chosen.moved (body_at r k) first i m n p.less (p.is ∙ g)) is))
 
     locals_fit_from : (m : ℕ) → m ≡ length c.in_place
         → Each (FitsInto s) (range_with_len (local_base first c) (locals_count arrays c)) (drop m arrays)
@@ -177,7 +179,7 @@ module _ (r : Resolved) (w : Walked r) (choices : List Choice) (are : AreHoisted
         = ap (λ (n : ℕ). slice_get arrays (n + j)) (sym many) ∙ (sym (dropped m arrays j) ∙ e) in
         let less = slice_get_within arrays (length c.in_place + j) x at in
         fits_at (length c.in_place + j) (local_base first c + j) x
-        (local_stands c its.chosen.moved its.chosen.overlaps (body_at r k) first j (omega (arith, less))) at)
+        (local_stands c its.chosen.moved (body_at r k) first j (omega (arith, less))) at)
 
     locals_fit : Each (FitsInto s) (homes k).locals (drop (length (homes k).params) arrays)
     locals_fit =

@@ -19,7 +19,7 @@ use Rattle.sq_homes.specs.Drafts.{bodies_of, homes_of, buffers_of, buffer_at, ch
 use Rattle.sq_homes.specs.Numbering.{standing, home_of, local_base, locals_count, IsHomeIn, IsNumberIn}
 use Rattle.sq_homes.proofs.Numbered.{homes_are_own, locals_are_own}
 use Rattle.sq_homes_laws.specs.Given.{level_at}
-use Rattle.sq_homes_laws.specs.Simple.{Walked, AreHoisted, setting_of}
+use Rattle.sq_homes_laws.specs.Choosing.{Walked, MayBeChosen, setting_of}
 use Rattle.sq_homes_laws.proofs.Standing.{map_length}
 use Rattle.sq_homes_laws.proofs.Hoisting.{at_index, no_homes_at}
 use Rattle.sq_homes_fit.specs.Drafts.{limits, DraftsAreTabled}
@@ -31,7 +31,7 @@ use Rattle.sq_homes_fit.proofs.Sizes.{have_rows}
 
 -- ---- buffers that are there
 
-module _ (r : Resolved) (choices : List Choice) (are : AreHoisted r choices) (nodes : List PlanNode)
+module _ (r : Resolved) (choices : List Choice) (are : MayBeChosen r choices) (nodes : List PlanNode)
     (offset : ℕ → ℕ) where
   abbrev s : Setting
   s = setting_of r choices nodes offset
@@ -60,7 +60,7 @@ module _ (r : Resolved) (choices : List Choice) (are : AreHoisted r choices) (no
     home_there InPlace i = tt
     home_there (Own n) i = number_there n i
     home_there (Held n loops) i = number_there n i
-    home_there (Twin n m) i = tt
+    home_there (Twin n m) i = (number_there n i.0, number_there m i.1)
 
     params_there : (a n : ℕ) → a + n ≤ length c.in_place → AreThere s (map (home_of first c) (range_with_len a n))
     params_there a zero h = tt

@@ -1,4 +1,4 @@
--- The bodies, homes and buffers of a draft are as a built term asks, where no loop overlaps its transfers.
+-- The bodies, homes and buffers of a draft are as a built term asks.
 use Rattle.std.specs.Prelude.{◌≡◌, ℕ, suc, List, length, take}
 use Rattle.sq_forms.specs.Steps.{most_uses}
 use Rattle.sq_ir.specs.declared.plan.PlanNode.{PlanNode}
@@ -10,7 +10,7 @@ use Rattle.sq_term_fit.specs.Rooms.{AreRoomy, EntryFits, RowFits}
 use Rattle.sq_homes.specs.declared.choice.Choice.{Choice}
 use Rattle.sq_homes.specs.Drafts.{bodies_of, homes_of, args_of}
 use Rattle.sq_homes_laws.specs.Given.{level_at}
-use Rattle.sq_homes_laws.specs.Simple.{Walked, AreHoisted, setting_of}
+use Rattle.sq_homes_laws.specs.Choosing.{Walked, MayBeChosen, setting_of}
 
 -- as many uses as an outermost map may have, and as many children as a node of a machine
 abbrev pub limits : Bounds
@@ -18,7 +18,7 @@ limits = record { uses = most_uses; children = 64 }
 
 -- Tables have a row for each time that a statement is begun, and buffers that scopes name are there.
 abbrev pub DraftsAreTabled : Type 0
-DraftsAreTabled = (r : Resolved) → Walked r → (choices : List Choice) → AreHoisted r choices
+DraftsAreTabled = (r : Resolved) → Walked r → (choices : List Choice) → MayBeChosen r choices
     → (last : ℕ) → length r.machine.now.levels ≡ suc last → (nodes : List PlanNode) (offset : ℕ → ℕ)
     → AreTabled (setting_of r choices nodes offset) limits last (body_in (bodies_of r)) (homes_in (homes_of r choices))
     (level_at r)
@@ -33,5 +33,5 @@ pub record IsRoomyDraft (r : Resolved) (choices : List Choice) (s : Setting) : T
 
 -- Arrays fit into the buffers of their homes, and blocks lie inside arrays.
 abbrev pub DraftsAreRoomy : Type 0
-DraftsAreRoomy = (r : Resolved) → Walked r → (choices : List Choice) → AreHoisted r choices
+DraftsAreRoomy = (r : Resolved) → Walked r → (choices : List Choice) → MayBeChosen r choices
     → (nodes : List PlanNode) (offset : ℕ → ℕ) → IsRoomyDraft r choices (setting_of r choices nodes offset)

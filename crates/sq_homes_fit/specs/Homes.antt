@@ -8,22 +8,22 @@ use Rattle.sq_rooms.specs.Held.{AreHeldInside}
 use Rattle.sq_forms_fit.specs.Homes.{mays_of, HomesFit}
 use Rattle.sq_homes.specs.declared.choice.Choice.{Choice}
 use Rattle.sq_homes.specs.Drafts.{bodies_of, homes_of, args_of}
-use Rattle.sq_homes_laws.specs.Simple.{Walked, AreHoisted}
+use Rattle.sq_homes_laws.specs.Choosing.{Walked, MayBeChosen}
 use Rattle.sq_forms_fit.specs.Entry.{EntryFacts}
 
 -- Each form has a home for each of its parameters, in place only where it was found so, and a buffer for each local.
 abbrev pub HomesFitForms : Type 0
-HomesFitForms = (r : Resolved) → Walked r → (choices : List Choice) → AreHoisted r choices
+HomesFitForms = (r : Resolved) → Walked r → (choices : List Choice) → MayBeChosen r choices
     → HomesFit r.typed.now r.mapping.now r.found.entries (homes_in (homes_of r choices))
 
 -- What leaves loops are arguments of calls that are all that stands in these loops.
 abbrev pub HomesAreHeldInside : Type 0
-HomesAreHeldInside = (r : Resolved) (choices : List Choice) → AreHoisted r choices
+HomesAreHeldInside = (r : Resolved) (choices : List Choice) → MayBeChosen r choices
     → AreHeldInside (body_in (bodies_of r)) (homes_in (homes_of r choices))
 
 -- The entry is called with its arrays, whole.
 abbrev pub EntriesAreWhole : Type 0
-EntriesAreWhole = (r : Resolved) → Walked r → (choices : List Choice) → AreHoisted r choices
+EntriesAreWhole = (r : Resolved) → Walked r → (choices : List Choice) → MayBeChosen r choices
     → EntryFacts (body_in (bodies_of r)) (homes_in (homes_of r choices))
     (mays_of r.typed.now.tasks r.mapping.now.instances r.found.entries 0) (args_of r)
 
@@ -33,5 +33,5 @@ pub record HasOwn (h : Home) : Type 0 where
   pub is : h ≡ Own buffer
 
 abbrev pub EntriesHaveBuffers : Type 0
-EntriesHaveBuffers = (r : Resolved) → Walked r → (choices : List Choice) → AreHoisted r choices → (i : ℕ) (h : Home)
+EntriesHaveBuffers = (r : Resolved) → Walked r → (choices : List Choice) → MayBeChosen r choices → (i : ℕ) (h : Home)
     → slice_get (homes_in (homes_of r choices) 0).params i ≡ Some h → HasOwn h

@@ -9,7 +9,7 @@ use Rattle.sq_spec.specs.declared.resolved.Resolved.{Resolved}
 use Rattle.sq_term_fit.specs.Fits.{AreBounds, IsMachine, NodeAt}
 use Rattle.sq_plan_room.specs.Buffers.{HaveLanes}
 use Rattle.sq_homes.specs.declared.choice.Choice.{Choice}
-use Rattle.sq_homes_laws.specs.Simple.{Walked, AreHoisted, AreMemories, setting_of}
+use Rattle.sq_homes_laws.specs.Choosing.{Walked, MayBeChosen, AreMemories, setting_of}
 use Rattle.sq_homes_fit.specs.Drafts.{limits}
 use Rattle.sq_homes_fit.specs.Owned.{draft_placed}
 
@@ -26,6 +26,6 @@ MachinesAreMachines = (levels : List Level) (nodes : List PlanNode) → AreMemor
 
 -- A map that is spread has a lower call in it, so that its form stands above the last level, and its node has children.
 abbrev pub LanesAreThere : Type 0
-LanesAreThere = (r : Resolved) → Walked r → (choices : List Choice) → AreHoisted r choices
+LanesAreThere = (r : Resolved) → Walked r → (choices : List Choice) → MayBeChosen r choices
     → (nodes : List PlanNode) → AreMemories r.machine.now.levels nodes → (offset : ℕ → ℕ)
     → HaveLanes (setting_of r choices nodes offset) (draft_placed r choices) 0 0

@@ -5,7 +5,7 @@ use Rattle.sq_spec.specs.declared.resolved.Resolved.{Resolved}
 use Rattle.sq_homes.specs.declared.choice.Choice.{Choice}
 use Rattle.sq_homes.specs.Drafts.{buffers_of}
 use Rattle.sq_homes_laws.specs.Given.{level_at}
-use Rattle.sq_homes_laws.specs.Simple.{Walked, AreHoisted}
+use Rattle.sq_homes_laws.specs.Choosing.{Walked, MayBeChosen}
 
 -- Each form has a level of the machine.
 abbrev pub LevelsAreThere : Type 0
@@ -17,4 +17,4 @@ pub record BeginsAtRoot (r : Resolved) (choices : List Choice) : Type 0 where
   pub buffer : of_buffer (buffers_of r choices) (λ x. x.level) 0 ≡ 0
 
 abbrev pub DraftsBeginAtRoot : Type 0
-DraftsBeginAtRoot = (r : Resolved) → Walked r → (choices : List Choice) → AreHoisted r choices → BeginsAtRoot r choices
+DraftsBeginAtRoot = (r : Resolved) → Walked r → (choices : List Choice) → MayBeChosen r choices → BeginsAtRoot r choices

@@ -11,7 +11,7 @@ use Rattle.sq_plan_room.specs.Rooms.{EntryOwns}
 use Rattle.sq_forms_fit.specs.Entry.{entry_shapes}
 use Rattle.sq_homes.specs.declared.choice.Choice.{Choice}
 use Rattle.sq_homes.specs.Drafts.{bodies_of, homes_of, args_of, entry_of}
-use Rattle.sq_homes_laws.specs.Simple.{Walked, AreHoisted, setting_of}
+use Rattle.sq_homes_laws.specs.Choosing.{Walked, MayBeChosen, setting_of}
 
 -- what is placed for a draft: its entry, called with whole arrays
 abbrev pub draft_placed : Resolved → List Choice → Placed
@@ -23,9 +23,9 @@ pub record OwnsItsBuffers (r : Resolved) (choices : List Choice) (s : Setting) :
   pub entry : EntryOwns s (entry_shapes (body_in (bodies_of r)) (args_of r)) (entry_of r choices)
       (draft_placed r choices)
 
--- Where no loop overlaps its transfers, each array of a draft has a buffer of its own that it fits into, or stands in its
--- caller's array, and the entry's arrays have theirs; an argument that leaves loops has its buffer round the outermost of
--- them.
+-- Each array of a draft has a buffer of its own that it fits into, or stands in its caller's array, and the entry's
+-- arrays have theirs; an argument that leaves loops has its buffer round the outermost of them, and in a loop that
+-- overlaps its transfers each other one has two.
 abbrev pub DraftsOwn : Type 0
-DraftsOwn = (r : Resolved) → Walked r → (choices : List Choice) → AreHoisted r choices
+DraftsOwn = (r : Resolved) → Walked r → (choices : List Choice) → MayBeChosen r choices
     → (nodes : List PlanNode) (offset : ℕ → ℕ) → OwnsItsBuffers r choices (setting_of r choices nodes offset)

@@ -1,5 +1,5 @@
-//! Where no loop overlaps its transfers: the homes, bodies and buffers of a draft meet what the laws of plans ask, each
-//! array has its own buffer, and the draft can be placed.
+//! The homes, bodies and buffers of a draft meet what the laws of plans ask, each array has buffers of its own, and the
+//! draft can be placed.
 #![tactic(auto)]
 
 ghost use Rattle.sq_homes_fit.specs.Homes.{HomesFitForms, HomesAreHeldInside, EntriesAreWhole, EntriesHaveBuffers};

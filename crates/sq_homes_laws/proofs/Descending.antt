@@ -13,23 +13,19 @@ use Rattle.sq_ast.specs.declared.program.Body.{Body as Text}
 use Rattle.sq_ast.specs.declared.program.Body.TheVariants as text
 use Rattle.sq_ast.specs.declared.program.Program.{Program}
 use Rattle.sq_ast.specs.declared.program.Variant.{Variant}
-use Rattle.sq_ast.specs.declared.stmt.Stmt.{Stmt}
 use Rattle.sq_machfile.specs.declared.level.Level.{Level}
 use Rattle.sq_mapfile.specs.declared.mapping.Instance.{Instance}
 use Rattle.sq_mapfile.specs.declared.mapping.Mapping.{Mapping}
 use Rattle.sq_mapfile.specs.Sound.{Sound}
 use Rattle.sq_types.specs.Sound.{is_sound}
 use Rattle.sq_work.specs.declared.reduction.Reduction.{Reduction}
-use Rattle.sq_forms.specs.declared.form.Form.{Form}
 use Rattle.sq_forms.specs.declared.form.Found.{Found}
 use Rattle.sq_forms.specs.Args.{Names}
-use Rattle.sq_forms.specs.Decls.{Scope}
-use Rattle.sq_forms.specs.Steps.{Called, Forms, Key, State}
+use Rattle.sq_forms.specs.Steps.{Called, Forms, Key}
 use Rattle.sq_forms.specs.Tables.{variant_of}
 use Rattle.sq_forms.specs.Worlds.{Callee}
-use Rattle.sq_forms.specs.Resolving.{Resolving, resolution, frame_in, entry_params, entry_extents, with_entry}
-use Rattle.sq_forms.specs.Resolving.{with_locals}
-use Rattle.sq_form_laws.specs.Reached.{IsReached, IsCallee, CalleeIs, Ran, body_calls, steps_of}
+use Rattle.sq_forms.specs.Resolving.{Resolving, resolution, frame_in, with_entry}
+use Rattle.sq_form_laws.specs.Reached.{IsReached, body_calls, steps_of}
 use Rattle.sq_form_laws.specs.Reached.{calls_in as calls_among, form_number}
 use Rattle.sq_form_laws.specs.Served.{FormRuns}
 use Rattle.sq_form_laws.proofs.AllHold.{Adding, InEachForm, all_hold}
@@ -50,10 +46,9 @@ use Rattle.sq_spec.specs.Walked.{IsWalked}
 use Rattle.sq_spec.specs.Works.{shapes_of}
 use Rattle.sq_spec_laws.specs.TableRows.{Table, red_of, all_tables, tables_step, tables_of, tables_in, RowIsReached}
 use Rattle.sq_spec_laws.proofs.TableRowsHold.{rows_are_reached}
-use Rattle.sq_term.specs.Terms.{body_in}
 use Rattle.sq_term.specs.Stands.{calls_in_rows, all_calls, calls_in, calls_in_all, calls_of, AreLevel, below}
 use Rattle.sq_term.proofs.Opened.{calls_call, calls_map}
-use Rattle.sq_homes.specs.Drafts.{bodies_of, level_by}
+use Rattle.sq_homes.specs.Drafts.{level_by}
 use Rattle.sq_homes_laws.specs.Given.{level_at, CallsDescend}
 use Rattle.sq_homes_laws.proofs.Programs.{bodies_are_tables}
 use Rattle.sq_form_laws.specs.Reached.{AsManyForms}

@@ -19,7 +19,7 @@ use Rattle.sq_homes.specs.Drafts.{homes_from, homes_of, buffers_of, bodies_of, c
 use Rattle.sq_homes.specs.Drafts.{buffer_at}
 use Rattle.sq_homes.proofs.Numbered.{homes_are_own, locals_are_own}
 use Rattle.sq_homes_laws.specs.Given.{FormStands, level_at, ProgramsDescend, HomesAreLeveled}
-use Rattle.sq_homes_laws.proofs.Standing.{forms_stand, map_length}
+use Rattle.sq_homes_laws.proofs.Standing.{forms_stand}
 
 get_map : {A B : Type 0} (f : A → B) (g : B → ℕ) (d n : ℕ) (xs : List A) (i : ℕ) → i < length xs
     → ((x : A) → g (f x) ≡ n)

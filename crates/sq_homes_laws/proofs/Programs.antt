@@ -1,6 +1,6 @@
 -- What is placed under a draft's homes means what the program does.
 use Rattle.std.proofs.Common.{◌≡◌, ℕ, zero, suc, ◌+◌, ◌<◌, ◌≤◌, ◌⊎◌, inl, inr, false, List, [], ◌∷◌, length, map}
-use Rattle.std.proofs.Common.{slice_get, get_or, Option, Some, None, refl, sym, ap, ap₂, ◌∙◌, arith}
+use Rattle.std.proofs.Common.{slice_get, get_or, Option, Some, None, refl, sym, ap, ap₂, subst, ◌∙◌, arith}
 use Rattle.std.proofs.lemmas.Bool.{cases_lt}
 use Rattle.std.proofs.lemmas.List.FromFn.{length-range_with_len}
 use Rattle.std.proofs.lemmas.Option.{slice_get_past}
@@ -9,7 +9,7 @@ use Rattle.std.proofs.Math.Path.{fun_ext}
 use Rattle.std.specs.List.{range_with_len}
 use Rattle.std.specs.Coded.{coded_ℕ}
 use base.Stored.{Coded-set}
-use Rattle.sq_blocks.specs.declared.argument.Argument.{Argument}
+use Rattle.sq_ast.specs.declared.program.Param.{Param}
 use Rattle.sq_forms.specs.declared.form.Form.{Form}
 use Rattle.sq_forms.specs.Resolving.{entry_params}
 use Rattle.sq_form_laws.specs.Reached.{AsManyForms}
@@ -20,9 +20,11 @@ use Rattle.sq_spec.specs.Entry.{IsEntry, EntryIsFirst}
 use Rattle.sq_spec.specs.Numbered.{called_entry, entry_call}
 use Rattle.sq_spec.specs.Works.{entry_arguments}
 use Rattle.sq_work.specs.Work as work
-use Rattle.sq_work.specs.Work.{Work}
 use Rattle.sq_term.specs.Terms.{body_in}
-use Rattle.sq_placed.proofs.Plain.{plain_entry}
+use Rattle.sq_placed.specs.Placed.{plain}
+use Rattle.sq_placed.specs.Tables.{entry_placed}
+use Rattle.sq_placed.specs.SameWorks.{IsSameWork}
+use Rattle.sq_placed.specs.Laws.{PlacedIsWork}
 use Rattle.sq_homes.specs.Drafts.{bodies_of, args_of, extents_by, term_with}
 use Rattle.sq_homes_laws.specs.Programs.{BodiesAreTables, PlacedIsProgram, TermIsEntrys}
 use Rattle.sq_homes_laws.proofs.Standing.{map_length}
@@ -72,18 +74,27 @@ extents_are r law e None h = absurd (some_form r.found.entries r.forms (as_many 
     some_form (x ∷ xs) [] many there none = absurd (omega (arith, many))
     some_form (x ∷ xs) (y ∷ ys) many there none = absurd (cc none)
 
-pub placed_is_program : AsManyForms → EntryIsFirst → PlacedIsProgram
-placed_is_program many first r homes =
-    let e = first r in
-    let params = entry_params r.typed.now.tasks (slice_get r.mapping.now.instances r.mapping.now.entry) in
-    plain_entry (body_in (bodies_of r)) homes (length (bodies_of r)) (args_of r)
-    ∙ ap (λ (list : List (List ℕ)). work.Call 0 false (entry_arguments params 0 list)
-    (numbered_work (body_in (bodies_of r)) (length (bodies_of r)) 0))
-    (extents_are r many e (slice_get r.forms 0) refl)
-    ∙ ap₂ (λ (bodies : ℕ → FormBody) (n : ℕ). work.Call 0 false (entry_arguments params 0 e.extents)
-    (numbered_work bodies n 0))
-    (fun_ext (bodies_are_tables many r)) (count r many)
-    ∙ sym (ap (called_entry r.typed.now.tasks r.mapping.now r.found.entries) e.found)
+pub placed_is_program : PlacedIsWork → AsManyForms → EntryIsFirst → PlacedIsProgram
+placed_is_program law many first r homes stand =
+    subst (IsSameWork (plain (entry_placed (body_in (bodies_of r)) homes (length (bodies_of r)) (args_of r)))) program
+    (law (body_in (bodies_of r)) homes stand (length (bodies_of r)) (args_of r))
+  where
+    e : IsEntry r
+    e = first r
+
+    params : List Param
+    params = entry_params r.typed.now.tasks (slice_get r.mapping.now.instances r.mapping.now.entry)
+
+    program : work.Call 0 false (args_of r) (numbered_work (body_in (bodies_of r)) (length (bodies_of r)) 0)
+        ≡ entry_call r.typed.now.tasks r.mapping.now r.found.entries
+    program =
+        ap (λ (list : List (List ℕ)). work.Call 0 false (entry_arguments params 0 list)
+        (numbered_work (body_in (bodies_of r)) (length (bodies_of r)) 0))
+        (extents_are r many e (slice_get r.forms 0) refl)
+        ∙ ap₂ (λ (bodies : ℕ → FormBody) (n : ℕ). work.Call 0 false (entry_arguments params 0 e.extents)
+        (numbered_work bodies n 0))
+        (fun_ext (bodies_are_tables many r)) (count r many)
+        ∙ sym (ap (called_entry r.typed.now.tasks r.mapping.now r.found.entries) e.found)
 
 pub term_is_entrys : TermIsEntrys
 unfolding term_with

@@ -1,5 +1,5 @@
 -- What the homes and the buffers of a draft are, form by form.
-use Rattle.std.specs.Prelude.{◌≡◌, ℕ, ◌+◌, ◌<◌, List, length, map, slice_get, get_or, Some}
+use Rattle.std.specs.Prelude.{◌≡◌, ℕ, ◌+◌, ◌<◌, List, length, map, slice_get, Some}
 use Rattle.sq_ir.specs.Written.{Setting}
 use Rattle.sq_ir.specs.Plans.{of_buffer}
 use Rattle.sq_spec.specs.declared.body.FormBody.{FormBody}

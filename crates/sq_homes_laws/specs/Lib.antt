@@ -1,3 +1,3 @@
 pub mod Given
-pub mod Simple
+pub mod Choosing
 pub mod Programs

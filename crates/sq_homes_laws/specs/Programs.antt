@@ -8,6 +8,8 @@ use Rattle.sq_spec.specs.Numbered.{entry_call}
 use Rattle.sq_placed.specs.declared.home.Homes.{Homes}
 use Rattle.sq_placed.specs.Placed.{plain}
 use Rattle.sq_placed.specs.Tables.{entry_placed}
+use Rattle.sq_placed.specs.Pipes.{PipesStand}
+use Rattle.sq_placed.specs.SameWorks.{IsSameWork}
 use Rattle.sq_term.specs.Terms.{entry_term, body_in, homes_in}
 use Rattle.sq_homes.specs.Drafts.{bodies_of, args_of, term_with}
 
@@ -16,11 +18,12 @@ abbrev pub BodiesAreTables : Type 0
 BodiesAreTables = (r : Resolved) (k : ℕ)
     → body_in (bodies_of r) k ≡ body_of r.typed.now.tasks r.mapping.now.instances r.found.entries k
 
--- What is placed, its places forgotten, is the call of the entry by the program's tables, wherever arrays stand.
+-- What is placed, its places forgotten, does what the call of the entry by the program's tables does, wherever arrays
+-- stand.
 abbrev pub PlacedIsProgram : Type 0
-PlacedIsProgram = (r : Resolved) (homes : ℕ → Homes)
-    → plain (entry_placed (body_in (bodies_of r)) homes (length (bodies_of r)) (args_of r))
-    ≡ entry_call r.typed.now.tasks r.mapping.now r.found.entries
+PlacedIsProgram = (r : Resolved) (homes : ℕ → Homes) → PipesStand (body_in (bodies_of r)) homes
+    → IsSameWork (plain (entry_placed (body_in (bodies_of r)) homes (length (bodies_of r)) (args_of r)))
+    (entry_call r.typed.now.tasks r.mapping.now r.found.entries)
 
 -- The term of a draft is that of its entry.
 abbrev pub TermIsEntrys : Type 0

@@ -20,17 +20,18 @@ use Rattle.sq_term.specs.Stands as stands
 use Rattle.sq_term.specs.Stands.{Each, none, more}
 use Rattle.sq_homes.specs.declared.choice.Choice.{Choice}
 use Rattle.sq_homes.specs.Drafts.{bodies_of}
-use Rattle.sq_homes_laws.specs.Simple.{Walked}
+use Rattle.sq_homes_laws.specs.Choosing.{Walked}
 use Rattle.sq_homes_laws.proofs.Standing.{map_length}
-use Rattle.sq_needs.specs.Begun.{Begun, calls_of}
+use Rattle.sq_homes.specs.Begun.{Begun, calls_of, child_in}
 use Rattle.sq_needs.specs.Listed.{IsListed}
-use Rattle.sq_needs.specs.Sums.{child_in, greatest, here, worth, table_sum}
+use Rattle.sq_needs.specs.Sums.{greatest, here, worth, table_sum}
 use Rattle.sq_needs.specs.Needed.{KeepInPlace, NeedsAreSums, SumsAreNeeds}
 use Rattle.sq_needs.proofs.Drafts.{sums_are_of_calls}
 use Rattle.sq_needs.proofs.ListedForms.{calls_are_listed}
 use Rattle.sq_needs.proofs.Ends.{end_is}
 use Rattle.sq_needs.proofs.Reach.{memories, s, bodies, homes, sums, Inv}
-use Rattle.sq_needs.proofs.Reach.{inside_of, brings, step, after, stands_there, entry_brings, entry_inv}
+use Rattle.sq_needs.proofs.Reach.{inside_of, brings, step, after, entry_brings, entry_inv}
+use Rattle.sq_needs.proofs.Running.{stands_there}
 use Rattle.sq_needs.proofs.Reach.{sum_is_end}
 
 some_same : {A : Type 0} (x y : A) → Some x ≡ Some y → x ≡ y
@@ -181,8 +182,7 @@ module _ (r : Resolved) (w : Walked r) (limits : WithinLimits r.machine.now) (ch
         by : (v : Bool) → d.lower ≡ v
             → callee_node setting v y (child_in (placing k).rule (setting.children y) d.turn) ≡ child
         by true g = one_child r.mapping.now.instances r.machine.now.nodes f q y _ child
-            (stands_there r w limits choices keep x k y e f call.caller_there runs inv q d listed.is call.index
-            call.among) at
+            (stands_there r w limits choices k y f call.caller_there runs q d listed.is call.index call.among) at
         by false g =
             let a : listed.is.to.level ≡ f.level = listed.is.level ∙ ap (λ (v : Bool). stands.below v f.level) g in
             let b = ap (λ (h : Form). h.level) to_same in
@@ -222,10 +222,10 @@ pub needs_are_sums : NeedsAreSums
 needs_are_sums r w limits choices keep d is node need h =
     need_is_one r.typed.now.tasks r.mapping.now.instances r.machine.now.nodes r.forms node need
     (table_sum r choices (memories r w limits choices keep node) node) h (whole_is_need r w limits choices keep node)
-    ∙ sym (sums_are_of_calls r w choices keep.hoisted d is (memories r w limits choices keep node) node)
+    ∙ sym (sums_are_of_calls r w choices keep.hoisted keep.none d is (memories r w limits choices keep node) node)
 
 pub sums_are_needs : SumsAreNeeds
 sums_are_needs r w limits choices keep d is node =
     subst (λ (n : ℕ). Needs r.typed.now.tasks r.mapping.now.instances r.machine.now.nodes r.forms node n)
-    (sym (sums_are_of_calls r w choices keep.hoisted d is (memories r w limits choices keep node) node))
+    (sym (sums_are_of_calls r w choices keep.hoisted keep.none d is (memories r w limits choices keep node) node))
     (whole_is_need r w limits choices keep node)

@@ -10,10 +10,10 @@ use Rattle.sq_nests.specs.Stacks.{total}
 use Rattle.sq_placed.specs.declared.home.Home.{Home}
 use Rattle.sq_placed.specs.declared.home.Home.TheVariants.{InPlace, Own, Held, Twin}
 use Rattle.sq_placed.specs.Tables.{leaves_loop, leaving_args}
-use Rattle.sq_placed.specs.Trees.{buffer_of, held_of}
-use Rattle.sq_term.specs.Terms.{buffers_from, leaving_buffers}
+use Rattle.sq_placed.specs.Trees.{buffer_of, held_of, twin_of}
+use Rattle.sq_term.specs.Terms.{buffers_from, set_buffers_from, leaving_buffers}
 use Rattle.sq_term_fit.specs.Leaves.{loops_left}
-use Rattle.sq_needs.specs.Sums.{either_buffer, params_from}
+use Rattle.sq_needs.specs.Loops.{standing, standing_from}
 
 same_number : (m n : ℕ) → (m == n) ≡ true → m ≡ n
 same_number m n h = grind (arith, nat_tests, h)
@@ -130,7 +130,7 @@ module _ (s : Setting) where
 
   -- and the others just round the call
   pub over_none : (hs : List Home) → LeaveSome hs → (i : ℕ) (args : List Argument)
-      → over 0 hs i (length args) + total s.size (buffers_from hs i args) ≡ total s.size (params_from hs i args)
+      → over 0 hs i (length args) + total s.size (buffers_from hs i args) ≡ total s.size (standing_from false hs i args)
   over_none hs some i [] = refl
   over_none hs some i (a ∷ args) = by (get_or hs i InPlace) refl (over_none hs some (suc i) args)
     where
@@ -138,13 +138,42 @@ module _ (s : Setting) where
       rest = over 0 hs (suc i) (length args)
 
       by : (h : Home) → get_or hs i InPlace ≡ h
-          → rest + total s.size (buffers_from hs (suc i) args) ≡ total s.size (params_from hs (suc i) args)
+          → rest + total s.size (buffers_from hs (suc i) args) ≡ total s.size (standing_from false hs (suc i) args)
           → over_of 0 h + rest + total s.size (buffer_of h (buffers_from hs (suc i) args))
-          ≡ total s.size (either_buffer h (params_from hs (suc i) args))
+          ≡ total s.size (standing false h (standing_from false hs (suc i) args))
       by InPlace e h = omega (arith, h)
       by (Own b) e h = omega (arith, h)
       by (Held b m) e h =
           ap (λ (t : Bool). (if t then s.size b else 0) + rest + total s.size (buffers_from hs (suc i) args))
+          (is_less 0 m (some i b m e))
+          ∙ omega (arith, h)
+      by (Twin b c) e h = omega (arith, h)
+
+  -- or in the two sets, round a loop that overlaps its transfers
+  pub over_sets : (hs : List Home) → LeaveSome hs → (i : ℕ) (args : List Argument)
+      → over 0 hs i (length args)
+      + (total s.size (set_buffers_from 0 hs i args) + total s.size (set_buffers_from 1 hs i args))
+      ≡ total s.size (standing_from true hs i args)
+  over_sets hs some i [] = refl
+  over_sets hs some i (a ∷ args) = by (get_or hs i InPlace) refl (over_sets hs some (suc i) args)
+    where
+      rest : ℕ
+      rest = over 0 hs (suc i) (length args)
+
+      one : List ℕ
+      one = set_buffers_from 0 hs (suc i) args
+
+      two : List ℕ
+      two = set_buffers_from 1 hs (suc i) args
+
+      by : (h : Home) → get_or hs i InPlace ≡ h
+          → rest + (total s.size one + total s.size two) ≡ total s.size (standing_from true hs (suc i) args)
+          → over_of 0 h + rest + (total s.size (twin_of 0 h one) + total s.size (twin_of 1 h two))
+          ≡ total s.size (standing true h (standing_from true hs (suc i) args))
+      by InPlace e h = omega (arith, h)
+      by (Own b) e h = omega (arith, h)
+      by (Held b m) e h =
+          ap (λ (t : Bool). (if t then s.size b else 0) + rest + (total s.size one + total s.size two))
           (is_less 0 m (some i b m e))
           ∙ omega (arith, h)
       by (Twin b c) e h = omega (arith, h)

@@ -9,7 +9,7 @@ use Rattle.sq_term.specs.Terms.{body_in}
 use Rattle.sq_term.specs.Stands.{Each}
 use Rattle.sq_homes.specs.Drafts.{bodies_of}
 use Rattle.sq_homes_fit.proofs.Found.{found_plain}
-use Rattle.sq_needs.specs.Begun.{calls_of}
+use Rattle.sq_homes.specs.Begun.{calls_of}
 use Rattle.sq_needs.specs.Listed.{IsListed, CallsAreListed}
 use Rattle.sq_needs.proofs.Near.{walk, runs_at}
 use Rattle.sq_needs.proofs.Listing.{form_listed}

@@ -26,9 +26,9 @@ use Rattle.sq_term.specs.Terms.{body_in}
 use Rattle.sq_term.specs.Stands.{Each, below}
 use Rattle.sq_term.specs.Stands as stands
 use Rattle.sq_homes.specs.Drafts.{bodies_of}
-use Rattle.sq_homes_laws.specs.Simple.{Walked}
+use Rattle.sq_homes_laws.specs.Choosing.{Walked}
 use Rattle.sq_homes_laws.proofs.Programs.{bodies_are_tables}
-use Rattle.sq_needs.specs.Begun.{Begun, calls_of}
+use Rattle.sq_homes.specs.Begun.{Begun, calls_of}
 use Rattle.sq_needs.specs.Listed.{IsListed}
 use Rattle.sq_needs.proofs.Linked.{One, Ones, instance_in, none, more, list_linked}
 use Rattle.sq_needs.proofs.Near.{walk, runs_at, near_calls}

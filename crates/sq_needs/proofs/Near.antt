@@ -15,7 +15,7 @@ use Rattle.sq_form_laws.proofs.EachCall.{AllIn}
 use Rattle.sq_form_laws.proofs.FitHold.{forms_run}
 use Rattle.sq_form_laws.proofs.ServedHold.{calls_are_served}
 use Rattle.sq_spec.specs.declared.resolved.Resolved.{Resolved}
-use Rattle.sq_homes_laws.specs.Simple.{Walked}
+use Rattle.sq_homes_laws.specs.Choosing.{Walked}
 use Rattle.sq_needs.proofs.Linked.{IsNear}
 
 some_same : {A : Type 0} (x y : A) → Some x ≡ Some y → x ≡ y

@@ -1,12 +1,10 @@
 -- Where a form runs, and what stands at a node before it: one call more.
 use Rattle.std.proofs.Common.{◌≡◌, ℕ, zero, suc, ◌+◌, ◌<◌, ◌==◌, ◌⊎◌, inl, inr, max, Bool, true, false, List, [], ◌∷◌}
-use Rattle.std.proofs.Common.{◌++◌, map, length, slice_get, Option, Some, None, refl, sym, ap, ap₂, subst, ◌∙◌, arith}
+use Rattle.std.proofs.Common.{◌++◌, map, length, slice_get, Some, refl, sym, ap, subst, ◌∙◌, arith}
 use Rattle.std.proofs.Common.{if◌then◌else◌}
 use Rattle.std.specs.Prelude.{nat_le}
-use Rattle.std.proofs.lemmas.Option.{get_or_from_slice_get}
 use Rattle.std.proofs.lemmas.Bool.{leb-true, leb-false}
 use Rattle.std.proofs.lemmas.Bool.Decides.{nat_tests}
-use Rattle.sq_text.specs.declared.spread.SpreadRule.{SpreadRule}
 use Rattle.sq_ast.specs.declared.program.Variant.{Variant}
 use Rattle.sq_mapfile.specs.declared.mapping.Instance.{Instance}
 use Rattle.sq_machfile.specs.declared.node.Node.{Node}
@@ -18,34 +16,31 @@ use Rattle.sq_forms.specs.declared.form.Form.{Form}
 use Rattle.sq_forms.specs.declared.form.Found.{Found}
 use Rattle.sq_forms.specs.Steps.{Key}
 use Rattle.sq_forms.specs.Resolving.{with_locals, none_in_place}
-use Rattle.sq_form_laws.proofs.AnswerHold.{forms_are_found, forms_callers_first}
+use Rattle.sq_form_laws.proofs.AnswerHold.{forms_are_found}
 use Rattle.sq_spec.specs.declared.body.FormBody.{FormBody}
 use Rattle.sq_spec.specs.declared.resolved.Resolved.{Resolved}
-use Rattle.sq_spec.proofs.Rows.{get_or_map}
-use Rattle.sq_spec_laws.specs.Needs.{Turn, Reached, reached_from, own_size, IsCall, child_for, StandsAt, RunsAt, entry, beside}
-use Rattle.sq_spec_laws.specs.Needs.{below, EndsAt, AtLevel}
-use Rattle.sq_spec_laws.proofs.LevelsHold.{forms_run_at_their_level}
+use Rattle.sq_spec_laws.specs.Needs.{Reached, reached_from, own_size, IsCall, StandsAt, RunsAt, entry, beside}
+use Rattle.sq_spec_laws.specs.Needs.{below, EndsAt}
 use Rattle.sq_nests.specs.Stacks.{total}
 use Rattle.sq_placed.specs.declared.home.Homes.{Homes}
 use Rattle.sq_placed.specs.Trees.{callee_node, local_buffers}
 use Rattle.sq_placed.specs.Tables.{locals_of}
 use Rattle.sq_term.specs.Stands as stands
 use Rattle.sq_term.specs.Stands.{Each, none, more}
-use Rattle.sq_term.specs.Terms.{body_in, homes_in, no_homes}
+use Rattle.sq_term.specs.Terms.{body_in, homes_in}
 use Rattle.sq_homes.specs.declared.choice.Choice.{Choice}
-use Rattle.sq_homes.specs.Numbering.{form_homes}
-use Rattle.sq_homes.specs.Drafts.{bodies_of, homes_of, entry_of, choice_in, instance_at, instance_by, rule_by}
-use Rattle.sq_homes_laws.specs.Simple.{Walked, setting_of}
-use Rattle.sq_homes_fit.proofs.Forms.{body_at, body_there, run_of, resolving}
-use Rattle.sq_homes_fit.proofs.Numbers.{first_of, form_is_at}
+use Rattle.sq_homes.specs.Drafts.{bodies_of, homes_of, entry_of}
+use Rattle.sq_homes_laws.specs.Choosing.{Walked, setting_of}
+use Rattle.sq_homes_fit.proofs.Forms.{run_of, resolving}
 use Rattle.sq_homes_fit.proofs.Entry as first
 use Rattle.sq_draft_laws.specs.Memories.{plan_node}
-use Rattle.sq_needs.specs.Begun.{Begun, calls_of}
+use Rattle.sq_homes.specs.Begun.{Begun, calls_of, child_in}
 use Rattle.sq_needs.specs.Listed.{IsListed}
 use Rattle.sq_needs.specs.Needed.{KeepInPlace}
-use Rattle.sq_needs.specs.Sums.{child_in, greatest, brought, here, callee_at, worth, sum_of, table_sum}
+use Rattle.sq_needs.specs.Sums.{greatest, brought, here, callee_at, worth, sum_of, table_sum}
 use Rattle.sq_needs.proofs.ListedForms.{calls_are_listed}
 use Rattle.sq_needs.proofs.Sizes.{brought_size, entry_size}
+use Rattle.sq_needs.proofs.Running.{level_is, call, later, stands_there}
 use Rattle.sq_needs.proofs.Ends.{EndIs, entry_end, some_end, call_end}
 
 some_same : {A : Type 0} (x y : A) → Some x ≡ Some y → x ≡ y
@@ -86,10 +81,6 @@ greater m n = by (nat_le n m) refl
     by : (v : Bool) → nat_le n m ≡ v → (max m n ≡ m) ⊎ (max m n ≡ n)
     by true e = inl (let z = leb-true n m e in omega (arith, z))
     by false e = inr (let z = leb-false n m e in omega (arith, z))
-
-child_same : (rule : SpreadRule) (n : Node) (t : Option Turn) → child_in rule n.children t ≡ child_for rule n t
-child_same rule n None = refl
-child_same rule n (Some u) = refl
 
 none_placed : (extents : List (List ℕ)) (i : ℕ) (b : Bool)
     → slice_get (none_in_place extents) i ≡ Some b → b ≡ false
@@ -132,30 +123,6 @@ module _ (r : Resolved) (w : Walked r) (limits : WithinLimits r.machine.now) (ch
   abbrev pub sums : ℕ → ℕ → ℕ → ℕ
   sums = sum_of s bodies homes x
 
-  -- ---- levels, rules
-
-  at_level : (k y : ℕ) → Runs k y → AtLevel nodes r.forms k y
-  at_level k y h = forms_run_at_their_level r.typed.now r.machine.now r.mapping.now (resolving r) limits w.read w.through k y h
-
-  node_is : (y : ℕ) (n : Node) → slice_get nodes y ≡ Some n → node_at memories y ≡ plan_node n
-  node_is y n h = get_or_map plan_node nodes y n _ h
-
-  level_is : (k y : ℕ) (f : Form) → slice_get r.forms k ≡ Some f → Runs k y → level y ≡ f.level
-  level_is k y f there h =
-      let at = at_level k y h in
-      ap (λ (n : PlanNode). n.level) (node_is y at.own at.own_there) ∙ at.level
-      ∙ ap (λ (g : Form). g.level) (some_same at.form f (sym at.form_there ∙ there))
-
-  rule_is : (k : ℕ) (f : Form) (i : Instance) → slice_get r.forms k ≡ Some f → slice_get instances f.instance ≡ Some i
-      → (homes k).rule ≡ i.spread
-  rule_is k f i there at =
-      let e = forms_are_found tasks r.mapping.now (resolving r) w.through k f there in
-      let d = form_is_at r choices k (body_at r k) (body_there r w k e.found e.there) in
-      let rule = rule_by (instance_at r k) in
-      let own = form_homes (first_of r choices k) rule d.code (body_at r k) (choice_in choices k) in
-      ap (λ (h : Homes). h.rule) (get_or_from_slice_get (homes_of r choices) k own no_homes d.homes)
-      ∙ ap (λ (o : Option Form). rule_by (instance_by instances o)) there ∙ ap rule_by at
-
   -- ---- sizes
 
   size_is : (k : ℕ) (f : Form) (d : Begun) → slice_get r.forms k ≡ Some f → d.row.form ≡ k
@@ -187,26 +154,18 @@ module _ (r : Resolved) (w : Walked r) (limits : WithinLimits r.machine.now) (ch
   module _ (k y e : ℕ) (f : Form) (there : slice_get r.forms k ≡ Some f) (runs : Runs k y) (inv : Inv k y e)
       (q : Reached) (d : Begun) (li : IsListed r.forms k f q d) (index : ℕ)
       (among : slice_get (reached_from tasks instances k f) index ≡ Some q) where
-    call : IsCall tasks instances r.forms k d.row.form f li.to q
-    call = record {
-      caller_there = there;
-      callee_there = li.there;
-      index = index;
-      among = among;
-      from_call = li.caller;
-      extents = li.extents;
-      in_place = li.in_place;
-    }
+    called : IsCall tasks instances r.forms k d.row.form f li.to q
+    called = call r w limits choices k y f there runs q d li index among
 
-    later : k < d.row.form
-    later = forms_callers_first tasks r.mapping.now (resolving r) w.through d.row.form li.to _ li.there li.caller
+    after_it : k < d.row.form
+    after_it = later r w limits choices k y f there runs q d li index among
 
     size : brings d ≡ own_size tasks instances li.to
     size = size_is d.row.form li.to d li.there refl (li.many ∙ sym (ap length li.in_place))
 
     same_step : li.to.level ≡ f.level → Step d.row.form y e (brings d)
     same_step lv = record {
-      runs = beside f li.to q call lv runs;
+      runs = beside f li.to q called lv runs;
       inv = record {
         at = λ p.
             let a = if_is f.level li.to.level e (sym lv) in
@@ -214,7 +173,7 @@ module _ (r : Resolved) (w : Walked r) (limits : WithinLimits r.machine.now) (ch
             let c = size in
             let sum : (if f.level == li.to.level then e else 0) + own_size tasks instances li.to
             ≡ e + here y x (brings d) = omega (arith, a, b, c) in
-            subst (Ends d.row.form) sum (call_end tasks instances r.forms k d.row.form e q.call f li.to li.there li.caller later there (inv.at p));
+            subst (Ends d.row.form) sum (call_end tasks instances r.forms k d.row.form e q.call f li.to li.there li.caller after_it there (inv.at p));
         off = λ np. past (inv.off np) (if_not y x (brings d) np);
       };
     }
@@ -226,26 +185,8 @@ module _ (r : Resolved) (w : Walked r) (limits : WithinLimits r.machine.now) (ch
     abbrev pub child : ℕ
     child = s.child y (child_in (homes k).rule (s.children y) d.turn)
 
-    pub stands_there : StandsAt instances nodes f q y child
-    stands_there =
-        let found = forms_are_found tasks r.mapping.now (resolving r) w.through k f there in
-        let run = run_of r w k found.found found.there in
-        let same : with_locals found.found.1 run.ran.scope.locals ≡ f = some_same _ f (sym run.ran.kept ∙ there) in
-        let at = at_level k y runs in
-        let i = run.fits.instance in
-        let i_there : slice_get instances f.instance ≡ Some i =
-        ap (λ (g : Form). slice_get instances g.instance) (sym same) ∙ run.fits.there in
-        let n = node_is y at.own at.own_there in
-        record {
-          instance = i;
-          runs = i_there;
-          parent = at.own;
-          there = at.own_there;
-          is = ap (λ (z : PlanNode). z.first_child + child_in (homes k).rule z.children d.turn) n
-              ∙ ap₂ (λ (rule : SpreadRule) (t : Option Turn). at.own.first_child + child_in rule at.own.children t)
-              (rule_is k f i there i_there) li.round
-              ∙ ap (λ (c : ℕ). at.own.first_child + c) (child_same i.spread at.own q.turn);
-        }
+    goes_there : StandsAt instances nodes f q y child
+    goes_there = stands_there r w limits choices k y f there runs q d li index among
 
     lower_step : li.to.level ≡ suc f.level → Step d.row.form child e (brings d)
     lower_step lv = record {
@@ -257,11 +198,11 @@ module _ (r : Resolved) (w : Walked r) (limits : WithinLimits r.machine.now) (ch
     }
       where
         runs_below : Runs d.row.form child
-        runs_below = below f li.to q call lv runs stands_there
+        runs_below = below f li.to q called lv runs goes_there
 
         deeper : level child ≡ suc (level y)
-        deeper = level_is d.row.form child li.to li.there runs_below ∙ lv
-            ∙ ap suc (sym (level_is k y f there runs))
+        deeper = level_is r w limits choices d.row.form child li.to li.there runs_below ∙ lv
+            ∙ ap suc (sym (level_is r w limits choices k y f there runs))
 
         none_before : child ≡ x → (e ≡ 0) ⊎ (level x < level y) → e ≡ 0
         none_before p (inl z) = z
@@ -278,7 +219,7 @@ module _ (r : Resolved) (w : Walked r) (limits : WithinLimits r.machine.now) (ch
             let sum : (if f.level == li.to.level then before.0 else 0) + own_size tasks instances li.to
             ≡ e + here child x (brings d) = omega (arith, a, b, c, z) in
             subst (Ends d.row.form) sum
-            (call_end tasks instances r.forms k d.row.form before.0 q.call f li.to li.there li.caller later there before.1)
+            (call_end tasks instances r.forms k d.row.form before.0 q.call f li.to li.there li.caller after_it there before.1)
 
         kept : here child x (brings d) ≡ 0 → (e ≡ 0) ⊎ (level x < level y)
             → (e + here child x (brings d) ≡ 0) ⊎ (level x < level child)
@@ -299,7 +240,7 @@ module _ (r : Resolved) (w : Walked r) (limits : WithinLimits r.machine.now) (ch
         by true g = lower_step (li.level ∙ ap (λ (v : Bool). stands.below v f.level) g)
 
     pub after : k < d.row.form
-    after = later
+    after = after_it
 
   -- ---- the sum is an end
 

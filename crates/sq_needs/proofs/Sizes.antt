@@ -34,13 +34,13 @@ use Rattle.sq_plan_room.specs.Buffers.{home_buffer}
 use Rattle.sq_homes.specs.declared.choice.Choice.{Choice}
 use Rattle.sq_homes.specs.Numbering.{left_by, standing, shape_size, home_of, local_base, locals_count}
 use Rattle.sq_homes.specs.Drafts.{bodies_of, homes_of, buffers_of, buffer_at, choice_in, entry_of}
-use Rattle.sq_homes_laws.specs.Simple.{Walked, setting_of}
+use Rattle.sq_homes_laws.specs.Choosing.{Walked, setting_of}
 use Rattle.sq_homes_fit.proofs.Entry.{entries_have_buffers}
 use Rattle.sq_homes_fit.proofs.Forms.{body_at, body_there, resolving, run_of}
 use Rattle.sq_homes_fit.proofs.Found.{found_plain}
 use Rattle.sq_homes_fit.proofs.Hoisted.{IsForm, is_form, params_many, param_is, param_or}
 use Rattle.sq_homes_fit.proofs.Numbers.{first_of}
-use Rattle.sq_homes_fit.proofs.Places.{HomeIs, stays, owns, leaves, home_by, StandsAt, param_stands, local_stands}
+use Rattle.sq_homes_fit.proofs.Places.{HomeIs, stays, owns, owns_two, leaves, home_by, StandsAt, param_stands, local_stands}
 use Rattle.sq_forms_fit.proofs.RowsHold.{arrays_are}
 use Rattle.sq_forms_fit.proofs.Shapes.{param_shape}
 use Rattle.sq_needs.specs.Needed.{KeepInPlace}
@@ -179,7 +179,7 @@ module _ (r : Resolved) (w : Walked r) (choices : List Choice) (keep : KeepInPla
     moved = form.chosen.moved
 
     abbrev overlaps : c.overlaps ≡ false
-    overlaps = form.chosen.overlaps
+    overlaps = keep.none k
 
     flags_are : c.in_place ≡ f.1.in_place
     flags_are = keep.in_place k own run.ran.kept
@@ -199,7 +199,7 @@ module _ (r : Resolved) (w : Walked r) (choices : List Choice) (keep : KeepInPla
         there run
 
     -- the size of the buffer of an array that stands there
-    size_at : (i n : ℕ) (x : Shape) → StandsAt c moved overlaps b first i n → slice_get b.arrays i ≡ Some x
+    size_at : (i n : ℕ) (x : Shape) → StandsAt c moved b first i n → slice_get b.arrays i ≡ Some x
         → set.size n ≡ shape_size x
     size_at i n x at is =
         let less = within (standing b c) at.place i at.stands in
@@ -214,7 +214,7 @@ module _ (r : Resolved) (w : Walked r) (choices : List Choice) (keep : KeepInPla
         → set.size n ≡ size_of p.elem e
     param_size i n p e less is at dims =
         let to = param_shape run.fits.variant f.1 run.ran.scope i p e at dims in
-        size_at i n to.to (param_stands c moved overlaps b first i n less is)
+        size_at i n to.to (param_stands c moved b first i n less is)
         (ap (λ (l : List Shape). slice_get l i) shapes_are ∙ to.there)
         ∙ ap₂ size_of to.elem to.extents
 
@@ -228,7 +228,7 @@ module _ (r : Resolved) (w : Walked r) (choices : List Choice) (keep : KeepInPla
     param_sum : (i : ℕ) (v : Bool) (p : Param) (e : List ℕ) → slice_get c.in_place i ≡ Some v
         → slice_get its i ≡ Some p → slice_get f.1.extents i ≡ Some e → (ms : List ℕ)
         → total set.size (either_buffer (home_of first c i) ms) ≡ size_if v p e + total set.size ms
-    param_sum i v p e flag at dims ms = by (home_by c moved overlaps first i) refl
+    param_sum i v p e flag at dims ms = by (home_by c moved first i) refl
       where
         less : i < length c.in_place
         less = within c.in_place i v flag
@@ -236,15 +236,16 @@ module _ (r : Resolved) (w : Walked r) (choices : List Choice) (keep : KeepInPla
         is : get_or c.in_place i false ≡ v
         is = get_or_from_slice_get c.in_place i v false flag
 
-        by : {h : Home} → HomeIs c moved overlaps first i h → home_of first c i ≡ h
+        by : {h : Home} → HomeIs c moved first i h → home_of first c i ≡ h
             → total set.size (either_buffer h ms) ≡ size_if v p e + total set.size ms
         by (stays g l) h =
             let none : size_if v p e ≡ 0 = ap (λ (t : Bool). size_if t p e) (sym is ∙ g) in
             omega (arith, none)
-        by (owns g l) h =
+        by (owns g l o) h =
             let own : size_if v p e ≡ size_of p.elem e = ap (λ (t : Bool). size_if t p e) (sym is ∙ g) in
             let size = param_size i _ p e less (ap home_buffer h) at dims in
             omega (arith, own, size)
+        by (owns_two g l o) h = let no : true ≡ false = sym o ∙ overlaps in absurd (cc no)
         by (leaves n g l) h =
             let own : size_if v p e ≡ size_of p.elem e = ap (λ (t : Bool). size_if t p e) (sym is ∙ g) in
             let size = param_size i _ p e less (ap home_buffer h) at dims in
@@ -269,7 +270,7 @@ module _ (r : Resolved) (w : Walked r) (choices : List Choice) (keep : KeepInPla
         let less = within locals j l e in
         let more = many in
         size_at (length c.in_place + j) (local_base first c + j) (record { elem = l.elem; extents = l.extents })
-        (local_stands c moved overlaps b first j (omega (arith, less, more)))
+        (local_stands c moved b first j (omega (arith, less, more)))
         (ap (λ (xs : List Shape). slice_get xs (length c.in_place + j)) shapes_are
         ∙ ap (λ (n : ℕ). slice_get (shapes_of run.fits.variant f.1 run.ran.scope) (n + j)) (sym fronts)
         ∙ behind_at (param_shapes its 0 f.1.extents) (local_shapes locals) j

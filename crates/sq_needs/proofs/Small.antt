@@ -26,7 +26,7 @@ use Rattle.sq_spec.specs.declared.resolved.Resolved.{Resolved}
 use Rattle.sq_spec.specs.Works.{param_shapes, local_shapes, shapes_of}
 use Rattle.sq_spec_laws.specs.Needs.{rounded, size_of, params_size, locals_size, variant_for, form_params, own_size}
 use Rattle.sq_spec_laws.specs.Needs.{Ended, end_at, callers_end, end_of, ends_from, ends, EndsAt}
-use Rattle.sq_homes_laws.specs.Simple.{Walked}
+use Rattle.sq_homes_laws.specs.Choosing.{Walked}
 use Rattle.sq_homes_fit.proofs.Forms.{resolving, run_of}
 use Rattle.sq_forms_fit.specs.Sizes.{IsSized}
 use Rattle.sq_forms_fit.proofs.RowsHold.{arrays_are}

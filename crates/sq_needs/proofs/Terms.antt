@@ -1,4 +1,4 @@
--- The greatest sum of a form's term, written out, is that of the calls of its tables.
+-- The greatest sum of a form's term, written out, is that of what its tables begin.
 use Rattle.std.proofs.Common.{◌≡◌, ℕ, zero, suc, ◌+◌, ◌*◌, ◌==◌, max, pos, Bool, true, false, List, []}
 use Rattle.std.proofs.Common.{◌∷◌, ◌++◌, map, get_or, slice_get, Option, Some, None, refl, sym, ap, ap₂, subst, ◌∙◌, arith}
 use Rattle.std.proofs.Common.{if◌then◌else◌, ◌<◌, ◌≤◌, ◌⊎◌, inl, inr, ℤ}
@@ -51,13 +51,14 @@ use Rattle.sq_term.specs.Stands.{Each, none, more, IsNumber}
 use Rattle.sq_term.proofs.Numbers.{const_is, index_is, mul_is, div_is, rem_is, children_is, table_is}
 use Rattle.sq_term.proofs.Numbers.{lifted_is, constant, turn, sum, picked}
 use Rattle.sq_term.proofs.Arms.{IsHead, arm_of_row, pick_of, picks_are}
-use Rattle.sq_needs.specs.Begun as begun
-use Rattle.sq_needs.specs.Begun.{Begun, BegunPart, calls_in, row_begun, is_spread, begun_step, calls_of}
-use Rattle.sq_needs.specs.Sums.{child_in, greatest, here}
+use Rattle.sq_homes.specs.Begun as begun
+use Rattle.sq_homes.specs.Begun.{BegunPart, begun_step, child_in}
+use Rattle.sq_needs.specs.Sums.{greatest, here}
+use Rattle.sq_needs.specs.Loops.{StartsPart, starts_step, starts_by}
 
 -- ---- numbers
 
-number_itself : (m : ℕ) → (m == m) ≡ true
+pub number_itself : (m : ℕ) → (m == m) ≡ true
 number_itself m = grind (arith, nat_tests)
 
 pub greatest_both : {A : Type 0} (f : A → ℕ) (xs ys : List A) → greatest f (xs ++ ys) ≡ max (greatest f xs) (greatest f ys)
@@ -83,6 +84,17 @@ pub begun_map : (place : Place) (m : LoopKind) (counts starts : List ℕ) (list 
     ≡ begun_step (Statement-F.Map place m counts starts (map begun.begun list))
 begun_map place m counts starts list = ap begun.begun (sym (b.rolls-Map place m counts starts list))
     ∙ fold-roll-Statement BegunPart begun_step (Statement-F.Map place m counts starts list)
+
+pub starts_call : (homes : ℕ → Homes) (lower : Bool) (instances : List CallInstance)
+    → starts_by homes (b.Call lower instances) ≡ starts_step homes (Statement-F.Call lower instances)
+starts_call homes lower instances = ap (starts_by homes) (sym (b.rolls-Call lower instances))
+    ∙ fold-roll-Statement StartsPart (starts_step homes) (Statement-F.Call lower instances)
+
+pub starts_map : (homes : ℕ → Homes) (place : Place) (m : LoopKind) (counts starts : List ℕ) (list : List Statement)
+    → starts_by homes (b.Map place m counts starts list)
+    ≡ starts_step homes (Statement-F.Map place m counts starts (map (starts_by homes) list))
+starts_map homes place m counts starts list = ap (starts_by homes) (sym (b.rolls-Map place m counts starts list))
+    ∙ fold-roll-Statement StartsPart (starts_step homes) (Statement-F.Map place m counts starts list)
 
 -- ---- where a statement is begun
 
@@ -146,7 +158,7 @@ pub record GoesTo (s : Setting) (env : Env) (to k : ℕ) (c : Context) : Type 0 
   pub ordinal : IsNumber s env.turns c.ordinal k
   pub node_is : node_of (inside_of s env c.child) ≡ to
 
-turns_stay : (s : Setting) (env : Env) (o : Option Num) → env.turns ≡ (inside_of s env o).turns
+pub turns_stay : (s : Setting) (env : Env) (o : Option Num) → env.turns ≡ (inside_of s env o).turns
 turns_stay s env None = refl
 turns_stay s env (Some q) = refl
 
@@ -225,10 +237,10 @@ module _ (s : Setting) (x : ℕ) where
 
   -- ---- what serves arguments has no scope
 
-  abbrev Quiet : Term → Type 0
+  abbrev pub Quiet : Term → Type 0
   Quiet y = (env : Env) → of_term y env ≡ 0
 
-  skip_quiet : Quiet term.Skip
+  pub skip_quiet : Quiet term.Skip
   skip_quiet env = ap (λ (f : ScopesAt). of_scopes (f env)) (scopes_skip s)
 
   act_quiet : (a : Action) → Quiet (term.Act a)
@@ -238,11 +250,11 @@ module _ (s : Setting) (x : ℕ) where
   rows_quiet extents a env = ap (λ (f : ScopesAt). of_scopes (f env)) (scopes_loop s _ (term.Act a))
       ∙ each_none _ _ 0 (λ t. act_quiet a (at_turn env t))
 
-  if_quiet : (v : Bool) (y : Term) → Quiet y → Quiet (if v then y else term.Skip)
+  pub if_quiet : (v : Bool) (y : Term) → Quiet y → Quiet (if v then y else term.Skip)
   if_quiet true y h = h
   if_quiet false y h = skip_quiet
 
-  bring_quiet : (m : Move) → Quiet (bring_term m)
+  pub bring_quiet : (m : Move) → Quiet (bring_term m)
   bring_quiet m = by m.gathers m.mode
     where
       by : (o : Option RedOp) (k : Mode) → Quiet (bring_term_by o k m)
@@ -251,7 +263,7 @@ module _ (s : Setting) (x : ℕ) where
       by None Output = rows_quiet _ _
       by None Both = if_quiet (is_moved m.home) (copy_in_term m) (rows_quiet _ _)
 
-  back_quiet : (m : Move) → Quiet (back_term m)
+  pub back_quiet : (m : Move) → Quiet (back_term m)
   back_quiet m = by m.gathers m.mode
     where
       by : (o : Option RedOp) (k : Mode) → Quiet (back_term_by o k m)
@@ -281,7 +293,7 @@ module _ (s : Setting) (x : ℕ) where
   all_quiet f h [] env = refl
   all_quiet f h (y ∷ ys) env = ap₂ max (h y env) (all_quiet f h ys env)
 
-  par_quiet : {A : Type 0} (f : A → Term) → ((y : A) → Quiet (f y)) → (ys : List A) → Quiet (term.Par (map f ys))
+  pub par_quiet : {A : Type 0} (f : A → Term) → ((y : A) → Quiet (f y)) → (ys : List A) → Quiet (term.Par (map f ys))
   par_quiet f h ys env = ap (λ (g : ScopesAt). of_scopes (g env)) (scopes_par s (map f ys)) ∙ all_quiet f h ys env
 
   -- ---- a scope round a part
@@ -292,7 +304,7 @@ module _ (s : Setting) (x : ℕ) where
   within_sum child bs y env = ap (λ (f : ScopesAt). of_scopes (f env)) (scopes_within s child bs y)
       ∙ ap (λ (k : ℕ). k + of_term y (inside_of s env child)) (weighs_here (node_of (inside_of s env child)) bs)
 
-  callee_sum : (ks : List PlacedLocal) (y : Term) (env : Env)
+  pub callee_sum : (ks : List PlacedLocal) (y : Term) (env : Env)
       → of_term (callee_term ks y) env ≡ here (node_of env) x (total s.size (local_buffers ks)) + of_term y env
   callee_sum ks y env =
       within_sum None (local_buffers ks) _ env

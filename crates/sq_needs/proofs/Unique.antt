@@ -26,8 +26,8 @@ use Rattle.sq_spec.specs.declared.resolved.Resolved.{Resolved}
 use Rattle.sq_spec.specs.Statements.{elems_of}
 use Rattle.sq_spec.proofs.Rows.{get_front}
 use Rattle.sq_spec_laws.specs.Needs.{Reached, frame_at}
-use Rattle.sq_homes_laws.specs.Simple.{Walked}
-use Rattle.sq_needs.specs.Begun.{Begun}
+use Rattle.sq_homes_laws.specs.Choosing.{Walked}
+use Rattle.sq_homes.specs.Begun.{Begun}
 use Rattle.sq_needs.proofs.Linked.{One, Ones, none as none_left, more as one_left, instance_in, list_linked}
 use Rattle.sq_needs.proofs.Near.{walk, near_calls}
 

@@ -1,4 +1,5 @@
-pub mod Begun
 pub mod Sums
 pub mod Listed
 pub mod Needed
+pub mod Loops
+pub mod Room

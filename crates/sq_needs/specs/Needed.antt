@@ -8,13 +8,14 @@ use Rattle.sq_spec_laws.specs.Needs.{Needs}
 use Rattle.sq_nests.specs.Drafts.{nested_sum}
 use Rattle.sq_homes.specs.declared.choice.Choice.{Choice}
 use Rattle.sq_homes.specs.Drafts.{IsDraftOf, choice_in}
-use Rattle.sq_homes_laws.specs.Simple.{Walked, AreHoisted}
+use Rattle.sq_homes_laws.specs.Choosing.{Walked, MayBeChosen, NoneOverlaps}
 use Rattle.sq_draft_laws.specs.Memories.{plan_node}
 
--- Choices in which arguments may leave loops, and just those stand in place that the forms were found with so. What
--- leaves loops needs no more room.
+-- Choices in which arguments may leave loops, no loop overlaps its transfers, and just those arguments stand in place
+-- that the forms were found with so. What leaves loops needs no more room.
 pub record KeepInPlace (r : Resolved) (choices : List Choice) : Type 0 where
-  pub hoisted : AreHoisted r choices
+  pub hoisted : MayBeChosen r choices
+  pub none : NoneOverlaps choices
   pub in_place : (k : ℕ) (f : Form) → slice_get r.forms k ≡ Some f → (choice_in choices k).in_place ≡ f.in_place
 
 -- Under them, what a node needs by the forms that run at it is the greatest sum of buffers whose scopes stand within

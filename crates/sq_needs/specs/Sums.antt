@@ -1,9 +1,8 @@
 -- What a node needs for a form, by the tables: the greatest sum of the buffers that calls within one another bring to
 -- it.
-use Rattle.std.specs.Prelude.{◌≡◌, ℕ, zero, suc, ◌+◌, ◌==◌, max, List, [], ◌∷◌, ◌++◌, length, get_or, Option, Some, None}
+use Rattle.std.specs.Prelude.{◌≡◌, ℕ, zero, suc, ◌+◌, ◌==◌, max, List, [], ◌∷◌, ◌++◌, length, get_or}
 use Rattle.std.specs.Prelude.{if◌then◌else◌}
 use Rattle.sq_text.specs.declared.spread.SpreadRule.{SpreadRule}
-use Rattle.sq_text.specs.Spreading.{child_of}
 use Rattle.sq_ir.specs.Written.{Setting}
 use Rattle.sq_ir.specs.declared.plan.Draft.{Draft}
 use Rattle.sq_ir.specs.declared.plan.PlanNode.{PlanNode}
@@ -11,7 +10,6 @@ use Rattle.sq_blocks.specs.declared.argument.Argument.{Argument}
 use Rattle.sq_spec.specs.declared.statement.CallInstance.{CallInstance}
 use Rattle.sq_spec.specs.declared.body.FormBody.{FormBody}
 use Rattle.sq_spec.specs.declared.resolved.Resolved.{Resolved}
-use Rattle.sq_spec_laws.specs.Needs.{Turn}
 use Rattle.sq_nests.specs.Stacks.{total}
 use Rattle.sq_nests.specs.Drafts.{nested_sum}
 use Rattle.sq_placed.specs.declared.home.Home.{Home}
@@ -22,24 +20,19 @@ use Rattle.sq_placed.specs.Trees.{local_buffers, callee_node}
 use Rattle.sq_term.specs.Terms.{body_in, homes_in}
 use Rattle.sq_homes.specs.declared.choice.Choice.{Choice}
 use Rattle.sq_homes.specs.Drafts.{IsDraftOf, bodies_of, homes_of, entry_of}
-use Rattle.sq_homes_laws.specs.Simple.{Walked, AreHoisted, setting_of}
-use Rattle.sq_needs.specs.Begun.{Begun, calls_of}
-
--- the child at which a lower call runs: that of its iteration, and child 0 outside of spread maps
-abbrev pub child_in : SpreadRule → (children : ℕ) → Option Turn → ℕ
-child_in rule children None = 0
-child_in rule children (Some u) = child_of rule u.count children u.t
+use Rattle.sq_homes_laws.specs.Choosing.{Walked, MayBeChosen, NoneOverlaps, setting_of}
+use Rattle.sq_homes.specs.Begun.{Begun, calls_of, child_in}
 
 abbrev pub greatest : {A : Type 0} → (A → ℕ) → List A → ℕ
 greatest f [] = 0
 greatest f (x ∷ xs) = max (f x) (greatest f xs)
 
--- the buffer of an array that isn't in place, whether it leaves loops or not
+-- the buffers of an array that isn't in place, whether it leaves loops or not; both where its loop's transfers overlap
 abbrev pub either_buffer : Home → List ℕ → List ℕ
 either_buffer InPlace more = more
 either_buffer (Own b) more = b ∷ more
 either_buffer (Held b loops) more = b ∷ more
-either_buffer (Twin b c) more = more
+either_buffer (Twin b c) more = b ∷ c ∷ more
 
 abbrev pub params_from : List Home → (i : ℕ) → List Argument → List ℕ
 params_from homes i [] = []
@@ -87,6 +80,6 @@ table_sum r choices nodes node =
 -- within one another: each loop that an argument leaves has a call in it, so that the argument's buffer stands where
 -- this call's other buffers do.
 abbrev pub SumsAreOfCalls : Type 0
-SumsAreOfCalls = (r : Resolved) → Walked r → (choices : List Choice) → AreHoisted r choices
+SumsAreOfCalls = (r : Resolved) → Walked r → (choices : List Choice) → MayBeChosen r choices → NoneOverlaps choices
     → (d : Draft) → IsDraftOf r choices d
     → (nodes : List PlanNode) (node : ℕ) → nested_sum d nodes node ≡ table_sum r choices nodes node

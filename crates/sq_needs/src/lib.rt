@@ -2,10 +2,18 @@
 #![tactic(auto)]
 
 ghost use Rattle.sq_needs.specs.Sums.{SumsAreOfCalls};
+ghost use Rattle.sq_needs.specs.Loops.{SumsAreOfLoops};
 ghost use Rattle.sq_needs.specs.Listed.{CallsAreListed};
 ghost use Rattle.sq_needs.specs.Needed.{NeedsAreSums, SumsAreNeeds, NeedsAreSmall};
+ghost use Rattle.sq_needs.specs.Room.{SumsFit, LoopsAreBusy, CallsBring, EndsAreTops};
 
-/// What stands within one another at a node of a draft are the buffers of calls within one another.
+/// What stands within one another at a node of a draft are the buffers of calls within one another, and of the loops
+/// round them that overlap their transfers.
+pub fn sums_are_of_loops()
+    ensures { SumsAreOfLoops }
+{}
+
+/// Where no loop does, they are those of calls.
 pub fn sums_are_of_calls()
     ensures { SumsAreOfCalls }
 {}
@@ -28,4 +36,24 @@ pub fn sums_are_needs()
 /// No node needs more than 2^48 bytes.
 pub fn needs_are_small()
     ensures { NeedsAreSmall }
+{}
+
+/// A node has room for what stands there where it has room for each form that runs at it.
+pub fn sums_fit()
+    ensures { SumsFit }
+{}
+
+/// A call brings no more than all buffers of its form.
+pub fn calls_bring()
+    ensures { CallsBring }
+{}
+
+/// Where each form's buffers end, they stand so far at its nodes.
+pub fn ends_are_tops()
+    ensures { EndsAreTops }
+{}
+
+/// Loops that overlap their transfers have iterations for their nodes where their tables say so.
+pub fn loops_are_busy()
+    ensures { LoopsAreBusy }
 {}

@@ -1,29 +1,26 @@
 -- The plan of a draft is good, part by part.
-use Rattle.std.proofs.Common.{◌≡◌, ℕ, zero, suc, ◌+◌, ◌<◌, ◌≤◌, ◌^◌, Bool, true, false, List, [], ◌∷◌, length, map}
-use Rattle.std.proofs.Common.{Option, Some, None, get_or, take, refl, sym, ap, ◌∙◌, subst, arith}
+use Rattle.std.proofs.Common.{◌≡◌, ℕ, zero, suc, ◌<◌, ◌≤◌, ◌^◌, Bool, true, List, [], ◌∷◌, length, map}
+use Rattle.std.proofs.Common.{Some, None, get_or, take, refl, sym, ap, ◌∙◌, subst, arith}
 use Rattle.std.specs.Prelude.{slice_get}
 use Rattle.std.specs.List.{All}
-use Rattle.sq_rect.specs.Placing.{IsIn}
 use Rattle.sq_ast.specs.Modes.{is_read}
 use Rattle.sq_machfile.specs.declared.level.Level.{Level}
 use Rattle.sq_leaf.specs.declared.shape.Shape.{Shape}
 use Rattle.sq_leaf.specs.Source.{Arrays}
 use Rattle.sq_blocks.specs.declared.argument.Argument.{Argument}
 use Rattle.sq_forms.specs.Steps.{most_uses}
-use Rattle.sq_forms.specs.Resolving.{Resolving}
-use Rattle.sq_work.specs.InTurn.{IsRaceFree, RaceFreeIsSerial}
+use Rattle.sq_work.specs.InTurn.{IsRaceFree}
 use Rattle.sq_work.specs.Meaning.{Outcome, meaning}
 use Rattle.sq_spec.specs.declared.resolved.Resolved.{Resolved}
 use Rattle.sq_spec.specs.declared.body.FormBody.{FormBody}
 use Rattle.sq_spec.specs.Works.{flat}
-use Rattle.sq_spec.specs.Numbered.{entry_call, TablesMeanProgram, TablesAreRaceFree}
+use Rattle.sq_spec.specs.Numbered.{entry_call}
 use Rattle.sq_ir.specs.Tree.{IsNormal}
 use Rattle.sq_ir.specs.Unordered.{IsFresh, EachUnordered, AllEvents}
 use Rattle.sq_ir.specs.Scopes.{InEachState}
 use Rattle.sq_ir.specs.Runs.{exec}
 use Rattle.sq_ir.specs.Events as events
 use Rattle.sq_ir.specs.Events.{Bytes, Leaves, AreIndependent}
-use Rattle.sq_ir.specs.Machines.{AreNodes, IsNode}
 use Rattle.sq_ir.specs.Written.{Setting, PlanTree, at_root, written, scoped}
 use Rattle.sq_ir.specs.Plans as plans
 use Rattle.sq_ir.specs.Plans.{IsBuffer, IsAllowed, IsWellFormed, IsGood, Meets, HaveRoom, node_at, tree_of}
@@ -37,8 +34,7 @@ use Rattle.sq_ir.proofs.Equations.{written_within}
 use Rattle.sq_ir.proofs.Meeting.{meets_within}
 use Rattle.sq_ir.proofs.Fresh.{normal-entry, fresh-entry}
 use Rattle.sq_cells.specs.Tree.{Cause}
-use Rattle.sq_cells.specs.Cells.{spot}
-use Rattle.sq_alike.specs.Alike.{Weight, leaf_count, MayRun}
+use Rattle.sq_alike.specs.Alike.{leaf_count, MayRun}
 use Rattle.sq_nests.specs.Stacks.{AreAside}
 use Rattle.sq_nests.specs.Drafts.{whole, IsPlaceable, KeepsRoom}
 use Rattle.sq_placed.specs.declared.home.Homes.{Homes}
@@ -47,51 +43,40 @@ use Rattle.sq_placed.specs.Tables.{placed_args, placed_of, entry_placed, entry_c
 use Rattle.sq_placed_bytes.specs.Entry.{EntryStowed}
 use Rattle.sq_placed_bytes.specs.LeafLaws.{codes_of}
 use Rattle.sq_placed_bytes.specs.OnBytes.{work}
-use Rattle.sq_placed_bytes.specs.Codes.{loaded}
 use Rattle.sq_term.specs.Terms.{body_in, homes_in, entry_term, buffer_or}
 use Rattle.sq_term.specs.Stands.{AreLeveled}
-use Rattle.sq_term_fit.specs.Fits.{AreTabled, NodeAt}
-use Rattle.sq_plan_laws.specs.Seated.{Sits, at_node}
-use Rattle.sq_plan_laws.specs.Entry.{plan_tree, form_at, held_in, IsPlan, EndsSo, PlansAreSafe}
-use Rattle.sq_plan_laws.specs.LeafCalls.{PlansCount}
-use Rattle.sq_plan_laws.specs.Room.{PlansInside, IsRoomy, HasRoom}
+use Rattle.sq_term_fit.specs.Fits.{AreTabled}
+use Rattle.sq_plan_laws.specs.Seated.{at_node}
+use Rattle.sq_plan_laws.specs.Entry.{plan_tree, form_at, held_in, IsPlan, EndsSo}
+use Rattle.sq_plan_laws.specs.Room.{IsRoomy, HasRoom}
 use Rattle.sq_rooms.specs.Held.{AreHeldInside}
 use Rattle.sq_forms_fit.specs.Rows.{FormsFit}
-use Rattle.sq_forms_fit.proofs.Facts.{passed, passed_at}
+use Rattle.sq_forms_fit.proofs.Facts.{passed_at}
 use Rattle.sq_forms_fit.specs.Homes as fit
 use Rattle.sq_forms_fit.specs.Homes.{mays_of}
-use Rattle.sq_forms_fit.specs.Laws.{ProgramsFit}
 use Rattle.sq_plan_room.specs.Rooms as rooms
-use Rattle.sq_plan_room.specs.Rooms.{RoomIsStowed}
-use Rattle.sq_forms_fit.specs.Entry.{EntryFacts, EntriesSit, EntriesArePlans, EntriesFollow, ReadCodes, AreWhole, IsWhole}
+use Rattle.sq_forms_fit.specs.Entry.{EntryFacts, ReadCodes, AreWhole, IsWhole}
 use Rattle.sq_forms_fit.specs.Entry.{entry_shapes, anything}
-use Rattle.sq_forms_fit.specs.LeafCalls.{CallsAreOfTables, form_calls}
-use Rattle.sq_forms_fit.specs.Written.{PlansAreWritten}
 use Rattle.sq_draft_laws.specs.AtLevels.{IsAtLevel}
-use Rattle.sq_draft_laws.specs.Laws.{FormsAreNear, PathsAreShort, PlansAreWellFormed, HasPath}
+use Rattle.sq_draft_laws.specs.Laws.{HasPath}
 use Rattle.sq_draft_laws.specs.Scope.{HomesAreNear}
 use Rattle.sq_store.specs.Place.{IsPlaced}
 use Rattle.sq_store.specs.Walk.{offsets_of}
-use Rattle.sq_store.specs.Laws.{OffsetsAreAsMany}
 use Rattle.sq_homes.specs.declared.choice.Choice.{Choice}
 use Rattle.sq_homes.specs.Drafts.{bodies_of, homes_of, args_of, buffers_of, leaves_of, entry_of, program_term, IsDraftOf}
-use Rattle.sq_homes_laws.specs.Given.{HomesAreLeveled, level_at}
-use Rattle.sq_homes_laws.specs.Programs.{BodiesAreTables, PlacedIsProgram, TermIsEntrys}
-use Rattle.sq_homes_laws.specs.Simple.{Walked, AreHoisted, AreMemories, setting_of}
-use Rattle.sq_homes_fit.specs.Homes.{HomesFitForms, EntriesAreWhole}
-use Rattle.sq_homes_fit.specs.Levels.{BeginsAtRoot, DraftsBeginAtRoot}
-use Rattle.sq_homes_fit.specs.Drafts.{limits, DraftsAreTabled, DraftsAreRoomy, IsRoomyDraft}
-use Rattle.sq_homes_fit.specs.Owned.{draft_placed, DraftsOwn, OwnsItsBuffers}
-use Rattle.sq_homes_fit.specs.Lanes.{MachinesAreMachines, LanesAreThere, IsDraftMachine}
-use Rattle.sq_homes_fit.specs.Placeable.{DraftsArePlaceable}
-use Rattle.sq_draft_laws.specs.Leaves.{LeavesOfDraftsStand}
-use Rattle.sq_draft_laws.specs.Opened.{WalkedIsThere}
-use Rattle.sq_draft_laws.specs.Short.{LeavesAreShort, AreShort, round_of}
+use Rattle.sq_homes_laws.specs.Given.{level_at}
+use Rattle.sq_work.specs.Work.{Work}
+use Rattle.sq_placed.specs.SameWorks.{IsSameWork}
+use Rattle.sq_homes_laws.specs.Choosing.{Walked, MayBeChosen, AreMemories, setting_of}
+use Rattle.sq_homes_fit.specs.Levels.{BeginsAtRoot}
+use Rattle.sq_homes_fit.specs.Drafts.{limits, IsRoomyDraft}
+use Rattle.sq_homes_fit.specs.Owned.{OwnsItsBuffers}
+use Rattle.sq_homes_fit.specs.Lanes.{IsDraftMachine}
+use Rattle.sq_draft_laws.specs.Short.{AreShort, round_of}
 use Rattle.sq_plan_good.specs.Parts.{Placing, Laws}
-use Rattle.sq_plan_good.specs.Good.{HasNoRace, shapes_in, IsInput, EndsAsMeant, HasLeafCalls, LeavesAreAtHome}
+use Rattle.sq_plan_good.specs.Good.{HasNoRace, IsInput, EndsAsMeant, HasLeafCalls, LeavesAreAtHome}
 use Rattle.sq_plan_good.specs.Good.{IsGoodFor}
-use Rattle.sq_plan_good.specs.Good.{MayLeave, DraftsCanBePlaced, PlacedAreGood}
-use Rattle.sq_plan_good.proofs.Single.{homes_are_single}
+use Rattle.sq_plan_good.specs.Good.{MayLeave, MayOverlap, DraftsCanBePlaced, PlacedAreGood}
 
 -- ---- the last level
 
@@ -157,7 +142,7 @@ drawn_is r choices d of = λ i. record {
   notes = d.notes;
 }
 
-module _ (placing : Placing) (r : Resolved) (choices : List Choice) (hoisted : AreHoisted r choices) (notes : List Note)
+module _ (placing : Placing) (r : Resolved) (choices : List Choice) (may : MayBeChosen r choices) (notes : List Note)
     (nodes : List PlanNode) (memories : AreMemories r.machine.now.levels nodes) where
   w : Walked r
   w = placing.walked r
@@ -169,15 +154,16 @@ module _ (placing : Placing) (r : Resolved) (choices : List Choice) (hoisted : A
   is_draft = record { term = refl; buffers = refl; leaves = refl; entry = refl }
 
   placeable : IsPlaceable d nodes
-  placeable = placing.placeable r w choices hoisted d is_draft nodes memories
+  placeable = placing.placeable r w choices may d is_draft nodes memories
 
-  module _ (laws : Laws) (race_free : HasNoRace r) (leave : MayLeave r choices) (placed : IsPlaced d nodes (record { draft = d; offsets = offsets_of d; nodes = nodes }))
+  module _ (laws : Laws) (race_free : HasNoRace r) (leave : MayLeave r choices) (overlap : MayOverlap r choices)
+      (placed : IsPlaced d nodes (record { draft = d; offsets = offsets_of d; nodes = nodes }))
     where
       last : Last r.machine.now.levels
       last = last_of r.machine.now.levels nodes memories
 
       begins : BeginsAtRoot r choices
-      begins = laws.begins r w choices hoisted
+      begins = laws.begins r w choices may
 
       abbrev bodies : ℕ → FormBody
       bodies = body_in (bodies_of r)
@@ -233,19 +219,19 @@ module _ (placing : Placing) (r : Resolved) (choices : List Choice) (hoisted : A
       forms_fit = subst (λ (b : ℕ → FormBody). FormsFit leaves b homes mays) (sym bodies_are)
           (laws.fits r.typed.now r.machine.now.levels r.mapping.now w.formed w.faultless w.read
           (record { found = r.found.entries; forms = r.forms; uses = r.uses }) w.through leaves homes
-          (laws.homes r w choices hoisted) leave (laws.stand r w choices d is_draft))
+          (laws.homes r w choices may) leave overlap (laws.stand r w choices d is_draft))
 
       facts : EntryFacts bodies homes (mays 0) args
-      facts = laws.entries r w choices hoisted
+      facts = laws.entries r w choices may
 
       tabled : AreTabled s limits last.last bodies homes (level_at r)
-      tabled = laws.tabled r w choices hoisted last.last last.is nodes offset
+      tabled = laws.tabled r w choices may last.last last.is nodes offset
 
       roomy : IsRoomyDraft r choices s
-      roomy = laws.roomy r w choices hoisted nodes offset
+      roomy = laws.roomy r w choices may nodes offset
 
       own : OwnsItsBuffers r choices s
-      own = laws.own r w choices hoisted nodes offset
+      own = laws.own r w choices may nodes offset
 
       machine : IsDraftMachine s nodes last.last
       machine = laws.machines r.machine.now.levels nodes memories last.last last.is (buffers_of r choices) offset
@@ -257,7 +243,7 @@ module _ (placing : Placing) (r : Resolved) (choices : List Choice) (hoisted : A
 
       tree_is : tree_of p ≡ plan_tree s x outer entry
       tree_is = ap (λ (t : Term). scoped 0 entry (written s t at_root)) term_is
-          ∙ laws.writes s bodies homes (level_at r) leveled begins.entry begins.buffer n args facts.many
+          ∙ laws.writes s bodies homes (level_at r) leveled may.stand begins.entry begins.buffer n args facts.many
 
       whole_is : written s (whole d) at_root ≡ tree_of p
       whole_is = ap (λ (f : Rattle.sq_ir.specs.Written.Part). f at_root) (written_within s None entry (program_term r choices))
@@ -267,7 +253,7 @@ module _ (placing : Placing) (r : Resolved) (choices : List Choice) (hoisted : A
         entry = own.entry;
         sits = laws.sit leaves bodies homes mays forms_fit n args facts;
         owns = own.owns;
-        lanes = laws.lanes r w choices hoisted nodes memories offset;
+        lanes = laws.lanes r w choices may nodes memories offset;
         aside = subst AreAside (whole_is ∙ tree_is) (placeable.aside offset);
         normal = subst IsNormal tree_is (normal-entry s entry (program_term r choices) at_root);
         fresh = subst IsFresh tree_is (fresh-entry s entry (program_term r choices) at_root);
@@ -285,10 +271,13 @@ module _ (placing : Placing) (r : Resolved) (choices : List Choice) (hoisted : A
 
       -- ---- the plan
 
-      program_is : plain x ≡ entry_call r.typed.now.tasks r.mapping.now r.found.entries
-      program_is = laws.program r homes
+      abbrev called : Work
+      called = entry_call r.typed.now.tasks r.mapping.now r.found.entries
 
-      tables_free : IsRaceFree (entry_call r.typed.now.tasks r.mapping.now r.found.entries)
+      program_is : IsSameWork (plain x) called
+      program_is = laws.program r homes may.stand
+
+      tables_free : IsRaceFree called
       tables_free = laws.race_free r race_free
 
       mapped : {A B : Type 0} (f : A → B) (xs : List A) → length (map f xs) ≡ length xs
@@ -297,7 +286,7 @@ module _ (placing : Placing) (r : Resolved) (choices : List Choice) (hoisted : A
 
       is_plan : IsPlan s leaves outer entry anything x
       is_plan = laws.plans s leaves bodies homes mays forms_fit n args facts entry
-          (mapped buffer_or (homes 0).params ∙ sym facts.many) (subst IsRaceFree (sym program_is) tables_free) stowed.0
+          (mapped buffer_or (homes 0).params ∙ sym facts.many) (laws.works_race (plain x) called program_is tables_free) stowed.0
 
       safe : EachUnordered (AreIndependent leaves) (plan_tree s x outer entry)
           × AllEvents (MayRun leaves) (plan_tree s x outer entry)
@@ -318,8 +307,9 @@ module _ (placing : Placing) (r : Resolved) (choices : List Choice) (hoisted : A
           tabled.body (round_of r) short.paths
 
       near : HomesAreNear bodies homes
-      near = laws.near leaves bodies homes mays forms_fit (homes_are_single r choices hoisted)
+      near = laws.near leaves bodies homes mays forms_fit
           (subst (λ (b : ℕ → FormBody). AreHeldInside b homes) (sym bodies_are) leave.rounds)
+          (laws.chosen r choices may) may.stand
 
       small : (node : ℕ) → s.capacity node ≤ 2 ^ 32
       small = small_at nodes (λ i q e. (memories.are.each i q e).capacity)
@@ -379,9 +369,8 @@ module _ (placing : Placing) (r : Resolved) (choices : List Choice) (hoisted : A
       }
 
       meant : (a : Arrays) → meaning (plain x) a ≡ flat r.typed.now r.mapping.now a
-      meant a = ap (λ (v : Rattle.sq_work.specs.Work.Work). meaning v a) program_is
-          ∙ (laws.serial (entry_call r.typed.now.tasks r.mapping.now r.found.entries) tables_free a
-          ∙ sym (laws.means r race_free a))
+      meant a = laws.works_mean (plain x) called program_is a
+          ∙ (laws.serial called tables_free a ∙ sym (laws.means r race_free a))
 
       many_args : length c.args ≡ length outer
       many_args =
@@ -420,24 +409,24 @@ module _ (placing : Placing) (r : Resolved) (choices : List Choice) (hoisted : A
 -- ---- any draft
 
 pub drafts_can_be_placed : Placing → DraftsCanBePlaced
-drafts_can_be_placed placing r choices hoisted d of nodes memories =
+drafts_can_be_placed placing r choices may d of nodes memories =
     subst (λ (x : Draft). IsPlaceable x nodes) (sym (drawn_is r choices d of))
-    (placeable placing r choices hoisted d.notes nodes memories)
+    (placeable placing r choices may d.notes nodes memories)
 
 -- with its offsets
 abbrev plan_with : List PlanNode → Draft → Plan
 plan_with nodes d = record { draft = d; offsets = offsets_of d; nodes = nodes }
 
-good_with : Placing → Laws → (r : Resolved) → HasNoRace r → (choices : List Choice) → AreHoisted r choices
-    → MayLeave r choices → (notes : List Note) (nodes : List PlanNode) → AreMemories r.machine.now.levels nodes
+good_with : Placing → Laws → (r : Resolved) → HasNoRace r → (choices : List Choice) → MayBeChosen r choices
+    → MayLeave r choices → MayOverlap r choices → (notes : List Note) (nodes : List PlanNode) → AreMemories r.machine.now.levels nodes
     → (d : Draft) → drawn r choices notes ≡ d
     → IsPlaced d nodes (plan_with nodes d) → IsGoodFor r choices nodes (plan_with nodes d)
-good_with placing laws r race_free choices hoisted leave notes nodes memories d is =
+good_with placing laws r race_free choices may leave overlap notes nodes memories d is =
     subst (λ (x : Draft). IsPlaced x nodes (plan_with nodes x) → IsGoodFor r choices nodes (plan_with nodes x)) is
-    (λ placed. all_good placing r choices hoisted notes nodes memories laws race_free leave placed)
+    (λ placed. all_good placing r choices may notes nodes memories laws race_free leave overlap placed)
 
 pub placed_are_good : Placing → Laws → PlacedAreGood
-placed_are_good placing laws r race_free choices hoisted leave d of nodes memories p placed =
+placed_are_good placing laws r race_free choices may leave overlap d of nodes memories p placed =
     subst (IsGoodFor r choices nodes) (sym placed.is)
-    (good_with placing laws r race_free choices hoisted leave d.notes nodes memories d (sym (drawn_is r choices d of))
+    (good_with placing laws r race_free choices may leave overlap d.notes nodes memories d (sym (drawn_is r choices d of))
     (subst (IsPlaced d nodes) placed.is placed))

@@ -25,13 +25,14 @@ use Rattle.sq_term.specs.Terms.{body_in, homes_in}
 use Rattle.sq_plan_laws.specs.Entry.{held_in, EndsSo}
 use Rattle.sq_forms_fit.specs.Entry.{entry_shapes}
 use Rattle.sq_forms_fit.specs.Held.{HoldsFit}
+use Rattle.sq_forms_fit.specs.Piped.{PipesFit}
 use Rattle.sq_forms_fit.specs.LeafCalls.{form_calls}
 use Rattle.sq_nests.specs.Drafts.{IsPlaceable}
 use Rattle.sq_store.specs.Place.{IsPlaced}
 use Rattle.sq_homes.specs.declared.choice.Choice.{Choice}
 use Rattle.sq_homes.specs.Drafts.{bodies_of, homes_of, args_of, IsDraftOf}
 use Rattle.sq_homes_laws.specs.Given.{level_at}
-use Rattle.sq_homes_laws.specs.Simple.{AreHoisted, AreMemories}
+use Rattle.sq_homes_laws.specs.Choosing.{MayBeChosen, AreMemories}
 use Rattle.sq_draft_laws.specs.AtLevels.{IsAtLevel}
 
 -- no two iterations of its maps race
@@ -89,14 +90,19 @@ abbrev pub MayLeave : Resolved → List Choice → Type 0
 MayLeave r choices =
     HoldsFit (body_of r.typed.now.tasks r.mapping.now.instances r.found.entries) (homes_in (homes_of r choices))
 
--- A draft of a program in which no loop overlaps its transfers can be placed.
+-- What an iteration of a loop that overlaps its transfers writes is clear of the next two.
+abbrev pub MayOverlap : Resolved → List Choice → Type 0
+MayOverlap r choices =
+    PipesFit (body_of r.typed.now.tasks r.mapping.now.instances r.found.entries) (homes_in (homes_of r choices))
+
+-- A draft of a program can be placed.
 abbrev pub DraftsCanBePlaced : Type 0
-DraftsCanBePlaced = (r : Resolved) (choices : List Choice) → AreHoisted r choices
+DraftsCanBePlaced = (r : Resolved) (choices : List Choice) → MayBeChosen r choices
     → (d : Draft) → IsDraftOf r choices d → (nodes : List PlanNode) → AreMemories r.machine.now.levels nodes
     → IsPlaceable d nodes
 
 -- And where the program has no race, a plan of it is good.
 abbrev pub PlacedAreGood : Type 0
-PlacedAreGood = (r : Resolved) → HasNoRace r → (choices : List Choice) → AreHoisted r choices → MayLeave r choices
+PlacedAreGood = (r : Resolved) → HasNoRace r → (choices : List Choice) → MayBeChosen r choices → MayLeave r choices → MayOverlap r choices
     → (d : Draft) → IsDraftOf r choices d → (nodes : List PlanNode) → AreMemories r.machine.now.levels nodes
     → (p : Plan) → IsPlaced d nodes p → IsGoodFor r choices nodes p

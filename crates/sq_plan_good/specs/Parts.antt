@@ -13,6 +13,8 @@ use Rattle.sq_draft_laws.specs.AtLevels.{LeavesAreAtLevels}
 use Rattle.sq_draft_laws.specs.Laws.{FormsAreNear, PathsAreShort, PlansAreWellFormed}
 use Rattle.sq_store.specs.Laws.{OffsetsAreAsMany}
 use Rattle.sq_homes_laws.specs.Given.{HomesAreLeveled}
+use Rattle.sq_placed.specs.SameWorks.{SameWorksMean, SameWorksRace}
+use Rattle.sq_homes_laws.specs.Choosing.{ChosenStand}
 use Rattle.sq_homes_laws.specs.Programs.{BodiesAreTables, PlacedIsProgram, TermIsEntrys}
 use Rattle.sq_homes_fit.specs.Homes.{HomesFitForms, EntriesAreWhole}
 use Rattle.sq_homes_fit.specs.Levels.{DraftsBeginAtRoot}
@@ -34,6 +36,9 @@ pub record Laws : Type 0 where
   pub leveled : HomesAreLeveled
   pub tables : BodiesAreTables
   pub program : PlacedIsProgram
+  pub chosen : ChosenStand
+  pub works_mean : SameWorksMean
+  pub works_race : SameWorksRace
   pub term : TermIsEntrys
   pub homes : HomesFitForms
   pub entries : EntriesAreWhole

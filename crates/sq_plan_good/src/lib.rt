@@ -17,15 +17,17 @@ use sq_homes_fit::{
     memories_are_machines,
 };
 use sq_homes_laws::laws::{
-    bodies_are_tables, buffers_have_their_levels, placed_is_program, terms_are_those_of_entries,
+    bodies_are_tables, buffers_have_their_levels, chosen_forms_stand, placed_is_program,
+    terms_are_those_of_entries,
 };
+use sq_placed::laws::{same_works_mean, same_works_race};
 use sq_plan_laws::{plans_are_safe, plans_count, plans_inside};
 use sq_plan_room::room_is_stowed;
 use sq_spec::meaning::{tables_are_free_of_races, tables_mean_the_program};
 use sq_store::laws::the_walk_lays_buffers;
 use sq_work::laws::race_free_maps_are_serial;
 
-/// A draft of a program in which no loop overlaps its transfers can be placed.
+/// A draft of a program can be placed.
 pub fn placing_succeeds()
     ensures { DraftsCanBePlaced }
 {
@@ -44,6 +46,9 @@ pub fn placed_plans_are_good()
     buffers_have_their_levels();
     bodies_are_tables();
     placed_is_program();
+    chosen_forms_stand();
+    same_works_mean();
+    same_works_race();
     terms_are_those_of_entries();
     homes_fit_forms();
     entries_are_whole();

@@ -2,6 +2,8 @@
 use Rattle.std.specs.Prelude.{ℕ, ◌+◌, Bool, not, ◌&&◌, ◌||◌, false, List, [], ◌∷◌, ◌++◌, map, get_or, slice_get}
 use Rattle.std.specs.Prelude.{Option, Some, None, is_some}
 use Rattle.std.specs.List.{flat_map, range_with_len}
+use Rattle.sq_text.specs.declared.spread.SpreadRule.{SpreadRule}
+use Rattle.sq_text.specs.Spreading.{child_of}
 use Rattle.sq_spec.specs.declared.statement.LoopKind.{LoopKind}
 use Rattle.sq_spec.specs.declared.statement.CallInstance.{CallInstance}
 use Rattle.sq_spec.specs.declared.statement.Statement.{Statement}
@@ -66,3 +68,8 @@ begun = fold-Statement BegunPart begun_step
 abbrev pub calls_of : Body → List Begun
 calls_of (body.Leaf code) = []
 calls_of (body.Inner list) = calls_in (map begun list) None 0
+
+-- the child at which a lower call runs: that of its iteration, and child 0 outside of spread maps
+abbrev pub child_in : SpreadRule → (children : ℕ) → Option Turn → ℕ
+child_in rule children None = 0
+child_in rule children (Some u) = child_of rule u.count children u.t
