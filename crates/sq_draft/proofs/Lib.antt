@@ -1,3 +1,2 @@
 pub mod MadeMoves
-pub mod MadePipes
 pub mod Made

@@ -3,15 +3,13 @@
 ghost use Rattle.std.specs.Prelude.{◌≡◌, ◌||◌, is_some, drop, true};
 ghost use Rattle.sq_placed.specs.Tables as tables;
 
-use sq_blocks::Argument;
-use sq_contexts::LocalArrays;
-use sq_ir::{BufferIds, Numbers};
+use sq_ir::BufferIds;
 use sq_leaf::Shape;
 use sq_num::RedOp;
 use sq_placed::{Home, Homes};
 use sq_spec::{FormBody, LoopKind, Statement};
-use sq_tables::{CallTable, op_of};
-use sq_term::{Context, Lane, Move};
+use sq_tables::op_of;
+use sq_term::Move;
 use sq_text::SpreadRule;
 use sqlite_items::Items;
 
@@ -47,40 +45,6 @@ pub struct Holding {
     pub buffers: BufferIds,
 }
 
-/// The call in a loop whose transfers overlap: its rows, the arrays of its callee, the arguments of its first row; and how
-/// many iterations began before, each time that the loop is begun.
-#[derive(Clone, Copy)]
-pub struct PipeCall<'a> {
-    pub call: CallTable<'a>,
-    pub form: usize,
-    pub callee: CalleeArrays<'a>,
-    pub locals: LocalArrays<'a>,
-    pub args: &'a [Argument],
-    pub starts: &'a Numbers,
-}
-
-/// One of the two sets of buffers that such a loop has in turn.
-#[derive(Clone, Copy)]
-pub enum Set {
-    First,
-    Second,
-}
-
-/// The iterations of a loop at one child, and where it stands.
-#[derive(Drop)]
-pub struct LanePlace {
-    pub lane: Lane,
-    pub context: Context,
-}
-
-/// The same round the loop and in an iteration of it, and where the work of that iteration stands.
-#[derive(Drop)]
-pub struct Places {
-    pub outer: LanePlace,
-    pub inner: LanePlace,
-    pub work: Context,
-}
-
 /// The shapes of a form's locals, which stand behind its parameters.
 pub fn local_shapes<'a>(shapes: &'a [Shape], params: usize) -> &'a [Shape]
     ensures { result.now ≡ drop params shapes.now }
@@ -114,18 +78,5 @@ pub fn round_in(round: Round, kind: LoopKind, spread: Option<SpreadRule>) -> Rou
         op: op_of(kind),
         spread,
         inside: round.inside || spread.is_some(),
-    }
-}
-
-/// What stands round a loop that arguments leave.
-pub fn round_of_held(round: Round) -> Round
-    ensures rule { result.rule ≡ round.rule }
-    ensures inside { result.inside ≡ true }
-{
-    Round {
-        rule: round.rule,
-        op: round.op,
-        spread: None,
-        inside: true,
     }
 }

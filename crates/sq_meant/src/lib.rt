@@ -8,7 +8,6 @@ use sq_hoist_laws::choices_are_hoisted;
 use sq_homes_fit::{drafts_own_their_buffers, entries_are_whole};
 use sq_ir::laws::good_plans_have_one_result;
 use sq_leaf::Trap;
-use sq_pipe_laws::overlaps_may_be_chosen;
 
 /// The plan of a program has a place in the root for each of the entry's arrays, and no two share a byte.
 pub fn places_fit()
@@ -17,7 +16,6 @@ pub fn places_fit()
 {
     resolved_programs_were_walked();
     choices_are_hoisted();
-    overlaps_may_be_chosen();
     entries_are_whole();
     drafts_own_their_buffers();
 }
@@ -36,7 +34,6 @@ pub fn runs_end_as_meant()
 {
     resolved_programs_were_walked();
     choices_are_hoisted();
-    overlaps_may_be_chosen();
     entries_are_whole();
     drafts_own_their_buffers();
     good_plans_have_one_result::<Trap>();
