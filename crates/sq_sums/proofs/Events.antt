@@ -210,11 +210,11 @@ contains_both (x ∷ xs) ys b c = by (contains-first x (xs ++ ys) b c) (contains
         more (inl k) = inl (suc k.0, (let l = k.1 in omega (arith, l)), k.2)
         more (inr k) = inr k
 
-if-true : {X : Type 0} (v : Bool) (a b : X) → v ≡ true → (if v then a else b) ≡ a
+pub if-true : {X : Type 0} (v : Bool) (a b : X) → v ≡ true → (if v then a else b) ≡ a
 if-true true a b e = refl
 if-true false a b e = absurd (let z = e in cc)
 
-capped_in : (n : ℕ) → n < 4097 → capped n ≡ n
+pub capped_in : (n : ℕ) → n < 4097 → capped n ≡ n
 unfolding capped
 capped_in n l = omega (arith, l)
 

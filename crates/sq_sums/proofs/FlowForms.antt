@@ -13,11 +13,12 @@ flow_bytes b = ap flow_sum (sym (f.rolls-Bytes b)) ∙ fold-roll-Flow (List ℕ 
 pub flow_parts : (xs : List Flow) → flow_sum (f.Parts xs) ≡ flow_step (Flow-F.Parts (map flow_sum xs))
 flow_parts xs = ap flow_sum (sym (f.rolls-Parts xs)) ∙ fold-roll-Flow (List ℕ → ℕ) flow_step (Flow-F.Parts xs)
 
-pub flow_each : (c : Num) (x : Flow) → flow_sum (f.Each c x) ≡ flow_step (Flow-F.Each c (flow_sum x))
-flow_each c x = ap flow_sum (sym (f.rolls-Each c x)) ∙ fold-roll-Flow (List ℕ → ℕ) flow_step (Flow-F.Each c x)
+pub flow_each : (c : Num) (n : ℕ) (x : Flow) → flow_sum (f.Each c n x) ≡ flow_step (Flow-F.Each c n (flow_sum x))
+flow_each c n x = ap flow_sum (sym (f.rolls-Each c n x)) ∙ fold-roll-Flow (List ℕ → ℕ) flow_step (Flow-F.Each c n x)
 
-pub flow_arm : (k : Num) (xs : List Flow) → flow_sum (f.Arm k xs) ≡ flow_step (Flow-F.Arm k (map flow_sum xs))
-flow_arm k xs = ap flow_sum (sym (f.rolls-Arm k xs)) ∙ fold-roll-Flow (List ℕ → ℕ) flow_step (Flow-F.Arm k xs)
+pub flow_arm : (k : Num) (n : ℕ) (xs : List Flow)
+    → flow_sum (f.Arm k n xs) ≡ flow_step (Flow-F.Arm k n (map flow_sum xs))
+flow_arm k n xs = ap flow_sum (sym (f.rolls-Arm k n xs)) ∙ fold-roll-Flow (List ℕ → ℕ) flow_step (Flow-F.Arm k n xs)
 
 pub ruleset flow_forms = (flow_bytes, flow_parts, flow_each, flow_arm)
 
@@ -27,11 +28,12 @@ loops_bytes b = ap flow_loops (sym (f.rolls-Bytes b)) ∙ fold-roll-Flow ℕ flo
 pub loops_parts : (xs : List Flow) → flow_loops (f.Parts xs) ≡ flow_loops_step (Flow-F.Parts (map flow_loops xs))
 loops_parts xs = ap flow_loops (sym (f.rolls-Parts xs)) ∙ fold-roll-Flow ℕ flow_loops_step (Flow-F.Parts xs)
 
-pub loops_each : (c : Num) (x : Flow) → flow_loops (f.Each c x) ≡ flow_loops_step (Flow-F.Each c (flow_loops x))
-loops_each c x = ap flow_loops (sym (f.rolls-Each c x)) ∙ fold-roll-Flow ℕ flow_loops_step (Flow-F.Each c x)
+pub loops_each : (c : Num) (n : ℕ) (x : Flow)
+    → flow_loops (f.Each c n x) ≡ flow_loops_step (Flow-F.Each c n (flow_loops x))
+loops_each c n x = ap flow_loops (sym (f.rolls-Each c n x)) ∙ fold-roll-Flow ℕ flow_loops_step (Flow-F.Each c n x)
 
-pub loops_arm : (k : Num) (xs : List Flow) → flow_loops (f.Arm k xs)
-    ≡ flow_loops_step (Flow-F.Arm k (map flow_loops xs))
-loops_arm k xs = ap flow_loops (sym (f.rolls-Arm k xs)) ∙ fold-roll-Flow ℕ flow_loops_step (Flow-F.Arm k xs)
+pub loops_arm : (k : Num) (n : ℕ) (xs : List Flow) → flow_loops (f.Arm k n xs)
+    ≡ flow_loops_step (Flow-F.Arm k n (map flow_loops xs))
+loops_arm k n xs = ap flow_loops (sym (f.rolls-Arm k n xs)) ∙ fold-roll-Flow ℕ flow_loops_step (Flow-F.Arm k n xs)
 
 pub ruleset loops_forms = (loops_bytes, loops_parts, loops_each, loops_arm)

@@ -7,40 +7,39 @@ use Rattle.sq_ir.specs.declared.term.Term.{Term}
 use Rattle.sq_ir.specs.declared.term.Term.TheVariants as t
 use Rattle.sq_ir.specs.declared.term.Term.TheOpen.{Term-F}
 use Rattle.sq_ir.specs.declared.term.Term.TheFolds.{fold-roll-Term}
-use Rattle.sq_sums.specs.declared.flow.Flow.{Flow}
-use Rattle.sq_sums.specs.Flows.{flow_of_step, flow_of, asks_step, asks}
+use Rattle.sq_sums.specs.Flows.{FlowAt, flow_of_step, flow_of, asks_step, asks}
 
 pub flow_of_skip : (w : Action → ℕ) → flow_of w t.Skip ≡ flow_of_step w Term-F.Skip
-flow_of_skip w = ap (flow_of w) (sym t.rolls-Skip) ∙ fold-roll-Term Flow (flow_of_step w) Term-F.Skip
+flow_of_skip w = ap (flow_of w) (sym t.rolls-Skip) ∙ fold-roll-Term FlowAt (flow_of_step w) Term-F.Skip
 
 pub flow_of_act : (w : Action → ℕ) (a : Action) → flow_of w (t.Act a) ≡ flow_of_step w (Term-F.Act a)
-flow_of_act w a = ap (flow_of w) (sym (t.rolls-Act a)) ∙ fold-roll-Term Flow (flow_of_step w) (Term-F.Act a)
+flow_of_act w a = ap (flow_of w) (sym (t.rolls-Act a)) ∙ fold-roll-Term FlowAt (flow_of_step w) (Term-F.Act a)
 
 pub flow_of_seq : (w : Action → ℕ) (ts : List Term)
     → flow_of w (t.Seq ts) ≡ flow_of_step w (Term-F.Seq (map (flow_of w) ts))
-flow_of_seq w ts = ap (flow_of w) (sym (t.rolls-Seq ts)) ∙ fold-roll-Term Flow (flow_of_step w) (Term-F.Seq ts)
+flow_of_seq w ts = ap (flow_of w) (sym (t.rolls-Seq ts)) ∙ fold-roll-Term FlowAt (flow_of_step w) (Term-F.Seq ts)
 
 pub flow_of_par : (w : Action → ℕ) (ts : List Term)
     → flow_of w (t.Par ts) ≡ flow_of_step w (Term-F.Par (map (flow_of w) ts))
-flow_of_par w ts = ap (flow_of w) (sym (t.rolls-Par ts)) ∙ fold-roll-Term Flow (flow_of_step w) (Term-F.Par ts)
+flow_of_par w ts = ap (flow_of w) (sym (t.rolls-Par ts)) ∙ fold-roll-Term FlowAt (flow_of_step w) (Term-F.Par ts)
 
 pub flow_of_loop : (w : Action → ℕ) (c : Num) (b : Term)
     → flow_of w (t.Loop c b) ≡ flow_of_step w (Term-F.Loop c (flow_of w b))
-flow_of_loop w c b = ap (flow_of w) (sym (t.rolls-Loop c b)) ∙ fold-roll-Term Flow (flow_of_step w) (Term-F.Loop c b)
+flow_of_loop w c b = ap (flow_of w) (sym (t.rolls-Loop c b)) ∙ fold-roll-Term FlowAt (flow_of_step w) (Term-F.Loop c b)
 
 pub flow_of_spread : (w : Action → ℕ) (c : Num) (r : SpreadRule) (b : Term)
     → flow_of w (t.Spread c r b) ≡ flow_of_step w (Term-F.Spread c r (flow_of w b))
 flow_of_spread w c r b = ap (flow_of w) (sym (t.rolls-Spread c r b))
-    ∙ fold-roll-Term Flow (flow_of_step w) (Term-F.Spread c r b)
+    ∙ fold-roll-Term FlowAt (flow_of_step w) (Term-F.Spread c r b)
 
 pub flow_of_case : (w : Action → ℕ) (k : Num) (ts : List Term)
     → flow_of w (t.Case k ts) ≡ flow_of_step w (Term-F.Case k (map (flow_of w) ts))
-flow_of_case w k ts = ap (flow_of w) (sym (t.rolls-Case k ts)) ∙ fold-roll-Term Flow (flow_of_step w) (Term-F.Case k ts)
+flow_of_case w k ts = ap (flow_of w) (sym (t.rolls-Case k ts)) ∙ fold-roll-Term FlowAt (flow_of_step w) (Term-F.Case k ts)
 
 pub flow_of_within : (w : Action → ℕ) (c : Option Num) (bs : List ℕ) (b : Term)
     → flow_of w (t.Within c bs b) ≡ flow_of_step w (Term-F.Within c bs (flow_of w b))
 flow_of_within w c bs b = ap (flow_of w) (sym (t.rolls-Within c bs b))
-    ∙ fold-roll-Term Flow (flow_of_step w) (Term-F.Within c bs b)
+    ∙ fold-roll-Term FlowAt (flow_of_step w) (Term-F.Within c bs b)
 
 pub ruleset flow_of_forms =
     (flow_of_skip, flow_of_act, flow_of_seq, flow_of_par, flow_of_loop, flow_of_spread, flow_of_case, flow_of_within)

@@ -1,32 +1,51 @@
 -- The sum of a flow is that of its term.
-use Rattle.std.proofs.Common.{◌≡◌, ℕ, zero, suc, ◌+◌, ◌-◌, ◌≤◌, max, Bool, true, false, List, [], ◌∷◌, map, Option}
-use Rattle.std.proofs.Common.{Some, None, ℤ, pos, negsuc, refl, sym, ap, ap₂, ◌∙◌, subst, arith}
+use Rattle.std.proofs.Common.{◌≡◌, ℕ, zero, suc, ◌+◌, ◌-◌, ◌<◌, ◌≤◌, max, Bool, true, false, List, [], ◌∷◌, ◌++◌, map}
+use Rattle.std.proofs.Common.{length, get_or, drop, Option, Some, None, ℤ, pos, negsuc, refl, sym, ap, ap₂, ◌∙◌}
+use Rattle.std.proofs.Common.{subst, arith}
 use Rattle.std.specs.Prelude.{◌==◌, ◌||◌, if◌then◌else◌}
-use Rattle.std.proofs.lemmas.Bool.{eqb-true}
+use Rattle.std.proofs.lemmas.Bool.{eq-eqb, eqb-true}
+use Rattle.sq_ir.specs.Machines.{AreNodes}
+use Rattle.sq_ir.specs.Traffic.{level_in}
+use Rattle.sq_ir.specs.Written as whole
+use Rattle.sq_ir.specs.Written.{Setting, at_root, node_of, count_of, value_of, inside_of}
+use Rattle.sq_ir.specs.Plans.{node_at, placed, setting_of, HasValue, IsCount, IsChild, AskedOfTerms, each_part, this_arm}
+use Rattle.sq_ir.specs.Plans.{Meets}
 use Rattle.sq_ir.specs.declared.num.Num.{Num}
 use Rattle.sq_ir.specs.declared.term.Action.{Action}
 use Rattle.sq_ir.specs.declared.term.Term.{Term, roll-Term}
 use Rattle.sq_ir.specs.declared.term.Term.TheVariants as t
 use Rattle.sq_ir.specs.declared.term.Term.TheOpen.{Term-F}
 use Rattle.sq_ir.specs.declared.term.Term.TheFolds.{ind-Term, map-Term}
+use Rattle.sq_ir.specs.declared.plan.Buffer.{Buffer}
 use Rattle.sq_ir.specs.declared.plan.PlanNode.{PlanNode}
+use Rattle.sq_ir.specs.declared.plan.Plan.{Plan}
+use Rattle.sq_ir.proofs.Meeting.{meets_skip, meets_act, meets_seq, meets_par, meets_loop, meets_spread, meets_case}
+use Rattle.sq_ir.proofs.Meeting.{meets_within}
+use Rattle.sq_nums.specs.Laws as nums
 use Rattle.sq_nums.specs.Words.{nat_part, value, count}
+use Rattle.sq_nums.proofs.Values.{value-is, count-is}
 use Rattle.sq_nests.specs.Stacks.{capped}
+use Rattle.sq_nests.proofs.Machines.{layered, child-there, root-there}
 use Rattle.sq_sums.specs.declared.flow.Flow.{Flow, roll-Flow}
 use Rattle.sq_sums.specs.declared.flow.Flow.TheVariants as f
 use Rattle.sq_sums.specs.declared.flow.Flow.TheOpen.{Flow-F}
 use Rattle.sq_sums.specs.declared.flow.Flow.TheFolds.{ind-Flow, map-Flow}
-use Rattle.sq_sums.specs.Tops.{Stand, at_turn, env_at}
+use Rattle.sq_sums.specs.Tops.{Stand, at_turn, env_at, child_at}
 use Rattle.sq_sums.specs.Regions.{loops_in, names_children}
 use Rattle.sq_sums.specs.Sums.{fan_at}
-use Rattle.sq_sums.specs.Tolls.{SumAt, all_sum, each_sum, arm_sum_of, arm_sum, at_child_word, scope_sum, sum_of}
-use Rattle.sq_sums.specs.Flows.{env_turns, flow_sum, most_loops, flow_loops, settle, flow_of, any_asks, asks}
+use Rattle.sq_sums.specs.Tolls.{InScope, SumAt, all_sum, each_sum, arm_sum_of, arm_sum, at_child_word, scope_sum, sum_of}
+use Rattle.sq_sums.specs.Tolls.{IsTolled}
+use Rattle.sq_sums.specs.Fans.{are_even, fans_inside}
+use Rattle.sq_sums.specs.Flows.{env_turns, flow_sum, most_loops, flow_loops, settle, FlowAt, flows_at, flow_of, any_asks}
+use Rattle.sq_sums.specs.Flows.{asks}
 use Rattle.sq_sums.proofs.SumForms.{sum_skip, sum_act, sum_seq, sum_par, sum_loop, sum_spread, sum_case, sum_within}
 use Rattle.sq_sums.proofs.FlowOfForms.{flow_of_skip, flow_of_act, flow_of_seq, flow_of_par, flow_of_loop}
 use Rattle.sq_sums.proofs.FlowOfForms.{flow_of_spread, flow_of_case, flow_of_within, asks_skip, asks_act, asks_seq}
 use Rattle.sq_sums.proofs.FlowOfForms.{asks_par, asks_loop, asks_spread, asks_case, asks_within}
 use Rattle.sq_sums.proofs.FlowForms.{flow_bytes, flow_parts, flow_each, flow_arm, loops_parts, loops_each, loops_arm}
 use Rattle.sq_sums.proofs.Closed.{SameTurns, value_fixed, value_apart}
+use Rattle.sq_sums.proofs.Evening.{AreTold, told_all, told_below}
+use Rattle.sq_sums.proofs.Events.{if-true, capped_in}
 
 -- ---- sums that stop
 
@@ -42,13 +61,13 @@ twice_of : (b : ℕ) → capped b ≡ capped (capped b)
 unfolding capped
 twice_of b = omega arith
 
-or_left : (u v : Bool) → (u || v) ≡ false → u ≡ false
-or_left false v h = refl
-or_left true v h = absurd (let z = h in cc)
+in_left : (u v : Bool) → u ≡ true → (u || v) ≡ true
+in_left true v h = refl
+in_left false v h = absurd (let z = h in cc)
 
-or_right : (u v : Bool) → (u || v) ≡ false → v ≡ false
-or_right false v h = h
-or_right true v h = absurd (let z = h in cc)
+in_right : (u v : Bool) → v ≡ true → (u || v) ≡ true
+in_right true v h = refl
+in_right false v h = h
 
 -- ---- iterations
 
@@ -102,9 +121,9 @@ arm_at_fixed : (xs : List FixedFlow) (z : ℤ) (ts us : List ℕ)
 arm_at_fixed xs (pos k) ts us s = arm_of_fixed xs k ts us s
 arm_at_fixed xs (negsuc k) ts us s = refl
 
-number_fixed : (c : Num) (l : ℕ) (ts us : List ℕ) → SameTurns l ts us → loops_in c ≤ l
-    → value c (env_turns ts) ≡ value c (env_turns us)
-number_fixed c l ts us s h = value_fixed l ts us s 0 c h
+number_fixed : (c : Num) (n l : ℕ) (ts us : List ℕ) → SameTurns l ts us → loops_in c ≤ l
+    → value c (env_turns n ts) ≡ value c (env_turns n us)
+number_fixed c n l ts us s h = value_fixed l ts us s n c h
 
 each_fixed : (x : FixedFlow) (n i : ℕ) (ts us : List ℕ) → SameTurns (flow_loops x.0 - 1) ts us
     → each_sum n (λ j. flow_sum x.0 (j ∷ ts)) i ≡ each_sum n (λ j. flow_sum x.0 (j ∷ us)) i
@@ -121,23 +140,23 @@ fixed_step (Flow-F.Parts xs) = subst IsFixed (sym (f.rolls-Parts (flows_of xs)))
     at_flow (f.Parts (flows_of xs)) _ ts (flow_parts (flows_of xs))
     ∙ ap capped (all_fixed xs ts us (subst (λ l. SameTurns l ts us) (loops_parts (flows_of xs)) s))
     ∙ sym (at_flow (f.Parts (flows_of xs)) _ us (flow_parts (flows_of xs))))
-fixed_step (Flow-F.Each c x) = subst IsFixed (sym (f.rolls-Each c x.0)) (λ ts us s.
+fixed_step (Flow-F.Each c n x) = subst IsFixed (sym (f.rolls-Each c n x.0)) (λ ts us s.
     let k = flow_loops x.0 - 1 in
     let l = max (loops_in c) k in
-    let z : SameTurns l ts us = subst (λ l. SameTurns l ts us) (loops_each c x.0) s in
-    at_flow (f.Each c x.0) _ ts (flow_each c x.0)
+    let z : SameTurns l ts us = subst (λ l. SameTurns l ts us) (loops_each c n x.0) s in
+    at_flow (f.Each c n x.0) _ ts (flow_each c n x.0)
     ∙ ap (λ z. capped (each_sum (nat_part z) (λ j. flow_sum x.0 (j ∷ ts)) 0))
-    (number_fixed c l ts us z (left_most (loops_in c) k))
-    ∙ ap capped (each_fixed x (count c (env_turns us)) 0 ts us (fewer k l ts us (right_most (loops_in c) k) z))
-    ∙ sym (at_flow (f.Each c x.0) _ us (flow_each c x.0)))
-fixed_step (Flow-F.Arm k xs) = subst IsFixed (sym (f.rolls-Arm k (flows_of xs))) (λ ts us s.
+    (number_fixed c n l ts us z (left_most (loops_in c) k))
+    ∙ ap capped (each_fixed x (count c (env_turns n us)) 0 ts us (fewer k l ts us (right_most (loops_in c) k) z))
+    ∙ sym (at_flow (f.Each c n x.0) _ us (flow_each c n x.0)))
+fixed_step (Flow-F.Arm k n xs) = subst IsFixed (sym (f.rolls-Arm k n (flows_of xs))) (λ ts us s.
     let m = most_loops (map flow_loops (flows_of xs)) in
     let l = max (loops_in k) m in
-    let z : SameTurns l ts us = subst (λ l. SameTurns l ts us) (loops_arm k (flows_of xs)) s in
-    at_flow (f.Arm k (flows_of xs)) _ ts (flow_arm k (flows_of xs))
-    ∙ ap (λ z. arm_sum (map flow_sum (flows_of xs)) z ts) (number_fixed k l ts us z (left_most (loops_in k) m))
-    ∙ arm_at_fixed xs (value k (env_turns us)) ts us (fewer m l ts us (right_most (loops_in k) m) z)
-    ∙ sym (at_flow (f.Arm k (flows_of xs)) _ us (flow_arm k (flows_of xs))))
+    let z : SameTurns l ts us = subst (λ l. SameTurns l ts us) (loops_arm k n (flows_of xs)) s in
+    at_flow (f.Arm k n (flows_of xs)) _ ts (flow_arm k n (flows_of xs))
+    ∙ ap (λ z. arm_sum (map flow_sum (flows_of xs)) z ts) (number_fixed k n l ts us z (left_most (loops_in k) m))
+    ∙ arm_at_fixed xs (value k (env_turns n us)) ts us (fewer m l ts us (right_most (loops_in k) m) z)
+    ∙ sym (at_flow (f.Arm k n (flows_of xs)) _ us (flow_arm k n (flows_of xs))))
 
 pub are_fixed : (g : Flow) → IsFixed g
 are_fixed = ind-Flow IsFixed (λ x y is. subst (λ z. IsFixed (roll-Flow z)) is (fixed_step y))
@@ -154,16 +173,67 @@ settle_sum g ts = by (flow_loops g == 0) refl
 
 -- ---- sums
 
-module _ (ns : List PlanNode) (w : Action → ℕ) where
-  abbrev at : List ℕ → (n h : ℕ) → Stand
-  at ts n h = record { turns = ts; node = n; held = h }
+each_capped : (n : ℕ) (g h : ℕ → ℕ) (i : ℕ) → ((j : ℕ) → j < i + n → g j ≡ capped (h j))
+    → capped (each_sum n g i) ≡ capped (each_sum n h i)
+unfolding each_sum
+each_capped zero g h i e = refl
+each_capped (suc n) g h i e =
+    add_of (g i) (h i) (each_sum n g (i + 1)) (each_sum n h (i + 1)) (e i (omega arith))
+    (each_capped n g h (i + 1) (λ j l. e j (omega (arith, l))))
 
-  -- a flow has the sum of a term
-  abbrev Has : Bool → Flow → SumAt → Type 0
-  Has a g b = a ≡ false → (ts : List ℕ) (n h : ℕ) → flow_sum g ts ≡ capped (b (at ts n h))
+module _ (buffers : List Buffer) (nodes : List PlanNode) (offset : ℕ → ℕ) (are : AreNodes nodes) (w : Action → ℕ) where
+  abbrev s : Setting
+  s = placed buffers nodes offset
+
+  -- where a part of a term stands, and the node in force there, which is one of its level
+  pub record Stands (env : whole.Env) (at : Stand) : Type 0 where
+    pub turns : at.turns ≡ env.turns
+    pub here : at.node ≡ node_of env
+    pub there : at.node < length nodes
+    pub level : level_in nodes at.node ≡ env.level
+
+  numbers : (env : whole.Env) (at : Stand) → Stands env at → nums.Agree s env (env_at nodes at)
+  numbers env at st = record { turns = st.turns; children = ap (λ n. (node_at nodes n).children) st.here }
+
+  stands_turn : (env : whole.Env) (at : Stand) (j : ℕ) → Stands env at → Stands (whole.at_turn env j) (at_turn at j)
+  stands_turn env at j st = record {
+    turns = ap (λ ts. j ∷ ts) st.turns;
+    here = st.here;
+    there = st.there;
+    level = st.level;
+  }
+
+  stands_child : (env : whole.Env) (at : Stand) (c : Num) → IsChild s env (Some c) → Stands env at
+      → Stands (inside_of s env (Some c)) (at_child_word nodes (count_of s c env) at)
+  stands_child env at c h st = record {
+    turns = st.turns;
+    here = is ∙ sym (if-true (suc env.level == suc env.level) child (env.nodes (suc env.level))
+        (eq-eqb (suc env.level) (suc env.level) refl));
+    there = subst (λ n. n < length nodes) (sym is) there;
+    level = ap (level_in nodes) is ∙ (layered buffers nodes offset are).below (node_of env) (count_of s c env) h.1
+        ∙ ap suc (ap (level_in nodes) (sym st.here) ∙ st.level);
+  }
+    where
+      child : ℕ
+      child = s.child (node_of env) (count_of s c env)
+
+      there : child < length nodes
+      there = child-there nodes (node_of env) (count_of s c env) are h.1
+
+      few : length nodes ≤ 4096
+      few = are.few
+
+      is : capped (child_at nodes at.node (count_of s c env)) ≡ child
+      is = ap (λ n. capped (child_at nodes n (count_of s c env))) st.here
+          ∙ capped_in child (omega (arith, few, there))
+
+  -- A flow has the sum of a term where this stands, if the numbers of children are told that the term asks for.
+  abbrev Has : AskedOfTerms → Bool → FlowAt → SumAt → Type 0
+  Has m a g b = (env : whole.Env) (bs : List ℕ) (at : Stand) (fs : List ℕ) → m env bs → Stands env at
+      → (a ≡ true → AreTold nodes fs env.level) → flow_sum (g fs) at.turns ≡ capped (b at)
 
   abbrev Good : Term → Type 0
-  Good x = Has (asks x) (flow_of w x) (sum_of ns w x)
+  Good x = Has (Meets s InScope x) (asks x) (flow_of w x) (sum_of nodes w x)
 
   abbrev G : Type 0
   G = (x : Term) × Good x
@@ -171,111 +241,160 @@ module _ (ns : List PlanNode) (w : Action → ℕ) where
   abbrev terms : List G → List Term
   terms xs = map (λ x. x.0) xs
 
-  abbrev flows : List G → List Flow
-  flows xs = map (flow_of w) (terms xs)
+  abbrev flows : List G → List ℕ → List Flow
+  flows xs = flows_at (map (flow_of w) (terms xs))
 
-  settled : (a : Bool) (g : Flow) (b : SumAt) → Has a g b → Has a (settle g) b
-  settled a g b p q ts n h = settle_sum g ts ∙ p q ts n h
+  abbrev ask : List G → Bool
+  ask xs = any_asks (map asks (terms xs))
 
-  all_have : (xs : List G) → any_asks (map asks (terms xs)) ≡ false → (ts : List ℕ) (n h : ℕ)
-      → capped (all_sum (map flow_sum (flows xs)) ts) ≡ capped (all_sum (map (sum_of ns w) (terms xs)) (at ts n h))
-  all_have [] a ts n h = refl
-  all_have (x ∷ xs) a ts n h =
-      add_of (flow_sum (flow_of w x.0) ts) (sum_of ns w x.0 (at ts n h)) (all_sum (map flow_sum (flows xs)) ts)
-      (all_sum (map (sum_of ns w) (terms xs)) (at ts n h))
-      (x.1 (or_left (asks x.0) (any_asks (map asks (terms xs))) a) ts n h)
-      (all_have xs (or_right (asks x.0) (any_asks (map asks (terms xs))) a) ts n h)
+  all_have : (xs : List G) (env : whole.Env) (bs : List ℕ) (at : Stand) (fs : List ℕ)
+      → each_part (Meets s InScope) (terms xs) env bs → Stands env at
+      → (ask xs ≡ true → AreTold nodes fs env.level)
+      → capped (all_sum (map flow_sum (flows xs fs)) at.turns)
+      ≡ capped (all_sum (map (sum_of nodes w) (terms xs)) at)
+  all_have [] env bs at fs m st h = refl
+  all_have (x ∷ xs) env bs at fs m st h =
+      add_of (flow_sum (flow_of w x.0 fs) at.turns) (sum_of nodes w x.0 at)
+      (all_sum (map flow_sum (flows xs fs)) at.turns) (all_sum (map (sum_of nodes w) (terms xs)) at)
+      (x.1 env bs at fs m.0 st (λ a. h (in_left (asks x.0) (ask xs) a)))
+      (all_have xs env bs at fs m.1 st (λ a. h (in_right (asks x.0) (ask xs) a)))
 
-  parts_have : (xs : List G) → Has (any_asks (map asks (terms xs))) (settle (f.Parts (flows xs)))
-      (all_sum (map (sum_of ns w) (terms xs)))
-  parts_have xs = settled _ (f.Parts (flows xs)) (all_sum (map (sum_of ns w) (terms xs)))
-      (λ a ts n h. at_flow (f.Parts (flows xs)) _ ts (flow_parts (flows xs)) ∙ all_have xs a ts n h)
+  parts_have : (xs : List G) → Has (each_part (Meets s InScope) (terms xs)) (ask xs)
+      (λ fs. settle (f.Parts (flows xs fs))) (all_sum (map (sum_of nodes w) (terms xs)))
+  parts_have xs env bs at fs m st h =
+      settle_sum (f.Parts (flows xs fs)) at.turns
+      ∙ at_flow (f.Parts (flows xs fs)) _ at.turns (flow_parts (flows xs fs)) ∙ all_have xs env bs at fs m st h
 
-  arm_of_have : (xs : List G) (k : ℕ) → any_asks (map asks (terms xs)) ≡ false → (ts : List ℕ) (n h : ℕ)
-      → arm_sum_of (map flow_sum (flows xs)) k ts ≡ capped (arm_sum_of (map (sum_of ns w) (terms xs)) k (at ts n h))
-  arm_of_have [] k a ts n h = none_of
-  arm_of_have (x ∷ xs) zero a ts n h = x.1 (or_left (asks x.0) (any_asks (map asks (terms xs))) a) ts n h
-  arm_of_have (x ∷ xs) (suc k) a ts n h =
-      arm_of_have xs k (or_right (asks x.0) (any_asks (map asks (terms xs))) a) ts n h
+  arm_of_has : (xs : List G) (k : ℕ) (env : whole.Env) (bs : List ℕ) (at : Stand) (fs : List ℕ)
+      → this_arm (Meets s InScope) (terms xs) (pos k) env bs → Stands env at
+      → (ask xs ≡ true → AreTold nodes fs env.level)
+      → arm_sum_of (map flow_sum (flows xs fs)) k at.turns
+      ≡ capped (arm_sum_of (map (sum_of nodes w) (terms xs)) k at)
+  arm_of_has [] k env bs at fs m st h = none_of
+  arm_of_has (x ∷ xs) zero env bs at fs m st h =
+      x.1 env bs at fs m st (λ a. h (in_left (asks x.0) (ask xs) a))
+  arm_of_has (x ∷ xs) (suc k) env bs at fs m st h =
+      arm_of_has xs k env bs at fs m st (λ a. h (in_right (asks x.0) (ask xs) a))
 
-  arm_at_have : (xs : List G) (z : ℤ) → any_asks (map asks (terms xs)) ≡ false → (ts : List ℕ) (n h : ℕ)
-      → arm_sum (map flow_sum (flows xs)) z ts ≡ capped (arm_sum (map (sum_of ns w) (terms xs)) z (at ts n h))
-  arm_at_have xs (pos k) a ts n h = arm_of_have xs k a ts n h
-  arm_at_have xs (negsuc k) a ts n h = none_of
+  arm_at_has : (xs : List G) (z : ℤ) (env : whole.Env) (bs : List ℕ) (at : Stand) (fs : List ℕ)
+      → this_arm (Meets s InScope) (terms xs) z env bs → Stands env at
+      → (ask xs ≡ true → AreTold nodes fs env.level)
+      → arm_sum (map flow_sum (flows xs fs)) z at.turns
+      ≡ capped (arm_sum (map (sum_of nodes w) (terms xs)) z at)
+  arm_at_has xs (pos k) env bs at fs m st h = arm_of_has xs k env bs at fs m st h
+  arm_at_has xs (negsuc k) env bs at fs m st h = none_of
 
-  number_is : (c : Num) → names_children c ≡ false → (ts : List ℕ) (n h : ℕ)
-      → value c (env_turns ts) ≡ value c (env_at ns (at ts n h))
-  number_is c e ts n h = value_apart ts 0 (fan_at ns n) c e
+  -- a number that names how many children there are is told
+  number_is : (c : Num) (env : whole.Env) (at : Stand) (fs : List ℕ) → Stands env at
+      → (names_children c ≡ true → AreTold nodes fs env.level)
+      → value c (env_turns (get_or fs 0 0) at.turns) ≡ value c (env_at nodes at)
+  number_is c env at fs st h = by (names_children c) refl
+    where
+      by : (v : Bool) → names_children c ≡ v
+          → value c (env_turns (get_or fs 0 0) at.turns) ≡ value c (env_at nodes at)
+      by true e =
+          let l = st.level in
+          ap (λ n. value c (env_turns n at.turns)) (sym (h e at.node 0 st.there (omega (arith, l))))
+      by false e = value_apart at.turns (get_or fs 0 0) (fan_at nodes at.node) c e
 
-  arm_has : (k : Num) (xs : List G) → Has (names_children k || any_asks (map asks (terms xs)))
-      (settle (f.Arm k (flows xs))) (λ p. arm_sum (map (sum_of ns w) (terms xs)) (value k (env_at ns p)) p)
-  arm_has k xs = settled _ (f.Arm k (flows xs)) (λ p.
-      arm_sum (map (sum_of ns w) (terms xs)) (value k (env_at ns p)) p) (λ a ts n h.
-      at_flow (f.Arm k (flows xs)) _ ts (flow_arm k (flows xs))
-      ∙ ap (λ z. arm_sum (map flow_sum (flows xs)) z ts)
-      (number_is k (or_left (names_children k) (any_asks (map asks (terms xs))) a) ts n h)
-      ∙ arm_at_have xs (value k (env_at ns (at ts n h)))
-      (or_right (names_children k) (any_asks (map asks (terms xs))) a) ts n h)
+  arm_has : (k : Num) (xs : List G)
+      → Has (λ env bs. HasValue s k env × this_arm (Meets s InScope) (terms xs) (value_of s k env) env bs)
+      (names_children k || ask xs) (λ fs. settle (f.Arm k (get_or fs 0 0) (flows xs fs)))
+      (λ p. arm_sum (map (sum_of nodes w) (terms xs)) (value k (env_at nodes p)) p)
+  arm_has k xs env bs at fs m st h =
+      let is = value-is s env (env_at nodes at) (numbers env at st) k m.0 in
+      settle_sum (f.Arm k (get_or fs 0 0) (flows xs fs)) at.turns
+      ∙ at_flow (f.Arm k (get_or fs 0 0) (flows xs fs)) _ at.turns (flow_arm k (get_or fs 0 0) (flows xs fs))
+      ∙ ap (λ z. arm_sum (map flow_sum (flows xs fs)) z at.turns)
+      (number_is k env at fs st (λ a. h (in_left (names_children k) (ask xs) a)) ∙ is)
+      ∙ arm_at_has xs (value_of s k env) env bs at fs m.1 st (λ a. h (in_right (names_children k) (ask xs) a))
+      ∙ ap (λ z. capped (arm_sum (map (sum_of nodes w) (terms xs)) z at)) (sym is)
 
-  each_have : (x : G) (c i : ℕ) → asks x.0 ≡ false → (ts : List ℕ) (n h : ℕ)
-      → capped (each_sum c (λ j. flow_sum (flow_of w x.0) (j ∷ ts)) i)
-      ≡ capped (each_sum c (λ j. sum_of ns w x.0 (at (j ∷ ts) n h)) i)
-  unfolding each_sum
-  each_have x zero i a ts n h = refl
-  each_have x (suc c) i a ts n h =
-      add_of (flow_sum (flow_of w x.0) (i ∷ ts)) (sum_of ns w x.0 (at (i ∷ ts) n h))
-      (each_sum c (λ j. flow_sum (flow_of w x.0) (j ∷ ts)) (i + 1))
-      (each_sum c (λ j. sum_of ns w x.0 (at (j ∷ ts) n h)) (i + 1))
-      (x.1 a (i ∷ ts) n h) (each_have x c (i + 1) a ts n h)
+  -- the turns of a loop
+  each_has : (c : Num) (x : G) (env : whole.Env) (bs : List ℕ) (at : Stand) (fs : List ℕ) → IsCount s env c
+      → ((j : ℕ) → j < count_of s c env → Meets s InScope x.0 (whole.at_turn env j) bs) → Stands env at
+      → ((names_children c || asks x.0) ≡ true → AreTold nodes fs env.level)
+      → flow_sum (settle (f.Each c (get_or fs 0 0) (flow_of w x.0 fs))) at.turns
+      ≡ capped (each_sum (count c (env_at nodes at)) (λ j. sum_of nodes w x.0 (at_turn at j)) 0)
+  each_has c x env bs at fs i m st h =
+      let is = count-is s env (env_at nodes at) (numbers env at st) c i in
+      settle_sum (f.Each c (get_or fs 0 0) (flow_of w x.0 fs)) at.turns
+      ∙ at_flow (f.Each c (get_or fs 0 0) (flow_of w x.0 fs)) _ at.turns
+      (flow_each c (get_or fs 0 0) (flow_of w x.0 fs))
+      ∙ ap (λ z. capped (each_sum (nat_part z) (λ j. flow_sum (flow_of w x.0 fs) (j ∷ at.turns)) 0))
+      (number_is c env at fs st (λ a. h (in_left (names_children c) (asks x.0) a)))
+      ∙ each_capped (count c (env_at nodes at)) (λ j. flow_sum (flow_of w x.0 fs) (j ∷ at.turns))
+      (λ j. sum_of nodes w x.0 (at_turn at j)) 0 (λ j l.
+      x.1 (whole.at_turn env j) bs (at_turn at j) fs (m j (omega (arith, l, is))) (stands_turn env at j st)
+      (λ a. h (in_right (names_children c) (asks x.0) a)))
 
-  each_has : (c : Num) (x : G) → Has (names_children c || asks x.0) (settle (f.Each c (flow_of w x.0)))
-      (λ p. each_sum (count c (env_at ns p)) (λ j. sum_of ns w x.0 (at_turn p j)) 0)
-  each_has c x = settled _ (f.Each c (flow_of w x.0))
-      (λ p. each_sum (count c (env_at ns p)) (λ j. sum_of ns w x.0 (at_turn p j)) 0) (λ a ts n h.
-      at_flow (f.Each c (flow_of w x.0)) _ ts (flow_each c (flow_of w x.0))
-      ∙ ap (λ z. capped (each_sum (nat_part z) (λ j. flow_sum (flow_of w x.0) (j ∷ ts)) 0))
-      (number_is c (or_left (names_children c) (asks x.0) a) ts n h)
-      ∙ each_have x (count c (env_at ns (at ts n h))) 0 (or_right (names_children c) (asks x.0) a) ts n h)
+  scope_has : (c : Option Num) (new : List ℕ) (x : G) (env : whole.Env) (bs : List ℕ) (at : Stand) (fs : List ℕ)
+      → IsChild s env c → Meets s InScope x.0 (inside_of s env c) (new ++ bs) → Stands env at
+      → (asks x.0 ≡ true → AreTold nodes fs env.level)
+      → flow_sum (flow_of w x.0 (fans_inside c fs)) at.turns ≡ capped (scope_sum nodes c (sum_of nodes w x.0) at)
+  scope_has None new x env bs at fs i m st h = x.1 env (new ++ bs) at fs m st h
+  scope_has (Some c) new x env bs at fs i m st h =
+      x.1 (inside_of s env (Some c)) (new ++ bs) (at_child_word nodes (count_of s c env) at) (drop 1 fs) m
+      (stands_child env at c i st) (λ a. told_below nodes fs env.level (h a))
+      ∙ ap (λ k. capped (sum_of nodes w x.0 (at_child_word nodes k at)))
+      (sym (count-is s env (env_at nodes at) (numbers env at st) c i.0))
 
-  bytes_have : (v : Bool) (b : ℕ) (g : SumAt) → ((p : Stand) → b ≡ capped (g p)) → Has v (f.Bytes b) g
-  bytes_have v b g e a ts n h = at_flow (f.Bytes b) _ ts (flow_bytes b) ∙ e (at ts n h)
-
-  scope_has : (c : Option Num) (x : G) → Has (asks x.0) (flow_of w x.0) (scope_sum ns c (sum_of ns w x.0))
-  scope_has None x = x.1
-  scope_has (Some c) x = λ a ts n h. x.1 a ts (at_child_word ns (count c (env_at ns (at ts n h))) (at ts n h)).node 0
-
-  along : (x : Term) (a : Bool) (g : Flow) (b : SumAt) → asks x ≡ a → flow_of w x ≡ g → sum_of ns w x ≡ b → Has a g b
-      → Good x
-  along x a g b d e o h =
-      subst (λ (z : Bool). Has z (flow_of w x) (sum_of ns w x)) (sym d)
-      (subst (λ (z : Flow). Has a z (sum_of ns w x)) (sym e) (subst (Has a g) (sym o) h))
+  along : (x : Term) (m : AskedOfTerms) (a : Bool) (g : FlowAt) (b : SumAt) → Meets s InScope x ≡ m → asks x ≡ a
+      → flow_of w x ≡ g → sum_of nodes w x ≡ b → Has m a g b → Good x
+  along x m a g b p q e o k env bs at fs y st h =
+      ap (λ (z : FlowAt). flow_sum (z fs) at.turns) e
+      ∙ k env bs at fs (subst (λ (z : AskedOfTerms). z env bs) p y) st (λ u. h (q ∙ u))
+      ∙ sym (ap (λ (z : SumAt). capped (z at)) o)
 
   good_step : (y : Term-F G) → Good (roll-Term (map-Term G Term (λ x. x.0) y))
   good_step Term-F.Skip =
-      subst Good (sym t.rolls-Skip) (along _ _ _ _ asks_skip (flow_of_skip w) (sum_skip ns w)
-      (bytes_have _ 0 _ (λ p. none_of)))
+      subst Good (sym t.rolls-Skip) (along _ _ _ _ _ (meets_skip s InScope) asks_skip (flow_of_skip w)
+      (sum_skip nodes w) (λ env bs at fs m st h. at_flow (f.Bytes 0) _ at.turns (flow_bytes 0) ∙ none_of))
   good_step (Term-F.Act a) =
-      subst Good (sym (t.rolls-Act a)) (along _ _ _ _ (asks_act a) (flow_of_act w a) (sum_act ns w a)
-      (bytes_have _ (capped (w a)) _ (λ p. refl)))
+      subst Good (sym (t.rolls-Act a)) (along _ _ _ _ _ (meets_act s InScope a) (asks_act a) (flow_of_act w a)
+      (sum_act nodes w a)
+      (λ env bs at fs m st h. at_flow (f.Bytes (capped (w a))) _ at.turns (flow_bytes (capped (w a)))))
   good_step (Term-F.Seq xs) =
-      subst Good (sym (t.rolls-Seq (terms xs))) (along _ _ _ _ (asks_seq (terms xs)) (flow_of_seq w (terms xs))
-      (sum_seq ns w (terms xs)) (parts_have xs))
+      subst Good (sym (t.rolls-Seq (terms xs))) (along _ _ _ _ _ (meets_seq s InScope (terms xs))
+      (asks_seq (terms xs)) (flow_of_seq w (terms xs)) (sum_seq nodes w (terms xs)) (parts_have xs))
   good_step (Term-F.Par xs) =
-      subst Good (sym (t.rolls-Par (terms xs))) (along _ _ _ _ (asks_par (terms xs)) (flow_of_par w (terms xs))
-      (sum_par ns w (terms xs)) (parts_have xs))
+      subst Good (sym (t.rolls-Par (terms xs))) (along _ _ _ _ _ (meets_par s InScope (terms xs))
+      (asks_par (terms xs)) (flow_of_par w (terms xs)) (sum_par nodes w (terms xs)) (parts_have xs))
   good_step (Term-F.Loop c x) =
-      subst Good (sym (t.rolls-Loop c x.0)) (along _ _ _ _ (asks_loop c x.0) (flow_of_loop w c x.0)
-      (sum_loop ns w c x.0) (each_has c x))
+      subst Good (sym (t.rolls-Loop c x.0)) (along _ _ _ _ _ (meets_loop s InScope c x.0) (asks_loop c x.0)
+      (flow_of_loop w c x.0) (sum_loop nodes w c x.0)
+      (λ env bs at fs m st h. each_has c x env bs at fs m.0 m.1 st h))
   good_step (Term-F.Spread c u x) =
-      subst Good (sym (t.rolls-Spread c u x.0)) (along _ _ _ _ (asks_spread c u x.0) (flow_of_spread w c u x.0)
-      (sum_spread ns w c u x.0) (each_has c x))
+      subst Good (sym (t.rolls-Spread c u x.0)) (along _ _ _ _ _ (meets_spread s InScope c u x.0)
+      (asks_spread c u x.0) (flow_of_spread w c u x.0) (sum_spread nodes w c u x.0)
+      (λ env bs at fs m st h. each_has c x env bs at fs m.0 m.2 st h))
   good_step (Term-F.Case k xs) =
       subst Good (sym (t.rolls-Case k (terms xs)))
-      (along _ _ _ _ (asks_case k (terms xs)) (flow_of_case w k (terms xs)) (sum_case ns w k (terms xs))
-      (arm_has k xs))
-  good_step (Term-F.Within c bs x) =
-      subst Good (sym (t.rolls-Within c bs x.0)) (along _ _ _ _ (asks_within c bs x.0) (flow_of_within w c bs x.0)
-      (sum_within ns w c bs x.0) (scope_has c x))
+      (along _ _ _ _ _ (meets_case s InScope k (terms xs)) (asks_case k (terms xs)) (flow_of_case w k (terms xs))
+      (sum_case nodes w k (terms xs)) (arm_has k xs))
+  good_step (Term-F.Within c new x) =
+      subst Good (sym (t.rolls-Within c new x.0)) (along _ _ _ _ _ (meets_within s InScope c new x.0)
+      (asks_within c new x.0) (flow_of_within w c new x.0) (sum_within nodes w c new x.0)
+      (λ env bs at fs m st h. scope_has c new x env bs at fs m.0 m.2 st h))
 
   pub flows_have : (x : Term) → Good x
   flows_have = ind-Term Good (λ x y is. subst (λ z. Good (roll-Term z)) is (good_step y))
+
+  pub root_stands : Stands at_root (record { turns = []; node = 0; held = 0 })
+  root_stands = record {
+    turns = refl;
+    here = refl;
+    there = root-there nodes are;
+    level = (layered buffers nodes offset are).root;
+  }
+
+-- of a plan
+pub plan_flow : (p : Plan) (w : Action → ℕ) (fs : List ℕ) → IsTolled p
+    → (asks p.draft.term ≡ true → are_even p.nodes fs ≡ true)
+    → flow_sum (flow_of w p.draft.term fs) []
+    ≡ capped (sum_of p.nodes w p.draft.term (record { turns = []; node = 0; held = 0 }))
+plan_flow p w fs h e =
+    let b = p.draft.buffers in
+    let o = (setting_of p).offset in
+    flows_have b p.nodes o h.machine w p.draft.term at_root p.draft.entry (record { turns = []; node = 0; held = 0 })
+    fs h.term (root_stands b p.nodes o h.machine w) (λ a. told_all p.nodes fs (e a))

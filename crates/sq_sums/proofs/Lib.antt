@@ -19,6 +19,7 @@ pub mod Gathering
 pub mod SumForms
 pub mod FlowOfForms
 pub mod FlowForms
+pub mod Evening
 pub mod Flowing
 pub mod Events
 pub mod Running

@@ -9,5 +9,6 @@ pub mod Sums
 pub mod Laws
 pub mod Totals
 pub mod Tolls
+pub mod Fans
 pub mod Flows
 pub mod Counters

@@ -1,14 +1,17 @@
 //! Sums of a term's actions, each closed part summed once.
 
-ghost use Rattle.std.specs.Prelude.{◌≡◌, ◌+◌, ◌*◌, ◌∷◌, ◌++◌, map, [], IfOk};
+ghost use Rattle.std.specs.Prelude.{◌≡◌, ◌+◌, ◌*◌, ◌∷◌, ◌++◌, map, get_or, [], IfOk};
 ghost use Rattle.sq_nests.specs.Stacks.{capped};
 ghost use Rattle.sq_nums.specs.Words.{turns_of, env_of};
 ghost use Rattle.sq_sums.specs.Counters.{toll_by};
+ghost use Rattle.sq_sums.specs.Fans.{fans_inside};
 ghost use Rattle.sq_sums.specs.Tolls.{all_sum, each_sum, arm_sum_of};
 ghost use Rattle.sq_sums.specs.declared.flow.Flow.TheVariants as each;
 ghost use Rattle.sq_sums.specs.Flows as flows;
-ghost use Rattle.sq_sums.specs.Flows.{env_turns, flow_sum, flow_loops, most_loops, settle, flow_of, asks, all_ask};
+ghost use Rattle.sq_sums.specs.Flows.{env_turns, flow_sum, flow_loops, most_loops, settle, flows_at, flow_of, asks};
+ghost use Rattle.sq_sums.specs.Flows.{all_ask};
 
+use crate::fans::{fan_at, fans_inside};
 use crate::region::{greater, loops_in, names_children};
 use crate::route::Number;
 use crate::scale::capped_sum;
@@ -19,13 +22,14 @@ use sq_nums::{Env, Turns, count_of};
 use sqlite_items::{Boxed as Box, Items};
 use std::alloc::{AllocError, Global};
 
-/// A term whose closed parts are summed already.
+/// A term whose closed parts are summed already. With a number stands how many children the node has at which it is
+/// evaluated.
 #[derive(Drop)]
 pub(crate) enum Flow<'a> {
     Bytes(u64),
     Parts(Items<Flow<'a>>),
-    Each(Number<'a>, Box<Flow<'a>>),
-    Arm(Number<'a>, Items<Flow<'a>>),
+    Each(Number<'a>, u32, Box<Flow<'a>>),
+    Arm(Number<'a>, u32, Items<Flow<'a>>),
 }
 
 /// What is summed of the actions on these buffers.
@@ -41,13 +45,13 @@ pub(crate) struct Under<'a> {
     pub(crate) turns: &'a Turns<'a>,
 }
 
-// What numbers are evaluated with.
-fn env<'a>(at: &Under<'a>) -> Env<'a>
-    ensures { env_of result ≡ env_turns (turns_of at.now.turns.now) }
+// What numbers are evaluated with at a node with so many children.
+fn env<'a>(at: &Under<'a>, children: u32) -> Env<'a>
+    ensures { env_of result ≡ env_turns children (turns_of at.now.turns.now) }
 {
     Env {
         turns: at.turns,
-        children: 0,
+        children,
     }
 }
 
@@ -60,12 +64,12 @@ pub(crate) fn sum(flow: &Flow<'_>, at: &Under<'_>) -> u64
     match flow {
         Flow::Bytes(bytes) => *bytes,
         Flow::Parts(parts) => sum_all(parts.as_slice(), at),
-        Flow::Each(count, inside) => {
-            let n = count_of(count.number(), &env(at));
+        Flow::Each(count, children, inside) => {
+            let n = count_of(count.number(), &env(at, *children));
             sum_turns(inside.get(), n, at)
         }
-        Flow::Arm(pick, arms) => {
-            let i = arm_for(pick.number(), &env(at), arms.len());
+        Flow::Arm(pick, children, arms) => {
+            let i = arm_for(pick.number(), &env(at, *children), arms.len());
             sum_arm(arms.as_slice(), i, at)
         }
     }
@@ -129,11 +133,11 @@ fn flow_loops(flow: &Flow<'_>) -> u64
     match flow {
         Flow::Bytes(_) => 0,
         Flow::Parts(parts) => most_loops(parts.as_slice()),
-        Flow::Each(count, inside) => greater(
+        Flow::Each(count, _, inside) => greater(
             loops_in(count.number()),
             flow_loops(inside.get()).saturating_sub(1),
         ),
-        Flow::Arm(pick, arms) => greater(loops_in(pick.number()), most_loops(arms.as_slice())),
+        Flow::Arm(pick, _, arms) => greater(loops_in(pick.number()), most_loops(arms.as_slice())),
     }
 }
 
@@ -161,48 +165,58 @@ fn settle(flow: Flow<'_>) -> Flow<'_>
     flow
 }
 
-/// The flow of a term.
+/// The flow of a term, at a node of which and of the levels below it so many children are told.
 #[cycle(making)]
 #[tactic(auto, using(crate::proofs::FlowOfForms::flow_of_forms))]
-pub(crate) fn flow_of<'a>(alloc: Global, on: &Toll<'_>, t: &'a Term) -> Result<Flow<'a>, AllocError>
-    ensures { IfOk result (λ g. g ≡ flow_of (toll_by on.now) t.now) }
+pub(crate) fn flow_of<'a>(
+    alloc: Global,
+    on: &Toll<'_>,
+    fans: &[u32],
+    t: &'a Term,
+) -> Result<Flow<'a>, AllocError>
+    ensures { IfOk result (λ g. g ≡ flow_of (toll_by on.now) t.now fans.now) }
 {
     match t {
         Term::Skip => Ok(Flow::Bytes(0)),
         Term::Act(action) => Ok(Flow::Bytes(word(toll(on.buffers, on.kind, action)))),
         Term::Seq(ts) => {
-            let parts = flows_of(alloc, on, ts.as_slice())?;
+            let parts = flows_of(alloc, on, fans, ts.as_slice())?;
             Ok(settle(Flow::Parts(parts)))
         }
         Term::Par(ts) => {
-            let parts = flows_of(alloc, on, ts.as_slice())?;
+            let parts = flows_of(alloc, on, fans, ts.as_slice())?;
             Ok(settle(Flow::Parts(parts)))
         }
-        Term::Loop { count, body } => each_of(alloc, on, count, body.get()),
+        Term::Loop { count, body } => each_of(alloc, on, fans, count, body.get()),
         Term::Spread {
             count,
             rule: _,
             body,
-        } => each_of(alloc, on, count, body.get()),
+        } => each_of(alloc, on, fans, count, body.get()),
         Term::Case { pick, arms } => {
-            let arms = flows_of(alloc, on, arms.as_slice())?;
-            Ok(settle(Flow::Arm(Number::new(pick), arms)))
+            let arms = flows_of(alloc, on, fans, arms.as_slice())?;
+            Ok(settle(Flow::Arm(Number::new(pick), fan_at(fans, 0), arms)))
         }
         Term::Within {
-            child: _,
+            child,
             buffers: _,
             body,
-        } => flow_of(alloc, on, body.get()),
+        } => flow_of(alloc, on, fans_inside(fans, child), body.get()),
     }
 }
 
 #[cycle(making)]
-fn flows_of<'a>(alloc: Global, on: &Toll<'_>, ts: &'a [Term]) -> Result<Items<Flow<'a>>, AllocError>
-    ensures { IfOk result (λ gs. gs ≡ map (flow_of (toll_by on.now)) ts.now) }
+fn flows_of<'a>(
+    alloc: Global,
+    on: &Toll<'_>,
+    fans: &[u32],
+    ts: &'a [Term],
+) -> Result<Items<Flow<'a>>, AllocError>
+    ensures { IfOk result (λ gs. gs ≡ flows_at (map (flow_of (toll_by on.now)) ts.now) fans.now) }
 {
     let mut flows = Items::new(alloc);
     for t in ts {
-        let flow = flow_of(alloc, on, t)?;
+        let flow = flow_of(alloc, on, fans, t)?;
         flows.push(flow)?;
     }
     Ok(flows)
@@ -212,14 +226,16 @@ fn flows_of<'a>(alloc: Global, on: &Toll<'_>, ts: &'a [Term]) -> Result<Items<Fl
 fn each_of<'a>(
     alloc: Global,
     on: &Toll<'_>,
+    fans: &[u32],
     count: &'a Num,
     body: &'a Term,
 ) -> Result<Flow<'a>, AllocError>
-    ensures { IfOk result (λ g. g ≡ flows.settle (each.Each count.now (flow_of (toll_by on.now) body.now))) }
+    ensures { IfOk result (λ g. g ≡ flows.settle (each.Each count.now (get_or fans.now 0 0)
+        (flow_of (toll_by on.now) body.now fans.now))) }
 {
-    let inside = flow_of(alloc, on, body)?;
+    let inside = flow_of(alloc, on, fans, body)?;
     let inside = Box::new(alloc, inside)?;
-    Ok(settle(Flow::Each(Number::new(count), inside)))
+    Ok(settle(Flow::Each(Number::new(count), fan_at(fans, 0), inside)))
 }
 
 /// Whether a count or a pick of a term asks for the number of children.

@@ -3,6 +3,7 @@
 #![tactic(auto)]
 
 mod edges;
+mod fans;
 mod flow;
 pub mod laws;
 mod marks;

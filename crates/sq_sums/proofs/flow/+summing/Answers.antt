@@ -54,10 +54,10 @@ sum_turns-returns-in-Bytes t c =
 pub sum-returns-in-Arm : goal.sum-returns-in-Arm
 sum-returns-in-Arm t c =
     let ts = turns_of c.args.at.now.turns.now in
-    case_is flow_sum (λ n. n) (value c.in-Arm.pick (env_turns ts))
+    case_is flow_sum (λ n. n) (value c.in-Arm.pick (env_turns c.in-Arm.children ts))
     (flow_sum c.args.flow.now ts) c.in-Arm.arms c.as_slice-in-Arm.result.now c.arm_for-i.result c.len.result ts
     c.sum_arm.result
-    (ap (λ z. flow_sum z ts) c.in-Arm.is ∙ ap (λ (z : List ℕ → ℕ). z ts) (flow_arm c.in-Arm.pick c.in-Arm.arms))
+    (ap (λ z. flow_sum z ts) c.in-Arm.is ∙ ap (λ (z : List ℕ → ℕ). z ts) (flow_arm c.in-Arm.pick c.in-Arm.children c.in-Arm.arms))
     c.as_slice-in-Arm.ensures c.len.ensures
     (c.arm_for-i.ensures ∙ ap (λ k. arm_index (value k (env_of c.env-in-Arm.result)) c.len.result)
     c.number-in-Arm.ensures ∙ ap (λ e. arm_index (value c.in-Arm.pick e) c.len.result) c.env-in-Arm.ensures)
