@@ -1,4 +1,4 @@
-"""The four pages that are tested: what they are made of, and the texts that they have to agree with."""
+"""The five pages that are tested: what they are made of, and the texts that they have to agree with."""
 import os
 import subprocess
 from dataclasses import dataclass
@@ -34,20 +34,19 @@ def from_program(name, folder, files):
     return Sample(name, words, report, traces)
 
 
-def from_texts(name, folder, begin, files):
-    """A page of texts that stand beside the example."""
-    words = ["--plan", f"examples/{folder}/{begin}.report"]
-    for order in ("first", "last"):
-        words += ["--trace", f"examples/{folder}/{begin}.{order}"]
+def from_texts(name, folder, files):
+    """A page of the report and the trace that stand beside the example."""
+    report, trace = f"examples/{folder}/{files}.report", f"examples/{folder}/trace.txt"
+    words = ["--plan", report, "--trace", trace]
     words += [f"examples/{folder}/{file}" for file in ("program.sq", f"{files}.map", f"{files}.mach")]
-    traces = [read(f"examples/{folder}/{begin}.{order}") for order in ("first", "last")]
-    return Sample(name, words, read(f"examples/{folder}/{begin}.report"), traces)
+    return Sample(name, words, read(report), [read(trace)])
 
 
 def samples():
     return [
         from_program("matmul", "matmul", "three"),
-        from_texts("overlap", "overlap", "overlapped", "two"),
+        from_program("overlap", "overlap", "two"),
+        from_texts("texts", "overlap", "two"),
         from_program("histogram", "histogram", "two"),
         from_program("uneven", "blocks", "uneven"),
     ]

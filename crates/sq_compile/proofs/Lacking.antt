@@ -1,4 +1,4 @@
--- Which nodes lack by the forms that run at them, and which are short by the scopes of the program's draft.
+-- Which nodes lack by the forms that run at them, and which are short by the scopes of a draft of the program.
 use Rattle.std.proofs.Common.{◌≡◌, ℕ, zero, suc, ◌-◌, ◌<◌, ◌≤◌, List, [], ◌∷◌, map, length, Some, refl, sym, ap, subst}
 use Rattle.std.proofs.Common.{◌∙◌, arith}
 use Rattle.std.specs.Prelude.{slice_get, ◌^◌}
@@ -12,9 +12,9 @@ use Rattle.sq_nests.specs.Stacks.{capped}
 use Rattle.sq_store.specs.Place.{need_at, capacity_at, level_at, excess_at, IsShort, IsOver}
 use Rattle.sq_spec.specs.declared.resolved.Resolved.{Resolved}
 use Rattle.sq_spec.proofs.Rows.{get_or_map}
+use Rattle.sq_homes.specs.declared.choice.Choice.{Choice}
 use Rattle.sq_homes.specs.Drafts.{IsDraftOf}
 use Rattle.sq_homes_laws.specs.Choosing.{Walked}
-use Rattle.sq_hoist.specs.Choices.{hoisted}
 use Rattle.sq_draft_laws.specs.Memories.{plan_node}
 use Rattle.sq_plan_good.specs.Planned.{memories_of}
 use Rattle.sq_needs.specs.Needed.{KeepInPlace, NeedsAreSums, SumsAreNeeds, NeedsAreSmall}
@@ -37,13 +37,14 @@ unfolding capped
 not_capped n h = omega (arith, h)
 
 module _ (agree : NeedsAreSums) (are : SumsAreNeeds) (small : NeedsAreSmall) (r : Resolved) (w : Walked r)
-    (limits : WithinLimits r.machine.now) (keep : KeepInPlace r (hoisted r)) (d : Draft) (its : IsDraftOf r (hoisted r) d)
+    (limits : WithinLimits r.machine.now) (choices : List Choice) (keep : KeepInPlace r choices) (d : Draft)
+    (its : IsDraftOf r choices d)
   where
     abbrev nodes : List PlanNode
     nodes = memories_of r
 
     needs : (node : ℕ) → NodeNeeds r node (nested_sum d nodes node)
-    needs node = are r w limits (hoisted r) keep d its node
+    needs node = are r w limits choices keep d its node
 
     need_is : (node : ℕ) → need_at d nodes node ≡ nested_sum d nodes node
     need_is node = not_capped (nested_sum d nodes node) (small r w node (nested_sum d nodes node) (needs node))
@@ -59,7 +60,8 @@ module _ (agree : NeedsAreSums) (are : SumsAreNeeds) (small : NeedsAreSmall) (r 
 
     short_is : (node need capacity level : ℕ) → Lacks r node need capacity level → Short node need capacity level
     short_is node need capacity level h =
-        let n : need_at d nodes node ≡ need = need_is node ∙ sym (agree r w limits (hoisted r) keep d its node need h.needs) in
+        let n : need_at d nodes node ≡ need =
+        need_is node ∙ sym (agree r w limits choices keep d its node need h.needs) in
         let c : capacity_at nodes node ≡ capacity =
         ap (λ (x : PlanNode). x.capacity) (node_is node h.its h.there) ∙ sym h.capacity_is in
         let l : level_at nodes node ≡ level =
@@ -130,3 +132,16 @@ module _ (agree : NeedsAreSums) (are : SumsAreNeeds) (small : NeedsAreSmall) (r 
             let e = own_excess in
             omega (arith, a, b, e);
       }
+
+-- ---- where each draft has space
+
+capped_below : (n : ℕ) → capped n ≤ n
+unfolding capped
+capped_below n = omega arith
+
+pub none_short : (d : Draft) (nodes : List PlanNode) → HasSpace d nodes → (node : ℕ) → IsShort d nodes node → ⊥
+none_short d nodes space node h =
+    let a = space node h.there in
+    let b = h.short in
+    let c = capped_below (nested_sum d nodes node) in
+    omega (arith, a, b, c)

@@ -1,6 +1,7 @@
 //! From a resolved program to its plan.
 #![tactic(auto)]
 
+mod fitting;
 pub mod laws;
 mod memories;
 mod passes;

@@ -2,8 +2,8 @@
 
 ghost use Rattle.std.specs.Prelude.{◌≡◌, IfOk, IfErr};
 ghost use Rattle.sq_machfile.specs.Machines.{WithinLimits};
-ghost use Rattle.sq_hoist.specs.Choices.{hoisted};
-ghost use Rattle.sq_hoist.specs.Notes.{notes_of};
+ghost use Rattle.sq_pipe.specs.Greedy.{overlapped};
+ghost use Rattle.sq_pipe.specs.Notes.{notes_of};
 ghost use Rattle.sq_homes.specs.Drafts.{IsDraftOf};
 ghost use Rattle.sq_homes_laws.specs.Choosing.{AreMemories};
 ghost use Rattle.sq_plan_good.specs.Good.{HasNoRace};
@@ -11,16 +11,17 @@ ghost use Rattle.sq_plan_good.specs.Planned.{memories_of, IsPlacedFor};
 ghost use Rattle.sq_compile.specs.Capacity.{NoneLacks};
 ghost use Rattle.sq_compile.specs.Compiled.{IsPlanOf, IsRefusedFor};
 
+use crate::fitting::overlaps_have_room;
 use crate::memories::plan_nodes;
 use sq_draft_laws::laws::resolved_programs_were_walked;
 use sq_elim::drop_copies;
-use sq_forms_fit::unpiped_fits;
 use sq_hoist::hoist;
-use sq_hoist_laws::{choices_are_hoisted, choices_hold, hoisted_overlap_nothing};
-use sq_homes_laws::laws::none_overlaps;
+use sq_hoist_laws::{choices_are_hoisted, hoisted_overlap_nothing};
 use sq_ir::{Draft, Plan, PlanNodes};
 use sq_lower::lower;
 use sq_needs::{needs_are_small, needs_are_sums, sums_are_needs};
+use sq_pipe::overlap_transfers;
+use sq_pipe_laws::{overlaps_fit, overlaps_hold, overlaps_may_be_chosen};
 use sq_plan_good::{placed_plans_are_good, placing_succeeds};
 use sq_spec::Resolved;
 use sq_store::{StoreFault, place};
@@ -28,13 +29,14 @@ use std::alloc::{AllocError, Global};
 
 // The draft after all passes.
 fn passed(alloc: Global, r: &Resolved<'_>) -> Result<Draft, AllocError>
-    ensures its { IfOk result (λ d. IsDraftOf r.now (hoisted r.now) d) }
+    ensures its { IfOk result (λ d. IsDraftOf r.now (overlapped r.now) d) }
     ensures notes { IfOk result (λ d. d.notes ≡ notes_of r.now) }
 {
     let lowered = lower(alloc, r)?;
     let dropped = drop_copies(alloc, r, lowered)?;
     let hoisted = hoist(alloc, r, dropped)?;
-    Ok(hoisted)
+    let overlapped = overlap_transfers(alloc, r, hoisted)?;
+    Ok(overlapped)
 }
 
 // The memories of the program's machine.
@@ -53,7 +55,7 @@ fn placed(
     draft: Draft,
     nodes: PlanNodes,
 ) -> Result<Plan, StoreFault>
-    requires its { IsDraftOf r.now (hoisted r.now) draft }
+    requires its { IsDraftOf r.now (overlapped r.now) draft }
     requires notes { draft.notes ≡ notes_of r.now }
     requires nodes { nodes ≡ memories_of r.now }
     requires memories { AreMemories r.now.machine.now.levels nodes }
@@ -65,10 +67,11 @@ fn placed(
 {
     resolved_programs_were_walked();
     choices_are_hoisted();
-    choices_hold();
     hoisted_overlap_nothing();
-    none_overlaps();
-    unpiped_fits();
+    overlaps_may_be_chosen();
+    overlaps_hold();
+    overlaps_fit();
+    overlaps_have_room();
     placing_succeeds();
     placed_plans_are_good();
     needs_are_sums();
@@ -77,11 +80,11 @@ fn placed(
     place(alloc, draft, nodes)
 }
 
-/// The plan of a program on its machine, after all passes: the draft of `hoist`, with its notes, in the machine's
-/// memories, its buffers stacked. Without a race it is good for the program: well formed, with unordered events
-/// independent, room for its live buffers in each state, a run under picks 0 that ends from every input as the program
-/// means, and one leaf call for each of the program's. Refused exactly where the forms that run at a node need more bytes
-/// there than it has.
+/// The plan of a program on its machine, after all passes: the draft of `overlap_transfers`, with its notes, in the
+/// machine's memories, its buffers stacked. Without a race it is good for the program: well formed, with unordered
+/// events independent, room for its live buffers in each state, a run under picks 0 that ends from every input as the
+/// program means, and one leaf call for each of the program's. Refused exactly where the forms that run at a node need
+/// more bytes there than it has.
 pub fn compile(alloc: Global, r: &Resolved<'_>) -> Result<Plan, StoreFault>
     ensures good { IfOk result (λ p. HasNoRace r.now → IsPlanOf r.now p) }
     ensures placed { IfOk result (λ p. IsPlacedFor r.now p) }

@@ -1,2 +1,3 @@
 pub mod MadeMoves
+pub mod MadePipes
 pub mod Made

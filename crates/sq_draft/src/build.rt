@@ -7,22 +7,28 @@ ghost use Rattle.sq_term.specs.Terms as terms;
 ghost use Rattle.sq_tables.specs.Cases as cases;
 ghost use Rattle.sq_tables.specs.Loops as loops;
 ghost use Rattle.sq_draft.specs.Building as building;
+ghost use Rattle.sq_draft.specs.Piping as piping;
 
 use crate::args::moves;
-use crate::forms::{CalleeArrays, Forms, Holding, MapTable, Round, local_shapes, round_in};
+use crate::forms::{
+    CalleeArrays, Forms, Holding, MapTable, PipeCall, Places, Round, Set, local_shapes, round_in,
+};
 use crate::held::holding;
 use crate::parts::{
     call_scope, case_term, child_scope, leaf_term, locals_scope, map_term, push_fills,
 };
-use crate::pipes::pipe_in;
+use crate::pipes::{
+    moves_in, pipe_in, piped_term, places_of, push_come, push_leave, push_turns, shell_of,
+};
 use crate::transfers::{Transfer, push_transfers};
-use sq_contexts::{LocalArrays, at_child_already, count_num, in_callee, in_map};
+use sq_contexts::{LocalArrays, at_child_already, count_num, in_callee, in_map, start_table};
 use sq_ir::{Num, Term, Terms};
 use sq_num::RedOp;
 use sq_placed::{Home, Homes};
 use sq_spec::{Body, CallInstance, Statement};
-use sq_tables::{Arm, CallTable, any_lower, any_same, arms_of, spread_of, tables_of};
+use sq_tables::{Arm, CallTable, Pipe, any_lower, any_same, arms_of, spread_of, tables_of};
 use sq_term::{Context, Move};
+use sq_text::SpreadRule;
 use sqlite_items::{Items, at};
 use std::alloc::{AllocError, Global};
 
@@ -190,7 +196,7 @@ fn held_loop(
     Ok(made)
 }
 
-// A map. One whose transfers overlap isn't made yet, and no draft has one.
+// A map whose transfers overlap or don't.
 #[cycle(build)]
 fn run_term(
     alloc: Global,
@@ -205,8 +211,189 @@ fn run_term(
 {
     match pipe_in(forms.homes, round, table) {
         None => loop_term(alloc, left, forms, round, table, c),
-        Some(_) => Err(AllocError),
+        Some(pipe) => piped(alloc, left, forms, &pipe, table, c),
     }
+}
+
+// A loop whose transfers overlap, with its tables.
+#[cycle(build)]
+fn piped(
+    alloc: Global,
+    left: u32,
+    forms: &Forms<'_>,
+    pipe: &Pipe<'_>,
+    table: &MapTable<'_>,
+    c: &Context,
+) -> Result<Term, AllocError>
+    ensures { IfOk result (λ t. t ≡ building.pipe_by forms.now.bodies.now forms.now.homes.now forms.now.depth
+        (Some pipe.now) table.now.counts.now table.now.starts.now c.now term.Skip) }
+{
+    let Some(row) = at(pipe.rows, 0) else {
+        return Err(AllocError);
+    };
+    let Some(own) = at(forms.homes, row.form) else {
+        return Err(AllocError);
+    };
+    let Some(body) = at(forms.bodies, row.form) else {
+        return Err(AllocError);
+    };
+    let callee = CalleeArrays {
+        shapes: body.arrays.as_slice(),
+        homes: own.params.as_slice(),
+    };
+    let offsets = tables_of(alloc, c.views.as_slice(), pipe.rows)?;
+    let starts = start_table(alloc, table.starts)?;
+    let call = PipeCall {
+        call: CallTable {
+            op: None,
+            lower: true,
+            instances: pipe.rows,
+            offsets: offsets.as_slice(),
+        },
+        form: row.form,
+        callee,
+        locals: LocalArrays {
+            shapes: local_shapes(callee.shapes, own.params.len()),
+            buffers: own.locals.as_slice(),
+        },
+        args: row.args.as_slice(),
+        starts: &starts,
+    };
+    let made = piped_call(alloc, left, forms, &call, pipe.spread, table.counts, c)?;
+    Ok(made)
+}
+
+#[cycle(build)]
+fn piped_call(
+    alloc: Global,
+    left: u32,
+    forms: &Forms<'_>,
+    pipe: &PipeCall<'_>,
+    spread: Option<SpreadRule>,
+    counts: &[u32],
+    c: &Context,
+) -> Result<Term, AllocError>
+    requires { piping.HasTables pipe.now c.now }
+    ensures { IfOk result (λ t. t ≡ piping.piped_in
+        (building.callee_in forms.now.bodies.now forms.now.homes.now forms.now.depth) (piping.seen pipe.now) spread
+        (terms.count_num counts.now c.now) c.now) }
+{
+    let count = count_num(alloc, counts, c)?;
+    let places = places_of(alloc, spread, &count, pipe.starts, c)?;
+    let made = piped_at(alloc, left, forms, pipe, spread, &places, c)?;
+    Ok(made)
+}
+
+// Its parts, where these stand.
+#[cycle(build)]
+fn piped_at(
+    alloc: Global,
+    left: u32,
+    forms: &Forms<'_>,
+    pipe: &PipeCall<'_>,
+    spread: Option<SpreadRule>,
+    places: &Places,
+    c: &Context,
+) -> Result<Term, AllocError>
+    requires outer { piping.HasTables pipe.now places.now.outer.context }
+    requires inner { piping.HasTables pipe.now places.now.inner.context }
+    requires work { piping.HasTables pipe.now places.now.work }
+    ensures { IfOk result (λ t. t ≡ piping.piped_at
+        (building.callee_in forms.now.bodies.now forms.now.homes.now forms.now.depth) (piping.seen pipe.now) spread
+        places.now c.now) }
+{
+    let shell = shell_of(alloc, pipe, &places.outer.lane, c)?;
+    let count = places.outer.lane.many.copy(alloc)?;
+    let parts = lane_parts(alloc, left, forms, pipe, places, count)?;
+    let made = piped_term(alloc, spread, shell, parts)?;
+    Ok(made)
+}
+
+// What comes in first, so many iterations, and what goes out last.
+#[cycle(build)]
+fn lane_parts(
+    alloc: Global,
+    left: u32,
+    forms: &Forms<'_>,
+    pipe: &PipeCall<'_>,
+    places: &Places,
+    count: Num,
+) -> Result<Terms, AllocError>
+    requires count { count ≡ places.now.outer.lane.many }
+    requires outer { piping.HasTables pipe.now places.now.outer.context }
+    requires inner { piping.HasTables pipe.now places.now.inner.context }
+    requires work { piping.HasTables pipe.now places.now.work }
+    ensures { IfOk result (λ ts. ts ≡ piping.lane_parts (piping.seen pipe.now) places.now (piping.works_in
+        (building.callee_in forms.now.bodies.now forms.now.homes.now forms.now.depth) (piping.seen pipe.now)
+        places.now.work)) }
+{
+    let mut parts = Items::new(alloc);
+    push_come(alloc, &mut parts, pipe, &places.outer)?;
+    let made = works(alloc, left, forms, pipe, &places.work)?;
+    push_turns(alloc, &mut parts, pipe, &places.inner, count, made)?;
+    push_leave(alloc, &mut parts, pipe, &places.outer)?;
+    Ok(parts)
+}
+
+// The work of an iteration, in either set.
+#[cycle(build)]
+fn works(
+    alloc: Global,
+    left: u32,
+    forms: &Forms<'_>,
+    pipe: &PipeCall<'_>,
+    c: &Context,
+) -> Result<Terms, AllocError>
+    requires { piping.HasTables pipe.now c.now }
+    ensures { IfOk result (λ ts. ts ≡ piping.works_in
+        (building.callee_in forms.now.bodies.now forms.now.homes.now forms.now.depth) (piping.seen pipe.now) c.now) }
+{
+    let mut out = Items::new(alloc);
+    let first = work(alloc, left, forms, pipe, Set::First, c)?;
+    out.push(first)?;
+    let second = work(alloc, left, forms, pipe, Set::Second, c)?;
+    out.push(second)?;
+    Ok(out)
+}
+
+#[cycle(build)]
+fn work(
+    alloc: Global,
+    left: u32,
+    forms: &Forms<'_>,
+    pipe: &PipeCall<'_>,
+    set: Set,
+    c: &Context,
+) -> Result<Term, AllocError>
+    requires { piping.HasTables pipe.now c.now }
+    ensures { IfOk result (λ t. t ≡ piping.work_in
+        (building.callee_in forms.now.bodies.now forms.now.homes.now forms.now.depth) (piping.seen pipe.now)
+        (piping.set_number set) c.now) }
+{
+    let ms = moves_in(alloc, pipe, set, c)?;
+    let parts = work_parts(alloc, left, forms, pipe, ms.as_slice(), c)?;
+    Ok(Term::Seq(parts))
+}
+
+// The fills of what is held, and the callee.
+#[cycle(build)]
+fn work_parts(
+    alloc: Global,
+    left: u32,
+    forms: &Forms<'_>,
+    pipe: &PipeCall<'_>,
+    ms: &[Move],
+    c: &Context,
+) -> Result<Terms, AllocError>
+    ensures { IfOk result (λ ts. ts ≡ piping.work_parts
+        (building.callee_in forms.now.bodies.now forms.now.homes.now forms.now.depth) (piping.seen pipe.now)
+        ms.now c.now) }
+{
+    let mut parts = Items::new(alloc);
+    push_transfers(alloc, &mut parts, Transfer::Fill, ms)?;
+    let made = called(alloc, left, forms, pipe.form, ms, &pipe.locals, c)?;
+    parts.push(made)?;
+    Ok(parts)
 }
 
 // A map in the context in which it stands.

@@ -3,13 +3,15 @@
 ghost use Rattle.std.specs.Prelude.{◌≡◌, ◌||◌, is_some, drop, true};
 ghost use Rattle.sq_placed.specs.Tables as tables;
 
-use sq_ir::BufferIds;
+use sq_blocks::Argument;
+use sq_contexts::LocalArrays;
+use sq_ir::{BufferIds, Num, Numbers};
 use sq_leaf::Shape;
 use sq_num::RedOp;
 use sq_placed::{Home, Homes};
 use sq_spec::{FormBody, LoopKind, Statement};
-use sq_tables::op_of;
-use sq_term::Move;
+use sq_tables::{CallTable, op_of};
+use sq_term::{Context, Lane, Move};
 use sq_text::SpreadRule;
 use sqlite_items::Items;
 
@@ -43,6 +45,48 @@ pub struct CalleeArrays<'a> {
 pub struct Holding {
     pub moves: Items<Move>,
     pub buffers: BufferIds,
+}
+
+/// The call in a loop whose transfers overlap: its rows, the arrays of its callee, the arguments of its first row; and how
+/// many iterations began before, each time that the loop is begun.
+#[derive(Clone, Copy)]
+pub struct PipeCall<'a> {
+    pub call: CallTable<'a>,
+    pub form: usize,
+    pub callee: CalleeArrays<'a>,
+    pub locals: LocalArrays<'a>,
+    pub args: &'a [Argument],
+    pub starts: &'a Numbers,
+}
+
+/// One of the two sets of buffers that such a loop has in turn.
+#[derive(Clone, Copy)]
+pub enum Set {
+    First,
+    Second,
+}
+
+/// The iterations of a loop at one child, and where it stands.
+#[derive(Drop)]
+pub struct LanePlace {
+    pub lane: Lane,
+    pub context: Context,
+}
+
+/// The same round the loop and in an iteration of it, and where the work of that iteration stands.
+#[derive(Drop)]
+pub struct Places {
+    pub outer: LanePlace,
+    pub inner: LanePlace,
+    pub work: Context,
+}
+
+/// What stands round the parts of such a loop: the child, the buffers of both sets, and how many iterations there are.
+#[derive(Drop)]
+pub struct Shell {
+    pub child: Option<Num>,
+    pub buffers: BufferIds,
+    pub many: Num,
 }
 
 /// The shapes of a form's locals, which stand behind its parameters.

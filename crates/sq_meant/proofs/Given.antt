@@ -1,6 +1,6 @@
 -- What is given of the plan of a program, and what its runs do.
-use Rattle.std.proofs.Common.{◌≡◌, ℕ, zero, suc, ◌<◌, ◌≤◌, ◌^◌, List, [], ◌∷◌, length, map, take, get_or, Some}
-use Rattle.std.proofs.Common.{refl, sym, ap, ◌∙◌, subst, arith, Result, replicate}
+use Rattle.std.proofs.Common.{◌≡◌, ℕ, zero, suc, ◌<◌, ◌≤◌, List, [], ◌∷◌, length, map, take, get_or, Some}
+use Rattle.std.proofs.Common.{refl, sym, ap, ◌∙◌, subst, Result, replicate}
 use Rattle.std.specs.Prelude.{slice_get}
 use Rattle.sq_leaf.specs.declared.shape.Shape.{Shape}
 use Rattle.sq_leaf.specs.declared.trap.Trap.{Trap}
@@ -23,8 +23,8 @@ use Rattle.sq_placed_bytes.specs.Codes as codes
 use Rattle.sq_plan_laws.specs.Entry.{EndsSo}
 use Rattle.sq_homes.specs.Drafts.{args_of, bodies_of, buffers_of, entry_of, IsDraftOf}
 use Rattle.sq_term.specs.Terms.{body_in}
-use Rattle.sq_hoist.specs.Choices.{hoisted}
-use Rattle.sq_hoist_laws.specs.Laws.{ChoicesAreHoisted}
+use Rattle.sq_homes.specs.declared.choice.Choice.{Choice}
+use Rattle.sq_homes_laws.specs.Choosing.{MayBeChosen}
 use Rattle.sq_homes_fit.specs.Homes.{EntriesAreWhole}
 use Rattle.sq_homes_fit.specs.Owned.{DraftsOwn}
 use Rattle.sq_draft_laws.specs.Opened.{WalkedIsThere}
@@ -60,19 +60,19 @@ record OwnBuffers (buffers : List Buffer) (entry : List ℕ) (shapes : List Shap
   sizes : (i b : ℕ) (sh : Shape) → slice_get entry i ≡ Some b → slice_get shapes i ≡ Some sh
       → codes.bytes_in sh ≤ (placed buffers nodes offset).size b
 
-module _ (walked : WalkedIsThere) (are_hoisted : ChoicesAreHoisted) (whole : EntriesAreWhole) (own : DraftsOwn)
-    (r : Resolved) (p : Plan) (its : IsDraftOf r (hoisted r) p.draft)
+module _ (walked : WalkedIsThere) (whole : EntriesAreWhole) (own : DraftsOwn)
+    (r : Resolved) (p : Plan) (choices : List Choice) (may : MayBeChosen r choices) (its : IsDraftOf r choices p.draft)
     (room : HaveRoom (setting_of p) (record { node = 0; buffers = p.draft.entry } ∷ [])) where
   abbrev offset : ℕ → ℕ
   offset b = get_or p.offsets b 0
 
-  drawn : OwnBuffers (buffers_of r (hoisted r)) (entry_of r (hoisted r)) (shapes_in r) p.nodes offset
+  drawn : OwnBuffers (buffers_of r choices) (entry_of r choices) (shapes_in r) p.nodes offset
   drawn =
-      let e = (own r (walked r) (hoisted r) (are_hoisted r (walked r)) p.nodes offset).entry in
+      let e = (own r (walked r) choices may p.nodes offset).entry in
       record { many = e.many; distinct = e.distinct; sizes = e.sizes }
 
-  of_entry : OwnBuffers (buffers_of r (hoisted r)) p.draft.entry (shapes_in r) p.nodes offset
-  of_entry = subst (λ (es : List ℕ). OwnBuffers (buffers_of r (hoisted r)) es (shapes_in r) p.nodes offset)
+  of_entry : OwnBuffers (buffers_of r choices) p.draft.entry (shapes_in r) p.nodes offset
+  of_entry = subst (λ (es : List ℕ). OwnBuffers (buffers_of r choices) es (shapes_in r) p.nodes offset)
       (sym its.entry) drawn
 
   of_plan : OwnBuffers p.draft.buffers p.draft.entry (shapes_in r) p.nodes offset
@@ -81,7 +81,7 @@ module _ (walked : WalkedIsThere) (are_hoisted : ChoicesAreHoisted) (whole : Ent
 
   some : (i : ℕ) (sh : Shape) → slice_get (shapes_in r) i ≡ Some sh → 0 < codes.bytes_in sh
   some i sh e =
-      some_bytes sh ((whole r (walked r) (hoisted r) (are_hoisted r (walked r))).some i sh
+      some_bytes sh ((whole r (walked r) choices may).some i sh
       (in_front (length (args_of r)) (body_in (bodies_of r) 0).arrays i sh e))
 
   housed_in : AreHoused p (shapes_in r)
@@ -97,8 +97,8 @@ module _ (walked : WalkedIsThere) (are_hoisted : ChoicesAreHoisted) (whole : Ent
     fit = housed_fit p (shapes_of r) housed room;
   }
 
-pub places_fit : WalkedIsThere → ChoicesAreHoisted → EntriesAreWhole → DraftsOwn → PlacesFit
-places_fit walked are_hoisted whole own r p its = has_places walked are_hoisted whole own r p its.its its.placed.room.entry
+pub places_fit : WalkedIsThere → EntriesAreWhole → DraftsOwn → PlacesFit
+places_fit walked whole own r p its = has_places walked whole own r p _ its.may its.its its.placed.room.entry
 
 -- the first of the nodes has its capacity
 first_capacity : (xs : List (List ℕ)) (ns : List PlanNode) → map length xs ≡ map (λ (n : PlanNode). n.capacity) ns
@@ -108,10 +108,10 @@ first_capacity [] (n ∷ ns) e = absurd (cc e)
 first_capacity (x ∷ xs) [] e = absurd (cc e)
 first_capacity (x ∷ xs) (n ∷ ns) e = cc e
 
-pub banks_have_places : WalkedIsThere → ChoicesAreHoisted → EntriesAreWhole → DraftsOwn → BanksHavePlaces
-banks_have_places walked are_hoisted whole own r p seen its prepared =
+pub banks_have_places : WalkedIsThere → EntriesAreWhole → DraftsOwn → BanksHavePlaces
+banks_have_places walked whole own r p seen its prepared =
     subst (Fits (places_of p (shapes_of r))) (sym (first_capacity seen.nodes p.nodes prepared.sizes))
-    (places_fit walked are_hoisted whole own r p its).fit
+    (places_fit walked whole own r p its).fit
 
 -- ---- inputs
 
@@ -131,7 +131,7 @@ first_size [] (y ∷ ys) e = absurd (cc e)
 first_size (x ∷ xs) [] e = absurd (cc e)
 first_size (x ∷ xs) (y ∷ ys) e = cc e
 
-module _ (walked : WalkedIsThere) (are_hoisted : ChoicesAreHoisted) (whole : EntriesAreWhole) (own : DraftsOwn)
+module _ (walked : WalkedIsThere) (whole : EntriesAreWhole) (own : DraftsOwn)
     (have : HaveRuns Trap)
     (by_form : EndByForm Trap) (r : Resolved) (p : Plan) (good : IsGoodPlan r p)
     (a : Arrays) (old now : BankSeen) where
@@ -139,7 +139,7 @@ module _ (walked : WalkedIsThere) (are_hoisted : ChoicesAreHoisted) (whole : Ent
   m = bytes_in old.nodes
 
   stand : HasPlaces r p
-  stand = has_places walked are_hoisted whole own r p good.draft_ good.good.entry
+  stand = has_places walked whole own r p _ good.may good.draft_ good.good.entry
 
   ends : IsInput r p a m → (result : Result (Unit {0}) RunEnd)
       → (zeros : ℕ) (events : List Event) (last : State Event Scope Bytes Trap)
@@ -164,6 +164,6 @@ module _ (walked : WalkedIsThere) (are_hoisted : ChoicesAreHoisted) (whole : Ent
       let run = have (leaves_in p) p m in
       ends input result run.0 run.1 run.2 run.3 tells (subst (Fits (places_of p (shapes_of r))) (sym long) stand.fit)
 
-pub runs_end_as_meant : WalkedIsThere → ChoicesAreHoisted → EntriesAreWhole → DraftsOwn → HaveRuns Trap → EndByForm Trap → RunsEndAsMeant
-runs_end_as_meant walked are_hoisted whole own have by_form r p good a old now prepared sizes input result tells =
-    run_ends walked are_hoisted whole own have by_form r p good a old now prepared sizes input result tells
+pub runs_end_as_meant : WalkedIsThere → EntriesAreWhole → DraftsOwn → HaveRuns Trap → EndByForm Trap → RunsEndAsMeant
+runs_end_as_meant walked whole own have by_form r p good a old now prepared sizes input result tells =
+    run_ends walked whole own have by_form r p good a old now prepared sizes input result tells

@@ -4,7 +4,6 @@
 ghost use Rattle.sq_meant.specs.Laws.{PlacesFit, BanksHavePlaces, InputsAreHeld, RunsEndAsMeant};
 
 use sq_draft_laws::laws::resolved_programs_were_walked;
-use sq_hoist_laws::choices_are_hoisted;
 use sq_homes_fit::{drafts_own_their_buffers, entries_are_whole};
 use sq_ir::laws::good_plans_have_one_result;
 use sq_leaf::Trap;
@@ -15,7 +14,6 @@ pub fn places_fit()
     ensures bank { BanksHavePlaces }
 {
     resolved_programs_were_walked();
-    choices_are_hoisted();
     entries_are_whole();
     drafts_own_their_buffers();
 }
@@ -33,7 +31,6 @@ pub fn runs_end_as_meant()
     ensures { RunsEndAsMeant }
 {
     resolved_programs_were_walked();
-    choices_are_hoisted();
     entries_are_whole();
     drafts_own_their_buffers();
     good_plans_have_one_result::<Trap>();

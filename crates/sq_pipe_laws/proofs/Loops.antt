@@ -30,7 +30,7 @@ use Rattle.sq_rooms.specs.Orders.{EachOf}
 use Rattle.sq_rooms.specs.Overlapping as overlapping
 use Rattle.sq_rooms.specs.Overlapping.{AskedInMaps, each_in_maps, any_by, can_overlap, RowOverlaps, Overlaps}
 use Rattle.sq_rooms.proofs.Overlaps.{overlaps_call, overlaps_map}
-use Rattle.sq_forms_fit.specs.Piped.{IsDoubled, IsClear, IsClearBy, LoopOverlaps, MayOverlap}
+use Rattle.sq_forms_fit.specs.Piped.{IsDoubled, IsClear, IsClearBy, LoopOverlaps}
 use Rattle.sq_forms_fit.proofs.Loops.{each_at, each_both, each_left, each_map, each_right}
 use Rattle.sq_homes_laws.proofs.Hoisting.{at_index}
 use Rattle.sq_hoist.specs.Counts.{total}
@@ -56,10 +56,24 @@ pub record AreSuited (homes : ℕ → Homes) (leaves : ℕ → List ℕ) : Type 
   pub entry : (homes 0).overlaps ≡ false
   pub moved : (f i : ℕ) → place_of (get_or (homes f).params i InPlace) ≡ Buffer → is_held (leaves f) i ≡ false
 
+module _ (homes : ℕ → Homes) (leaves : ℕ → List ℕ) (children : ℕ) where
+  -- it is as is asked, and one of those that may overlap, with a row for each of its iterations
+  pub record LoopMay (l : CallLoop) : Type 0 where
+    pub overlaps : LoopOverlaps homes l
+    pub spread : Bool
+    pub may : may_overlap leaves children l.kind spread l.counts l.rows ≡ true
+    pub many : length l.rows ≡ total l.counts
+
+  abbrev pub MayIfTaken : CallLoop → Type 0
+  MayIfTaken l = (homes (row_form (slice_get l.rows 0))).overlaps ≡ true → LoopMay l
+
 module _ (homes : ℕ → Homes) (leaves : ℕ → List ℕ) (suited : AreSuited homes leaves) (number : ℕ → ℕ)
     (children caller : ℕ) where
   abbrev sees : Statement → Seen
   sees = seen leaves children caller
+
+  abbrev MayBe : CallLoop → Type 0
+  MayBe = MayIfTaken homes leaves children
 
   -- each argument of a call that overlaps its transfers has two buffers or leaves loops
   abbrev pub Doubled : CallInstance → Type 0
@@ -146,7 +160,7 @@ module _ (homes : ℕ → Homes) (leaves : ℕ → List ℕ) (suited : AreSuited
 
   pub record Stands (inside : Bool) (x : Statement) : Type 0 where
     pub calls : (alone : Bool) → Overlaps homes x inside alone
-    pub loops : EachOf (MayOverlap homes) (call_loops x).loops
+    pub loops : EachOf MayBe (call_loops x).loops
 
   abbrev OfStatement : Statement → Type 0
   OfStatement x = (inside : Bool) (red : Option Reduction) (lo n : ℕ)
@@ -307,14 +321,19 @@ module _ (homes : ℕ → Homes) (leaves : ℕ → List ℕ) (suited : AreSuited
 
       first_may : (times : List CallInstance)
           → EachOf (λ (q : CallInstance). (homes q.form).overlaps ≡ true → IsIts q.form) times
-          → (homes (row_form (slice_get times 0))).overlaps ≡ true → LoopOverlaps homes its
+          → (homes (row_form (slice_get times 0))).overlaps ≡ true → LoopMay homes leaves children its
       first_may [] h over = absurd (let e = suited.entry in cc (sym e ∙ over))
-      first_may (q ∷ times) h over = loop_overlaps q.form over (h.0 over)
+      first_may (q ∷ times) h over = record {
+        overlaps = loop_overlaps q.form over (h.0 over);
+        spread = spread;
+        may = (h.0 over).may;
+        many = many;
+      }
 
       pub loop_stands : Stands inside y
       loop_stands = record {
         calls = calls;
-        loops = subst (λ (l : CallLoops). EachOf (MayOverlap homes) l.loops)
+        loops = subst (λ (l : CallLoops). EachOf MayBe l.loops)
             (sym (pipes.loops_map place m counts starts one
             ∙ ap (λ (l : CallLoops). loops_of.call_loops_step (Statement-F.Map place m counts starts (l ∷ [])))
             (pipes.loops_call true rows))) (first_may rows own, tt);
@@ -330,13 +349,13 @@ module _ (homes : ℕ → Homes) (leaves : ℕ → List ℕ) (suited : AreSuited
 
   record AllStand (inside : Bool) (xs : List Statement) : Type 0 where
     calls : (alone : Bool) → each_in_maps (Overlaps homes) xs inside alone
-    loops : EachOf (MayOverlap homes) (loops_of.all_loops (map call_loops xs))
+    loops : EachOf MayBe (loops_of.all_loops (map call_loops xs))
 
   more_stand : (inside : Bool) (x : Statement) (xs : List Statement) → Stands inside x → AllStand inside xs
       → AllStand inside (x ∷ xs)
   more_stand inside x xs h hs = record {
     calls = λ alone. (h.calls alone, hs.calls alone);
-    loops = each_both (MayOverlap homes) (call_loops x).loops (loops_of.all_loops (map call_loops xs)) h.loops hs.loops;
+    loops = each_both MayBe (call_loops x).loops (loops_of.all_loops (map call_loops xs)) h.loops hs.loops;
   }
 
   parts_stand : (xs : List Known) (inside : Bool) (red : Option Reduction) (lo n : ℕ)
@@ -360,7 +379,7 @@ module _ (homes : ℕ → Homes) (leaves : ℕ → List ℕ) (suited : AreSuited
               alone_is = λ o. absurd (u o);
               one = λ o. absurd (u o);
             }) none);
-        loops = subst (λ (l : CallLoops). EachOf (MayOverlap homes) l.loops) (sym (pipes.loops_call lower rows)) tt;
+        loops = subst (λ (l : CallLoops). EachOf MayBe l.loops) (sym (pipes.loops_call lower rows)) tt;
       }
 
   map_stands : (place : Place) (m : LoopKind) (counts starts : List ℕ) (xs : List Known)
@@ -380,9 +399,9 @@ module _ (homes : ℕ → Homes) (leaves : ℕ → List ℕ) (suited : AreSuited
         calls = λ alone. subst (λ (f : AskedInMaps). f inside alone) (sym (overlaps_map homes place m counts starts ys))
             (subst (λ t. each_in_maps (Overlaps homes) ys (inside || t) (can_overlap m t ys)) (spread_is m inside ys)
             (all.calls (can_overlap m spread ys)));
-        loops = subst (λ (l : CallLoops). EachOf (MayOverlap homes) l.loops)
+        loops = subst (λ (l : CallLoops). EachOf MayBe l.loops)
             (sym (pipes.loops_map place m counts starts ys))
-            (subst (λ ls. EachOf (MayOverlap homes) (ls ++ loops_of.all_loops (map call_loops ys)))
+            (subst (λ ls. EachOf MayBe (ls ++ loops_of.all_loops (map call_loops ys)))
             (sym (no_round m counts starts ys none)) all.loops);
       }
 
@@ -406,12 +425,12 @@ module _ (homes : ℕ → Homes) (leaves : ℕ → List ℕ) (suited : AreSuited
   pub list_stands : (xs : List Statement) (inside : Bool) (red : Option Reduction) (lo n : ℕ)
       → Given lo (all_loops (map sees xs) inside) (all_tables (map tables_of xs) red) → all_parts IsBegun xs n
       → ((alone : Bool) → each_in_maps (Overlaps homes) xs inside alone)
-      × EachOf (MayOverlap homes) (loops_of.all_loops (map call_loops xs))
+      × EachOf MayBe (loops_of.all_loops (map call_loops xs))
   list_stands [] inside red lo n g h = ((λ alone. tt), tt)
   list_stands (x ∷ xs) inside red lo n g h =
       let first = statement_stands x inside red lo n (first_given x xs inside red lo g) h.0 in
       let others = others_given x xs inside red lo g in
       let rest = list_stands xs inside red (lo + length (tables_of x red)) n others h.1 in (
         (λ alone. (first.calls alone, rest.0 alone)),
-        each_both (MayOverlap homes) (call_loops x).loops (loops_of.all_loops (map call_loops xs)) first.loops rest.1,
+        each_both MayBe (call_loops x).loops (loops_of.all_loops (map call_loops xs)) first.loops rest.1,
       )

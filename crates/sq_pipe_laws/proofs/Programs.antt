@@ -13,7 +13,7 @@ use Rattle.sq_spec.specs.declared.resolved.Resolved.{Resolved}
 use Rattle.sq_spec.specs.Bodies.{no_body}
 use Rattle.sq_spec_laws.specs.TableRows.{Table, tables_in}
 use Rattle.sq_placed.specs.declared.home.Home.TheVariants.{InPlace}
-use Rattle.sq_placed.specs.Pipes.{call_loops_of, LoopsStand}
+use Rattle.sq_placed.specs.Pipes.{CallLoop, call_loops_of, LoopsStand}
 use Rattle.sq_rooms.specs.Orders.{EachOf}
 use Rattle.sq_rooms.specs.Overlapping.{BodyOverlaps}
 use Rattle.sq_forms_fit.specs.Held.{HoldsFit}
@@ -38,7 +38,7 @@ use Rattle.sq_pipe.specs.Candidates.{candidates}
 use Rattle.sq_pipe.specs.Greedy.{body_candidates, candidates_from, candidates_of, overlapped}
 use Rattle.sq_pipe_laws.proofs.Candidates.{IsIn, CandidatesSo, so_in, all_have, AreWithin, in_front, in_back}
 use Rattle.sq_pipe_laws.proofs.Choices.{homes, left_as, flags_as, chosen_in, overlaps_there, doubled_at, moved_at}
-use Rattle.sq_pipe_laws.proofs.Loops.{AreSuited, TableFits, list_stands}
+use Rattle.sq_pipe_laws.proofs.Loops.{AreSuited, MayIfTaken, TableFits, list_stands}
 
 within_length : {A : Type 0} (xs : List A) (j : ℕ) (x : A) → slice_get xs j ≡ Some x → j < length xs
 within_length [] j x e = absurd (cc e)
@@ -46,10 +46,10 @@ within_length (y ∷ xs) zero x e = omega arith
 within_length (y ∷ xs) (suc j) x e = let l = within_length xs j x e in omega (arith, l)
 
 module _ (r : Resolved) (marks : List Marks) where
-  abbrev leaves : ℕ → List ℕ
+  abbrev pub leaves : ℕ → List ℕ
   leaves f = (choice_in (hoisted r) f).leaves
 
-  abbrev children : ℕ → ℕ
+  abbrev pub children : ℕ → ℕ
   children k = most_children (get_or marks k []) 0 r.machine.now.nodes 0
 
   -- ---- the candidates of all forms
@@ -177,12 +177,15 @@ module _ (r : Resolved) (w : Walked r) where
 
   -- ---- each form
 
-  record IsGood (b : Body) : Type 0 where
-    calls : BodyOverlaps (homes r) b
-    loops : EachOf (MayOverlap (homes r)) (call_loops_of b)
+  abbrev pub MayAt : ℕ → CallLoop → Type 0
+  MayAt k = MayIfTaken (homes r) (leaves r (marks_of r)) (children r (marks_of r) k)
 
-  nothing_good : IsGood (body.Inner [])
-  nothing_good = record { calls = tt; loops = tt }
+  record IsGood (k : ℕ) (b : Body) : Type 0 where
+    calls : BodyOverlaps (homes r) b
+    loops : EachOf (MayAt k) (call_loops_of b)
+
+  nothing_good : (k : ℕ) → IsGood k (body.Inner [])
+  nothing_good k = record { calls = tt; loops = tt }
 
   among_all : (ts : List Table)
       → AreAmong r (marks_of r) (caller_of r w) (λ f. (homes r f).overlaps ≡ true) (candidates_of r) ts
@@ -193,7 +196,7 @@ module _ (r : Resolved) (w : Walked r) where
       (λ j q d over. chosen_in r q.form (overlaps_there r q.form over).chosen))
 
   list_good : (k : ℕ) (b : FormBody) (list : List Statement) → slice_get (bodies_of r) k ≡ Some b
-      → b.body ≡ body.Inner list → ListIs r w k list → IsGood (body.Inner list)
+      → b.body ≡ body.Inner list → ListIs r w k list → IsGood k (body.Inner list)
   list_good k b list e is h =
       let z : 0 + k ≡ k = omega arith in
       let ms = marks_of r in
@@ -218,25 +221,31 @@ module _ (r : Resolved) (w : Walked r) where
       record { calls = all.0 false; loops = all.1 }
 
   body_good : (k : ℕ) (b : FormBody) → slice_get (bodies_of r) k ≡ Some b → (x : Body) → b.body ≡ x → BodyIs r w k x
-      → IsGood x
+      → IsGood k x
   body_good k b e (body.Leaf code) is h = record { calls = tt; loops = tt }
   body_good k b e (body.Inner list) is h = list_good k b list e is h
 
-  form_good : (k : ℕ) → IsGood (bodies r w k).body
+  form_good : (k : ℕ) → IsGood k (bodies r w k).body
   form_good k = by (slice_get (bodies_of r) k) refl
     where
-      by : (o : Option FormBody) → slice_get (bodies_of r) k ≡ o → IsGood (bodies r w k).body
+      by : (o : Option FormBody) → slice_get (bodies_of r) k ≡ o → IsGood k (bodies r w k).body
       by (Some b) e =
-          subst (λ (x : FormBody). IsGood x.body) (sym (body_at r w k b e))
+          subst (λ (x : FormBody). IsGood k x.body) (sym (body_at r w k b e))
           (body_good k b e b.body refl (subst (λ (x : FormBody). BodyIs r w k x.body) (body_at r w k b e) (its r w k)))
       by None e =
-          subst (λ (x : FormBody). IsGood x.body)
-          (sym (no_item (bodies_of r) k no_body e) ∙ bodies_are_tables as_many_forms r k) nothing_good
+          subst (λ (x : FormBody). IsGood k x.body)
+          (sym (no_item (bodies_of r) k no_body e) ∙ bodies_are_tables as_many_forms r k) (nothing_good k)
+
+  pub loops_may : (k : ℕ) → EachOf (MayAt k) (call_loops_of (bodies r w k).body)
+  loops_may k = (form_good k).loops
 
   -- ---- the laws
 
   pub overlaps_fit : PipesFit (bodies r w) (homes r)
-  overlaps_fit = record { loops = λ k. (form_good k).loops }
+  overlaps_fit = record {
+    loops = λ k. each_map (MayAt k) (MayOverlap (homes r)) (call_loops_of (bodies r w k).body)
+        (λ l h over. (h over).overlaps) (loops_may k);
+  }
 
   pub overlaps_hold : HoldsFit (bodies r w) (homes r)
   overlaps_hold = they_hold r w (overlapped r) (left_as r)

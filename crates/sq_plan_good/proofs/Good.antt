@@ -398,6 +398,7 @@ module _ (placing : Placing) (r : Resolved) (choices : List Choice) (may : MayBe
 
       all_good : IsGoodFor r choices nodes p
       all_good = record {
+        may = may;
         draft_ = is_draft;
         nodes_ = refl;
         good = good;

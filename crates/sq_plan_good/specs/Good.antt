@@ -75,9 +75,10 @@ LeavesAreAtHome r choices p = AllEvents
 
 -- ---- the whole
 
--- The plan of a program under these choices, in these memories: it is well formed, its unordered events are
--- independent, its live buffers have room in each state, and its run ends as the program means.
+-- The plan of a program under these choices, which may be chosen, in these memories: it is well formed, its unordered
+-- events are independent, its live buffers have room in each state, and its run ends as the program means.
 pub record IsGoodFor (r : Resolved) (choices : List Choice) (nodes : List PlanNode) (p : Plan) : Type 0 where
+  pub may : MayBeChosen r choices
   pub draft_ : IsDraftOf r choices p.draft
   pub nodes_ : p.nodes ≡ nodes
   pub good : IsGood (draft.leaves_of p.draft) p
@@ -103,6 +104,6 @@ DraftsCanBePlaced = (r : Resolved) (choices : List Choice) → MayBeChosen r cho
 
 -- And where the program has no race, a plan of it is good.
 abbrev pub PlacedAreGood : Type 0
-PlacedAreGood = (r : Resolved) → HasNoRace r → (choices : List Choice) → MayBeChosen r choices → MayLeave r choices → MayOverlap r choices
-    → (d : Draft) → IsDraftOf r choices d → (nodes : List PlanNode) → AreMemories r.machine.now.levels nodes
+PlacedAreGood = (r : Resolved) → HasNoRace r → (choices : List Choice) → MayBeChosen r choices → MayLeave r choices
+    → MayOverlap r choices → (d : Draft) → IsDraftOf r choices d → (nodes : List PlanNode) → AreMemories r.machine.now.levels nodes
     → (p : Plan) → IsPlaced d nodes p → IsGoodFor r choices nodes p

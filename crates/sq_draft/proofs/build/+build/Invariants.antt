@@ -46,6 +46,27 @@ decreases-rows_term l = 24 * l.left + 11
 abbrev pub decreases-loop_term : goal.decreases-loop_term
 decreases-loop_term l = 24 * l.left + 3
 
+abbrev pub decreases-work_parts : goal.decreases-work_parts
+decreases-work_parts l = 24 * l.left + 6
+
+abbrev pub decreases-work : goal.decreases-work
+decreases-work l = 24 * l.left + 7
+
+abbrev pub decreases-works : goal.decreases-works
+decreases-works l = 24 * l.left + 8
+
+abbrev pub decreases-lane_parts : goal.decreases-lane_parts
+decreases-lane_parts l = 24 * l.left + 9
+
+abbrev pub decreases-piped_at : goal.decreases-piped_at
+decreases-piped_at l = 24 * l.left + 10
+
+abbrev pub decreases-piped_call : goal.decreases-piped_call
+decreases-piped_call l = 24 * l.left + 11
+
+abbrev pub decreases-piped : goal.decreases-piped
+decreases-piped l = 24 * l.left + 12
+
 abbrev pub decreases-run_term : goal.decreases-run_term
 decreases-run_term l = 24 * l.left + 13
 
