@@ -18,11 +18,11 @@ _sq() {
   local word=${COMP_WORDS[COMP_CWORD]} command=${COMP_WORDS[1]} ending
   COMPREPLY=()
   if [ "$COMP_CWORD" -eq 1 ]; then
-    mapfile -t COMPREPLY < <(compgen -W "check fmt plan eval run build help version" -- "$word")
+    mapfile -t COMPREPLY < <(compgen -W "check fmt plan eval run demo build help version" -- "$word")
     return
   fi
   case $command:$COMP_CWORD in
-    help:2) mapfile -t COMPREPLY < <(compgen -W "check fmt plan eval run build" -- "$word") && return ;;
+    help:2) mapfile -t COMPREPLY < <(compgen -W "check fmt plan eval run demo build" -- "$word") && return ;;
     check:2 | fmt:2 | plan:2 | eval:2 | run:2) ending=sq ;;
     plan:3 | eval:3 | run:3) ending=map ;;
     plan:4 | eval:4 | run:4) ending=mach ;;

@@ -2,6 +2,7 @@ pub mod Answering
 pub mod CapacityPhase
 pub mod CheckEnds
 pub mod DataPhase
+pub mod Demos
 pub mod Datas
 pub mod Ending
 pub mod Entries

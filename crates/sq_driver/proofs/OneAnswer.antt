@@ -5,7 +5,7 @@ use Rattle.sq_text.specs.declared.code.Phase.{Phase}
 use Rattle.sq_text.specs.declared.code.Phase.TheVariants.{Program, Types, Machine, Mapping, Resolve, Race, Capacity, Order, Input}
 use Rattle.sq_text.specs.declared.fault.Fault.{Fault}
 use Rattle.sq_words.specs.Words.{Role, program, mapping, machine, input, order, Command}
-use Rattle.sq_driver.specs.Phases.{phases, role_of, file_for, file_of, Inputs, text_of, inputs_of}
+use Rattle.sq_driver.specs.Phases.{phases, role_of, file_for, file_of, Inputs, own_inputs, text_or, inputs_of}
 use Rattle.sq_driver.specs.Faults.{IsFirstOf}
 use Rattle.sq_driver.specs.Meaning.{Passed, AllPassed, Reached, Answer, done, refused, trapped, usage, file_fault, no_memory, absent, IsCause}
 use Rattle.sq_driver.specs.Outcome.{status_for}
@@ -66,7 +66,8 @@ role_absent : (c : Content) (command : Command) (role : Option Role) (name : Lis
     → file_for command.files role ≡ Some name → c name ≡ None → (its : Role) × (role ≡ Some its)
     × (inputs_of c command its ≡ None)
 role_absent c command None name file none = absurd (no_name name file)
-role_absent c command (Some its) name file none = (its, refl, ap (text_of c) file ∙ none)
+role_absent c command (Some its) name file none =
+    (its, refl, ap (text_or (own_inputs command.kind command.way its) c) file ∙ none)
 
 -- a text that a fault speaks of is there
 not_there : (inputs : Inputs) (its role : Role) (text : List ℕ) → Some its ≡ Some role → inputs its ≡ Some text

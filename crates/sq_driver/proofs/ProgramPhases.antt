@@ -8,8 +8,8 @@ use Rattle.sq_ast.specs.declared.program.Program.{Program as Tree}
 use Rattle.sq_types.specs.Sites.{TypeFault}
 use Rattle.sq_tree.specs.Bank.{BankSeen}
 use Rattle.sq_driver.specs.declared.end.End.{End}
-use Rattle.sq_words.specs.Words.{Command}
-use Rattle.sq_driver.specs.Phases.{phases, Inputs, text_of, inputs_of, IsTold}
+use Rattle.sq_words.specs.Words.{program, Command}
+use Rattle.sq_driver.specs.Phases.{phases, Inputs, own_inputs, text_or, inputs_of, IsTold}
 use Rattle.sq_driver.specs.Holding.{Holds}
 use Rattle.sq_driver.specs.Programs.{IsProgramText, ProgramFault, IsFirstTypeFault}
 use Rattle.sq_driver.specs.Faults.{IsFirstOf}
@@ -24,13 +24,17 @@ pub record BeginsWith (command : Command) (name : List ℕ) : Type 0 where
   pub file : command.files.program ≡ Some name
 
 module _ (command : Command) (name : List ℕ) (begins : BeginsWith command name) (told : Option Content) where
+  -- what a file holds in place of the program that the command may have by itself
+  abbrev pub text_at : Content → Option (List ℕ) → Option (List ℕ)
+  text_at c file = text_or (own_inputs command.kind command.way program) c file
+
   pub one : (c : Content) → IsTold command told c → told ≡ Some c
   one c is = told_of command name told c begins.file is
 
   program_fails : (c : Content) → told ≡ Some c → (its : Fault) → Holds ProgramFault (c name) its
       → IsFirstOf Program (inputs_of c command) its
   program_fails c is its holds =
-      (subst (λ (o : Option (List ℕ)). Holds ProgramFault o its) (sym (ap (text_of c) begins.file)) holds)
+      (subst (λ (o : Option (List ℕ)). Holds ProgramFault o its) (sym (ap (text_at c) begins.file)) holds)
 
   pub program_stops : (bank : BankSeen) (end : End) → ReadsTree told name (Err end) → Stopped command told bank bank end
   program_stops bank end stops = phase_stops command told Program (λ c its. Holds ProgramFault (c name) its) bank bank
@@ -42,7 +46,7 @@ module _ (command : Command) (name : List ℕ) (begins : BeginsWith command name
   module _ (tree : Tree) (c : Content) (held : HoldsTree (c name) tree) where
     no_fault : (its : Fault) → IsFirstOf Program (inputs_of c command) its → ⊥
     no_fault its holds = held.no_fault its
-        (subst (λ (o : Option (List ℕ)). Holds ProgramFault o its) (ap (text_of c) begins.file) holds)
+        (subst (λ (o : Option (List ℕ)). Holds ProgramFault o its) (ap (text_at c) begins.file) holds)
 
     pub program_passed : Passed command c Program
     program_passed = record {
@@ -51,13 +55,13 @@ module _ (command : Command) (name : List ℕ) (begins : BeginsWith command name
       no_fault = no_fault;
     }
 
-    pub program_is : Holds IsProgramText (text_of c command.files.program) tree
-    program_is = subst (λ (o : Option (List ℕ)). Holds IsProgramText o tree) (sym (ap (text_of c) begins.file))
+    pub program_is : Holds IsProgramText (text_at c command.files.program) tree
+    program_is = subst (λ (o : Option (List ℕ)). Holds IsProgramText o tree) (sym (ap (text_at c) begins.file))
         held.one.holds
 
-    pub only_program : (that : Tree) → Holds IsProgramText (text_of c command.files.program) that → that ≡ tree
+    pub only_program : (that : Tree) → Holds IsProgramText (text_at c command.files.program) that → that ≡ tree
     only_program that holds = held.one.only that
-        (subst (λ (o : Option (List ℕ)). Holds IsProgramText o that) (ap (text_of c) begins.file) holds)
+        (subst (λ (o : Option (List ℕ)). Holds IsProgramText o that) (ap (text_at c) begins.file) holds)
 
   module _ (tree : Tree) (reads : ReadsTree told name (Ok tree)) (later : List Phase)
       (rest : begins.rest ≡ Types ∷ later) where

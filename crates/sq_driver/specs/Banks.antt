@@ -22,6 +22,7 @@ use Rattle.sq_compile.specs.Compiled.{IsPlanOf}
 use Rattle.sq_driver.specs.Capacity.{AreFormsOf}
 use Rattle.sq_driver.specs.Givens.{Extents, read_wants, Given}
 use Rattle.sq_driver.specs.Roots.{IsStart, read_parts, root_text}
+use Rattle.sq_driver.specs.Shown.{shown}
 use Rattle.sq_driver.specs.Meaning.{Answer, done, refused, trapped, usage, file_fault, no_memory, absent}
 
 -- the texts of an answer were put whole, or a put to `out` failed, or one to `err`, which got these bytes
@@ -92,11 +93,12 @@ abbrev pub IsWholeRun : Command → Option Content → (trace : List ℕ) → Op
 IsWholeRun command told trace ended old now =
     IsRun command told (λ p es. trace ≡ trace_of command p es) (HasEnded ended) old now
 
--- the whole run, in which nothing trapped, and of which the text for `out` is printed
+-- the whole run, in which nothing trapped, and of which the text for `out` is printed: that of the arrays in the root,
+-- and of the demo the line of that text
 pub record IsPrinted (command : Command) (told : Option Content) (out trace : List ℕ) (old now : BankSeen) : Type 0
   where
     pub run : IsWholeRun command told trace None old now
-    pub prints : out ≡ root_text run.forms run.entry run.plan now.nodes
+    pub prints : out ≡ shown command.kind command.way (root_text run.forms run.entry run.plan now.nodes)
 
 -- the lines of these events but the last one's, and a front of that
 pub record IsCutTrace (plan : Plan) (events : List Event) (got : List ℕ) : Type 0 where

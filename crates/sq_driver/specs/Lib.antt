@@ -1,6 +1,7 @@
 pub mod Banks
 pub mod Capacity
 pub mod Data
+pub mod DemoRuns
 pub mod Ends
 pub mod Entry
 pub mod Evaluating
@@ -21,6 +22,7 @@ pub mod Reported
 pub mod Roots
 pub mod RunLaws
 pub mod SharedFiles
+pub mod Shown
 pub mod Sources
 pub mod Steps
 pub mod Texts

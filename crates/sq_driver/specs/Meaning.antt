@@ -6,9 +6,10 @@ use Rattle.sq_text.specs.declared.fault.Fault.{Fault}
 use Rattle.sq_ast.specs.declared.program.Program.{Program as Tree}
 use Rattle.sq_ast.specs.Canonical.{canonical}
 use Rattle.sq_words.specs.declared.words.Kind.{Kind}
-use Rattle.sq_words.specs.declared.words.Kind.TheVariants.{Check, Fmt, Plan, Eval, Run}
-use Rattle.sq_words.specs.Words.{program, Command}
+use Rattle.sq_words.specs.declared.words.Kind.TheVariants.{Check, Fmt, Plan, Eval, Run, Demo}
+use Rattle.sq_words.specs.Words.{program, Way, Command}
 use Rattle.sq_driver.specs.Phases.{phases, file_of, Inputs, inputs_of, IsTold}
+use Rattle.sq_driver.specs.Shown.{demo_text}
 use Rattle.sq_driver.specs.Holding.{Holds}
 use Rattle.sq_driver.specs.Programs.{IsProgramText}
 use Rattle.sq_driver.specs.Entry.{GivesFlat, TrapsFlat}
@@ -38,13 +39,20 @@ pub record GivesCanonical (inputs : Inputs) (out : List ℕ) : Type 0 where
   pub program_is : Holds IsProgramText (inputs program) tree
   pub text : out ≡ canonical tree
 
+-- the line that the demo makes of the arrays that the source makes of its data
+pub record GivesLine (way : Way) (inputs : Inputs) (out : List ℕ) : Type 0 where
+  pub arrays : List ℕ
+  pub flat : GivesFlat inputs arrays
+  pub text : out ≡ demo_text way arrays
+
 -- the text for `out` of a command that is accepted and doesn't trap
-abbrev pub Gives : Kind → Inputs → List ℕ → Type 0
-Gives Check inputs out = out ≡ codes "ok\n"
-Gives Fmt inputs out = GivesCanonical inputs out
-Gives Plan inputs out = GivesReport inputs out
-Gives Eval inputs out = GivesFlat inputs out
-Gives Run inputs out = GivesFlat inputs out
+abbrev pub Gives : Kind → Way → Inputs → List ℕ → Type 0
+Gives Check way inputs out = out ≡ codes "ok\n"
+Gives Fmt way inputs out = GivesCanonical inputs out
+Gives Plan way inputs out = GivesReport inputs out
+Gives Eval way inputs out = GivesFlat inputs out
+Gives Run way inputs out = GivesFlat inputs out
+Gives Demo way inputs out = GivesLine way inputs out
 
 -- the first trap of a command that is accepted
 abbrev pub Traps : Kind → Inputs → Trap → Type 0
@@ -53,6 +61,7 @@ Traps Fmt inputs trap = ⊥
 Traps Plan inputs trap = ⊥
 Traps Eval inputs trap = TrapsFlat inputs trap
 Traps Run inputs trap = TrapsFlat inputs trap
+Traps Demo inputs trap = TrapsFlat inputs trap
 
 -- nothing traps
 abbrev pub IsTrapless : Kind → Inputs → Type 0
@@ -71,7 +80,7 @@ pub data Answer : Type 0 where
 -- the cause of an answer, where the files hold this
 abbrev pub IsCause : Command → Content → Answer → Type 0
 IsCause command c (done out trace) = AllPassed command c (phases command.kind)
-    × Gives command.kind (inputs_of c command) out × IsTrapless command.kind (inputs_of c command)
+    × Gives command.kind command.way (inputs_of c command) out × IsTrapless command.kind (inputs_of c command)
 IsCause command c (refused phase its) = Reached command c phase × IsFirstOf phase (inputs_of c command) its
 IsCause command c (trapped trap trace) = AllPassed command c (phases command.kind)
     × Traps command.kind (inputs_of c command) trap

@@ -4,8 +4,10 @@ use Rattle.sq_port.specs.Ports.{Content}
 use Rattle.sq_text.specs.declared.code.Phase.{Phase}
 use Rattle.sq_text.specs.declared.code.Phase.TheVariants.{Program, Types, Machine, Mapping, Resolve, Race, Capacity, Order, Input}
 use Rattle.sq_words.specs.declared.words.Kind.{Kind}
-use Rattle.sq_words.specs.declared.words.Kind.TheVariants.{Check, Fmt, Plan, Eval, Run}
-use Rattle.sq_words.specs.Words.{Role, program, mapping, machine, input, order, Files, no_files, named, Command}
+use Rattle.sq_words.specs.declared.words.Kind.TheVariants.{Check, Fmt, Plan, Eval, Run, Demo}
+use Rattle.sq_words.specs.Words.{Role, program, mapping, machine, input, order, Way, first, last, seed, list, Files, no_files, named, Command}
+use Rattle.sq_report.specs.Demo.{demo_program, demo_mapping, demo_machine}
+use Rattle.sq_demo.specs.Data.{demo_data}
 
 -- the phases of a command, in order
 abbrev pub phases : Kind → List Phase
@@ -14,6 +16,7 @@ phases Fmt = Program ∷ []
 phases Plan = Program ∷ Types ∷ Machine ∷ Mapping ∷ Resolve ∷ Race ∷ Capacity ∷ []
 phases Eval = Program ∷ Types ∷ Machine ∷ Mapping ∷ Resolve ∷ Race ∷ Input ∷ []
 phases Run = Program ∷ Types ∷ Machine ∷ Mapping ∷ Resolve ∷ Race ∷ Capacity ∷ Order ∷ Input ∷ []
+phases Demo = Program ∷ Types ∷ Machine ∷ Mapping ∷ Resolve ∷ Race ∷ Capacity ∷ Order ∷ Input ∷ []
 
 -- what the file is for that is read when a phase begins, where the words name one
 abbrev pub role_of : Phase → Option Role
@@ -34,6 +37,7 @@ opens Fmt = false
 opens Plan = false
 opens Eval = false
 opens Run = true
+opens Demo = true
 
 -- whether a phase comes behind the opening, where there is one
 abbrev pub is_late : Phase → Bool
@@ -58,16 +62,44 @@ file_for files (Some role) = named files role
 abbrev pub file_of : Command → Phase → Option (List ℕ)
 file_of command phase = file_for command.files (role_of phase)
 
--- what the files of some words hold, each by what it is for
+-- what a command works on: what its files hold, and what it has by itself, each by what it is for
 abbrev pub Inputs : Type 0
 Inputs = Role → Option (List ℕ)
 
+-- the number of a seed
+abbrev pub seed_in : Way → ℕ
+seed_in (seed n) = n
+seed_in first = 0
+seed_in last = 0
+seed_in list = 0
+
+-- the texts of the demo of a number
+abbrev pub demo_inputs : ℕ → Inputs
+demo_inputs n program = Some demo_program
+demo_inputs n mapping = Some demo_mapping
+demo_inputs n machine = Some demo_machine
+demo_inputs n input = Some (demo_data n)
+demo_inputs n order = None
+
+-- the texts that a command has by itself: the demo those of its number, the others none
+abbrev pub own_inputs : Kind → Way → Inputs
+own_inputs Check way role = None
+own_inputs Fmt way role = None
+own_inputs Plan way role = None
+own_inputs Eval way role = None
+own_inputs Run way role = None
+own_inputs Demo way role = demo_inputs (seed_in way) role
+
+-- what a file holds, and where none is named this
+abbrev pub text_or : Option (List ℕ) → Content → Option (List ℕ) → Option (List ℕ)
+text_or own c None = own
+text_or own c (Some name) = c name
+
 abbrev pub text_of : Content → Option (List ℕ) → Option (List ℕ)
-text_of c None = None
-text_of c (Some name) = c name
+text_of c file = text_or None c file
 
 abbrev pub inputs_of : Content → Command → Inputs
-inputs_of c command role = text_of c (named command.files role)
+inputs_of c command role = text_or (own_inputs command.kind command.way role) c (named command.files role)
 
 -- what the files hold is told, or the command has no file
 abbrev pub IsTold : Command → Option Content → Content → Type 0

@@ -3,6 +3,7 @@
 
 mod capacity;
 mod check;
+mod demo;
 mod end;
 mod entry;
 mod eval;

@@ -168,6 +168,7 @@ fn dispatch<'a, F: Files, S: Sink, E: Sink, B: Bank>(
         Some(Command::Plan(plan)) => plan.perform(alloc, world),
         Some(Command::Eval(eval)) => eval.perform(alloc, world),
         Some(Command::Run(run)) => run.perform(alloc, world),
+        Some(Command::Demo(demo)) => demo.perform(alloc, world),
         None => Err(End::Usage),
     }
 }

@@ -1,5 +1,6 @@
 mod Counted
 mod Examples
+mod Filling
 mod Lists
 mod Pieces
 mod Sums

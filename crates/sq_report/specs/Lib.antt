@@ -4,3 +4,4 @@ pub mod Reports
 pub mod Laws
 pub mod Examples
 pub mod Answers
+pub mod Demo

@@ -4,6 +4,7 @@
 mod adding;
 mod answers;
 mod buffers;
+mod demo;
 mod edges;
 pub mod laws;
 mod levels;
@@ -14,6 +15,7 @@ mod totals;
 mod trap;
 
 pub use answers::{put_fault, put_named, put_trap};
+pub use demo::{DemoInput, demo_elements, demo_fill, demo_texts, put_demo};
 pub use report::put_plan;
 pub use totals::{Totals, totals_of};
 pub use trap::{Trap, trap_at};

@@ -7,9 +7,9 @@ use Rattle.std.specs.declared.alloc.Global.{Global}
 use Rattle.sq_words.specs.declared.options.Way.{Way as ReadWay}
 use Rattle.sq_words.specs.declared.options.Way.TheVariants.{First, Last, Seed, List as Listed}
 use Rattle.sq_words.specs.declared.words.Kind.{Kind}
-use Rattle.sq_words.specs.declared.words.Kind.TheVariants.{Check, Fmt, Plan, Eval, Run}
+use Rattle.sq_words.specs.declared.words.Kind.TheVariants.{Check, Fmt, Plan, Eval, Run, Demo}
 use Rattle.sq_words.specs.declared.words.Command.{Command as Read}
-use Rattle.sq_words.specs.declared.words.Command.TheVariants.{Check as ReadCheck, Fmt as ReadFmt, Plan as ReadPlan, Eval as ReadEval, Run as ReadRun}
+use Rattle.sq_words.specs.declared.words.Command.TheVariants.{Check as ReadCheck, Fmt as ReadFmt, Plan as ReadPlan, Eval as ReadEval, Run as ReadRun, Demo as ReadDemo}
 
 -- ---- commands
 
@@ -54,7 +54,8 @@ pub data Way : Type 0 where
   seed : (n : ℕ) → Way
   list : Way
 
--- a command, with the names of its files; of other kinds than runs the way is the first, and none is traced
+-- a command, with the names of its files; of other kinds than runs and the demo the way is the first, and none is
+-- traced but a run
 pub record Command : Type 0 where
   pub kind : Kind
   pub files : Files
@@ -162,7 +163,7 @@ options_of options (word ∷ words) = option_and_then (λ more. options_of more 
 
 -- the first word of a command
 abbrev pub kind_of : List ℕ → Option Kind
-kind_of word = if bytes_eq word (codes "check") then Some Check else (if bytes_eq word (codes "fmt") then Some Fmt else (if bytes_eq word (codes "plan") then Some Plan else (if bytes_eq word (codes "eval") then Some Eval else (if bytes_eq word (codes "run") then Some Run else None))))
+kind_of word = if bytes_eq word (codes "check") then Some Check else (if bytes_eq word (codes "fmt") then Some Fmt else (if bytes_eq word (codes "plan") then Some Plan else (if bytes_eq word (codes "eval") then Some Eval else (if bytes_eq word (codes "run") then Some Run else (if bytes_eq word (codes "demo") then Some Demo else None)))))
 
 -- its further words: what the files that they name are for
 abbrev pub roles : Kind → List Role
@@ -171,6 +172,7 @@ roles Fmt = program ∷ []
 roles Plan = program ∷ mapping ∷ machine ∷ []
 roles Eval = program ∷ mapping ∷ machine ∷ input ∷ []
 roles Run = program ∷ mapping ∷ machine ∷ input ∷ []
+roles Demo = []
 
 -- a name for each of the roles, and none too many
 abbrev pub named_in_turn : List Role → List (List ℕ) → Files → Option Files
@@ -178,9 +180,19 @@ named_in_turn [] [] files = Some files
 named_in_turn (role ∷ rest) (name ∷ names) files = named_in_turn rest names (with_file role name files)
 named_in_turn rest names files = None
 
--- what the words behind the names say: a run alone has options
+-- the order of a number, which a seed is made of
+abbrev pub seeded : List ℕ → Option Options
+seeded text = option_map (λ n. record { order = Some (with_no_file (seed n)); traced = None }) (seed_number text)
+
+-- one word, which is a number
+abbrev pub seed_for : List (List ℕ) → Option Options
+seed_for (word ∷ []) = seeded word
+seed_for words = None
+
+-- what the words behind the names say: a run alone has options, and the demo has a number, the seed of its order
 abbrev pub options_for : Kind → List (List ℕ) → Option Options
 options_for Run words = options_of no_options words
+options_for Demo words = seed_for words
 options_for kind [] = Some no_options
 options_for kind (word ∷ words) = None
 
@@ -232,6 +244,10 @@ eval_of name its_mapping its_machine its_input = command_with Eval (all_files na
 abbrev pub run_of : List ℕ → List ℕ → List ℕ → List ℕ → Order → Bool → Command
 run_of name its_mapping its_machine its_input said traced = command_with Run (all_files name its_mapping its_machine its_input) said traced
 
+-- the demo of this number
+abbrev pub demo_of : ℕ → Command
+demo_of n = command_with Demo no_files (with_no_file (seed n)) false
+
 -- the order that was read
 abbrev pub asked : ReadWay → Order
 asked First = with_no_file first
@@ -246,3 +262,4 @@ meant (ReadFmt words) = fmt_of words.program.now
 meant (ReadPlan words) = plan_of words.program.now words.mapping.now words.machine.now
 meant (ReadEval words) = eval_of words.program.now words.mapping.now words.machine.now words.input.now
 meant (ReadRun words) = run_of words.program.now words.mapping.now words.machine.now words.input.now (asked words.order) words.traced
+meant (ReadDemo words) = demo_of words.seed

@@ -3,6 +3,7 @@ ghost use Rattle.std.specs.Prelude.{◌≡◌, MatchOption, None, Some};
 ghost use Rattle.sq_words.specs.Words.{command_of, kind_of, meant, named_command, texts};
 
 use crate::options::{Way, options_of};
+use crate::seeds::seed_number;
 
 /// What a command does.
 #[derive(Clone, Copy, Debug, PartialEq, Eq)]
@@ -12,6 +13,7 @@ pub enum Kind {
     Plan,
     Eval,
     Run,
+    Demo,
 }
 
 /// `check PROG`
@@ -54,6 +56,12 @@ pub struct Run<'a> {
     pub traced: bool,
 }
 
+/// `demo N`, whose number is the seed of its data and of its order
+#[derive(Clone, Copy)]
+pub struct Demo {
+    pub seed: u64,
+}
+
 /// A command with the names of its files.
 #[derive(Clone, Copy)]
 pub enum Command<'a> {
@@ -62,6 +70,7 @@ pub enum Command<'a> {
     Plan(Plan<'a>),
     Eval(Eval<'a>),
     Run(Run<'a>),
+    Demo(Demo),
 }
 
 /// The command that the words are, if they are one. It takes no memory.
@@ -91,6 +100,8 @@ fn kind_for(word: &str) -> Option<Kind>
         Some(Kind::Eval)
     } else if word == "run" {
         Some(Kind::Run)
+    } else if word == "demo" {
+        Some(Kind::Demo)
     } else {
         None
     }
@@ -129,6 +140,10 @@ fn with_words(kind: Kind, words: &[String]) -> Option<Command<'_>>
                 traced: options.traced.unwrap_or(false),
             }))
         }
+        (Kind::Demo, [number]) => match seed_number(number.as_str()) {
+            Some(seed) => Some(Command::Demo(Demo { seed })),
+            None => None,
+        },
         _ => None,
     }
 }

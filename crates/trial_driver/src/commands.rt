@@ -323,6 +323,21 @@ fn runs_in_orders_and_with_traces(rt: HostRuntime) -> Result<(), Fail> {
     Ok(())
 }
 
+// The sum was computed apart, by the recurrences that PCG32 and the seeds of rand_core are published with.
+const DEMO: Case<'static> = Case {
+    words: &["demo", "7"],
+    status: Status::Done,
+    out: b"demo 7 leaves 4096 sum 33841162572\n",
+    err: b"",
+};
+
+#[test]
+fn the_demo_has_one_line(rt: HostRuntime) -> Result<(), Fail> {
+    assert!(rt; answers(&rt, &DEMO)?);
+    assert!(rt; answers(&rt, &DEMO)?);
+    Ok(())
+}
+
 const EVALUATED: &[Case<'static>] = &[
     Case {
         words: &["eval", "two.sq", "8.map", "two.mach", "8.txt"],

@@ -23,6 +23,13 @@ const LINES: &[(&str, bool)] = &[
     ("run P M K D order=seed:", false),
     ("run P M K D order=seed:+7", false),
     ("run P M K D first", false),
+    ("demo 7", true),
+    ("demo 00000000000000000007", true),
+    ("demo 18446744073709551615", true),
+    ("demo 18446744073709551616", false),
+    ("demo", false),
+    ("demo seven", false),
+    ("demo 7 order=first", false),
 ];
 
 // Whether these words, with blanks between them, are a command.

@@ -1,0 +1,30 @@
+//! A history that only proofs read. It takes no memory, and its methods do nothing when the program runs.
+ghost use Rattle.std.specs.Prelude.{◌≡◌, List, [], ◌∷◌, ◌++◌};
+ghost use Rattle.std.specs.Borrow.{ftrue};
+
+use std::marker::{Model, PhantomData};
+
+/// A clause reads the pairs as `items`.
+#[derive(Drop)]
+pub struct Log<A, B> {
+    of: PhantomData<(A, B)>,
+    pub ghost items: { List (A × B) },
+}
+
+impl<A, B> Model for Log<A, B> {
+    ghost also_owns = { λ _. ftrue };
+}
+
+impl<A, B> Log<A, B> {
+    pub fn new() -> Log<A, B>
+        ensures { result.items ≡ [] }
+    {
+        Log { of: PhantomData }
+    }
+
+    pub fn and(&self, first: &A, second: &B) -> Log<A, B>
+        ensures { result.items ≡ self.now.items ++ (first.now, second.now) ∷ [] }
+    {
+        Log { of: PhantomData }
+    }
+}
