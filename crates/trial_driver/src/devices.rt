@@ -89,13 +89,14 @@ const COMMANDS: &[Command<'static>] = &[
         err: TRACE,
         files: &["two.sq", "two.mach", "8.map", "picks0.txt", "8.txt"],
     },
-    // The trap is that of the first order, and the events of the other child follow it.
+    // The trap is that of the first order, and the events of the other child follow it. A core has no room for a second
+    // set of buffers.
     Command {
         words: &[
             "run",
             "tens.sq",
             "tens.map",
-            "two.mach",
+            "less.mach",
             "tens.txt",
             "order=last",
             "trace=yes",
@@ -103,7 +104,7 @@ const COMMANDS: &[Command<'static>] = &[
         status: Status::Trapped,
         out: b"",
         err: b"fill 0.0:16 16\nfill 1.1:8 4\ncopy 0.0:4 1.1:0 4\nleaf 1.1 low\nfill 1.0:8 4\ncopy 0.0:0 1.0:0 4\nleaf 1.0 low\ncopy 1.0:8 0.0:16 4\nfill 1.0:8 4\ncopy 0.0:8 1.0:0 4\nleaf 1.0 low\ncopy 1.0:8 0.0:24 4\ntrapped DivZero 9:41 path 1\n",
-        files: &["tens.sq", "two.mach", "tens.map", "tens.txt"],
+        files: &["tens.sq", "less.mach", "tens.map", "tens.txt"],
     },
 ];
 
