@@ -2,7 +2,6 @@
 #![tactic(auto)]
 
 mod adding;
-mod log;
 mod sum_sink;
 
 pub use sum_sink::SumSink;

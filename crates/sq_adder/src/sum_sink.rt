@@ -4,7 +4,7 @@ ghost use Rattle.std.specs.List.{fold};
 ghost use Rattle.sq_adder.specs.Sums.{added, nothing_added, bytes_told, text_sum};
 
 use crate::adding::Adding;
-use crate::log::Log;
+use http_server::Log;
 use sq_port::{Failed, Sink};
 
 /// Behind the first line of the text. No put fails, and nothing of the text is kept but for proofs.
