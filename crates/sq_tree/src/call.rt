@@ -10,7 +10,8 @@ ghost use Rattle.sq_tree.specs.Calls.{RunsAt, CallsAt};
 
 use sq_ir::Plan;
 use sq_ir::laws::runs_of_leaves_are_their_events;
-use sq_leaf::{LeafCode, Trap, run_leaf};
+use sq_leaf::{LeafCode, Trap};
+use sq_leaf_run::run_leaf;
 use sq_raw::RawMem;
 use sq_rect::{Path, Views};
 

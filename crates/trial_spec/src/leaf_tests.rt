@@ -1,6 +1,7 @@
 //! Leaf code over programs as texts. What comes of each was computed apart from the project's code.
 use sq_blocks::{Bindings, Env, ListBindings};
-use sq_leaf::{LeafCode, Trap, TrapKind, are_in_line, compile_leaf, leaf_variant, run_leaf};
+use sq_leaf::{LeafCode, Trap, TrapKind, are_in_line, compile_leaf, leaf_variant};
+use sq_leaf_run::run_leaf;
 use sq_num::{Elem, load_elem, store_elem, width};
 use sq_rect::{Dims, View, Views};
 use sq_source::read_program;
