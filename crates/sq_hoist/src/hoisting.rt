@@ -53,7 +53,8 @@ fn push_form_sites(
     Ok(())
 }
 
-/// The calls in plain loops of all forms, by the number of the form in which they stand. The tables of one form are there
+/// The calls in plain loops of all forms, by the number of the form in which they stand. The tables of one form are
+/// there
 /// at a time.
 pub fn sites_of(alloc: Global, r: &Resolved<'_>) -> Result<Items<Site>, AllocError>
     ensures { IfOk result (λ ss. ss ≡ spec.sites_of r.now) }

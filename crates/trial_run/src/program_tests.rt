@@ -1,4 +1,5 @@
-//! Programs as texts, compiled and run: the events of their plans, the bytes that these leave, their traps, and what has
+//! Programs as texts, compiled and run: the events of their plans, the bytes that these leave, their traps, and what
+//! has
 //! no room. All was computed by hand from what the language and the passes say.
 ghost use Rattle.std.specs.Prelude.{◌≡◌, None, IfOk};
 ghost use Rattle.sq_ir.specs.Plans.{IsGood};

@@ -36,7 +36,8 @@ use std::alloc::{AllocError, Global};
 use std::rc::Rc;
 
 impl<'a> Perform<'a> for Run<'a> {
-    ghost command = { λ words. run_of words.program.now words.mapping.now words.machine.now words.input.now (asked words.order) words.traced };
+    ghost command = { λ words. run_of words.program.now words.mapping.now words.machine.now words.input.now
+        (asked words.order) words.traced };
 
     // Not inlined: each command has the stack to itself.
     #[inline(never)]

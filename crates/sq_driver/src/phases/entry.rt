@@ -1,5 +1,6 @@
 //! The arrays of the entry: what the data gives for them, and what is written of them.
-ghost use Rattle.std.specs.Prelude.{◌≡◌, ◌++◌, ◌*◌, ◌≤◌, ℕ, List, [], ◌∷◌, true, Ok, map, length, slice_get, IfOk, OnOk};
+ghost use Rattle.std.specs.Prelude.{◌≡◌, ◌++◌, ◌*◌, ◌≤◌, ℕ, List, [], ◌∷◌, true, Ok, map, length, slice_get, IfOk};
+ghost use Rattle.std.specs.Prelude.{OnOk};
 ghost use Rattle.sq_num.specs.Elements.{width};
 ghost use Rattle.sq_rect.specs.Extents.{product};
 ghost use Rattle.sq_arrays.specs.Arrays.{wanted};
@@ -13,7 +14,8 @@ ghost use Rattle.sq_driver.specs.Data.{args_for, code_for};
 ghost use Rattle.sq_driver.specs.Ends.{ending, FileCauses};
 ghost use Rattle.sq_driver.specs.Entry.{params_of, wants_of};
 ghost use Rattle.sq_driver.specs.Outputs.{stored_output, stored_text, stored_texts};
-ghost use Rattle.sq_driver.specs.Picking.{read_want, picked, number_from, KeepsOthers, keeps_itself, keeps_on, ReadsData, ReadsGiven};
+ghost use Rattle.sq_driver.specs.Picking.{read_want, picked, number_from, KeepsOthers, keeps_itself, keeps_on};
+ghost use Rattle.sq_driver.specs.Picking.{ReadsData, ReadsGiven};
 ghost use Rattle.sq_driver.specs.Steps.{WroteOut};
 
 use crate::outside::end::End;
@@ -124,7 +126,8 @@ impl ArrayTarget for Given<'_> {
 
     ghost keeps_itself = { λ g. keeps_itself g.params.now g.arrays };
 
-    ghost keeps_on = { λ g h i first second. keeps_on g.params.now h.params.now i.params.now g.arrays h.arrays i.arrays first second };
+    ghost keeps_on = { λ g h i first second. keeps_on g.params.now h.params.now i.params.now g.arrays h.arrays i.arrays
+        first second };
 }
 
 /// The code of a fault of the data.
