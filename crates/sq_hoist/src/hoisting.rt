@@ -8,7 +8,7 @@ ghost use Rattle.sq_hoist.specs.Notes as notes;
 use crate::choices::choices_of;
 use crate::notes::notes_of;
 use crate::sites::{Site, push_sites};
-use sq_homes::{Choice, draft_of};
+use sq_homes::{Choice, draft_of, form_number};
 use sq_ir::{Draft, Notes};
 use sq_spec::{Body, Resolved};
 use sqlite_items::Items;
@@ -28,15 +28,6 @@ fn push_body_sites(
             push_sites(alloc, out, form, list.as_slice())?;
             Ok(())
         }
-    }
-}
-
-fn form_number(form: usize) -> Result<u32, AllocError>
-    ensures { IfOk result (λ n. n ≡ form) }
-{
-    match u32::try_from(form) {
-        Ok(n) => Ok(n),
-        Err(_) => Err(AllocError),
     }
 }
 

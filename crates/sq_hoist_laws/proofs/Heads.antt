@@ -20,54 +20,11 @@ use Rattle.sq_forms.specs.Args.{Names, worths, of_array, of_block, all_of_array,
 use Rattle.sq_forms.specs.Args.{block_by, block, mode_of, is_reduced}
 use Rattle.sq_spec.specs.Statements.{array_number}
 use Rattle.sq_form_laws.specs.Reached.{AreExamined}
+use Rattle.sq_forms_fit.proofs.RowsHold.{array_of, array_by, found_block}
 use Rattle.sq_hoist_laws.proofs.Staying.{word}
-
-abbrev found_block : Block → Value Block
-found_block x = Ok x
 
 abbrev found_argument : Argument → Value Argument
 found_argument x = Ok x
-
-abbrev blocks_number : Option Blocks → ℕ
-blocks_number None = 0
-blocks_number (Some x) = x.array
-
--- the array of an argument with these indices
-abbrev array_of : Names → ArgUse → List Expr → ℕ
-array_of names a [] = array_number (lookup (same_name (out-ArgUse a).name) names.arrays)
-array_of names a (e ∷ es) = blocks_number (lookup (same_name (out-ArgUse a).name) names.blocks)
-
-block_same : (x y : Block) → found_block x ≡ found_block y → x ≡ y
-block_same x y e = cc e
-
-whole_array_of : (a : ArgUse) (o : Option Array) (x : Block) → block_or_fault a (all_of_array o) ≡ found_block x
-    → x.array ≡ array_number o
-whole_array_of a None x e = absurd (cc e)
-whole_array_of a (Some y) x e = go (wholes y.extents) e
-  where
-    go : (r : Option (List Span)) → block_or_fault a (of_array y.number r) ≡ found_block x → x.array ≡ y.number
-    go None f = absurd (cc f)
-    go (Some rect) f = ap (λ (z : Block). z.array) (sym (block_same (record { array = y.number; rect = rect }) x f))
-
-block_array_of : (a : ArgUse) (index : List ℤ) (o : Option Blocks) (x : Block)
-    → block_or_fault a (block_of index o) ≡ found_block x → x.array ≡ blocks_number o
-block_array_of a index None x e = absurd (cc e)
-block_array_of a index (Some y) x e = go (block_spans y.chop index) e
-  where
-    go : (r : Result (List Span) ConstFault) → block_or_fault a (of_block y.array r) ≡ found_block x → x.array ≡ y.array
-    go (Err f) g = absurd (cc g)
-    go (Ok rect) g = ap (λ (z : Block). z.array) (sym (block_same (record { array = y.array; rect = rect }) x g))
-
-array_by : (names : Names) (numbers : Numbers) (a : ArgUse) (es : List Expr) (x : Block)
-    → block_by names numbers a es ≡ found_block x → x.array ≡ array_of names a es
-array_by names numbers a [] x e = whole_array_of a (lookup (same_name (out-ArgUse a).name) names.arrays) x e
-array_by names numbers a (i ∷ es) x e = go (worths (i ∷ es) numbers names.lists) e
-  where
-    go : (v : Value (List ℤ))
-        → and_then v (λ index. block_or_fault a (block_in names (out-ArgUse a).name index)) ≡ found_block x
-        → x.array ≡ blocks_number (lookup (same_name (out-ArgUse a).name) names.blocks)
-    go (Ok index) f = block_array_of a index (lookup (same_name (out-ArgUse a).name) names.blocks) x f
-    go (Err f) g = absurd (cc g)
 
 -- what is the same of an argument each time
 abbrev word_of : Names → Option Bytes → Option Param → ArgUse → Argument

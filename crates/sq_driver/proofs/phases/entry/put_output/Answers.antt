@@ -1,4 +1,4 @@
-use Rattle.sq_driver.proofs.Puts.{wrote_behind, wrote_none}
+use Rattle.sq_demo.proofs.Puts.{wrote_behind, wrote_none}
 use Rattle.sq_driver.proofs.phases.entry.put_output.Goals as goal
 
 pub returns-in-Ok-clause-wrote : goal.returns-in-Ok-clause-wrote
