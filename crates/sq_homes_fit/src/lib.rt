@@ -78,7 +78,6 @@ pub fn drafts_can_be_placed()
 
 /// Its buffers stand behind one another by forms: at each level those of the form that is called behind those of the
 /// forms round it.
-#[tactic(auto, using(crate::proofs::Placeable::drafts_are_stacked_by_forms))]
 pub fn drafts_are_stacked_by_forms()
     ensures { DraftsAreStackedByForms }
 {}
