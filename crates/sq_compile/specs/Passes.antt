@@ -1,5 +1,5 @@
 -- Each pass gives a draft whose plan is good, wherever its buffers stand with room for those that are live.
-use Rattle.std.specs.Prelude.{◌≡◌, List}
+use Rattle.std.specs.Prelude.{List}
 use Rattle.sq_spec.specs.declared.resolved.Resolved.{Resolved}
 use Rattle.sq_ir.specs.declared.plan.Draft.{Draft}
 use Rattle.sq_ir.specs.declared.plan.Plan.{Plan}

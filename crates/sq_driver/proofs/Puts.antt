@@ -1,8 +1,8 @@
 -- The texts of arrays, put one after another.
-use Rattle.std.proofs.Common.{◌≡◌, ℕ, zero, suc, ◌+◌, ◌*◌, ◌<◌, ◌≤◌, Bool, true, List, [], ◌∷◌, ◌++◌, append_assoc, drop, length, map, get_or, slice_get, Option, Some, Result, Ok, Err, OnOk, OnErr, refl, sym, ◌∙◌, ap, subst, arith}
+use Rattle.std.proofs.Common.{◌≡◌, ℕ, zero, suc, ◌+◌, ◌*◌, ◌<◌, true, List, [], ◌∷◌, ◌++◌, append_assoc, drop, length, map, get_or, slice_get, Option, Some, Result, refl, sym, ◌∙◌, ap, subst, arith}
 use Rattle.std.proofs.lemmas.Option.{slice_get_read, get_or_from_slice_get}
 use Rattle.sq_num.specs.Elements.{width}
-use Rattle.sq_port.specs.Ports.{Gains, GainsPrefix, Rose, Wrote}
+use Rattle.sq_port.specs.Ports.{Wrote}
 use Rattle.sq_port.specs.declared.sink.Failed.{Failed}
 use Rattle.sq_rect.specs.Extents.{product}
 use Rattle.sq_ast.specs.declared.program.Mode.{Mode}

@@ -1,7 +1,6 @@
 -- Where no argument leaves a loop, nothing is asked of loops.
-use Rattle.std.proofs.Common.{◌≡◌, ℕ, true, false, get_or, Option, Some, None, slice_get, sym, ap, ◌∙◌}
+use Rattle.std.proofs.Common.{◌≡◌, ℕ, get_or, Option, Some, None, slice_get}
 use Rattle.sq_spec.specs.declared.statement.CallInstance.{CallInstance}
-use Rattle.sq_placed.specs.declared.home.Home.{Home}
 use Rattle.sq_placed.specs.declared.home.Home.TheVariants.{InPlace, Held}
 use Rattle.sq_placed.specs.declared.home.Homes.{Homes}
 use Rattle.sq_rooms.specs.Orders.{rounds_of, params_of}

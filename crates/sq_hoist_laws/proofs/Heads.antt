@@ -1,26 +1,18 @@
 -- The arguments of a call differ in their blocks alone, whatever the numbers are with which it is reached.
-use Rattle.std.proofs.Common.{◌≡◌, ℕ, ◌+◌, List, [], ◌∷◌, map, slice_get, Option, Some, None, Ok, Err, Result, refl}
+use Rattle.std.proofs.Common.{◌≡◌, ℕ, ◌+◌, List, [], ◌∷◌, map, slice_get, Option, Ok, Err, refl}
 use Rattle.std.proofs.Common.{sym}
-use Rattle.std.proofs.Common.{◌∙◌, ap, ap₂, ℤ}
-use Rattle.std.specs.Map.{lookup}
-use Rattle.sq_text.specs.declared.place.Span.{Span}
-use Rattle.sq_text.specs.Names.{Bytes, same_name}
-use Rattle.sq_ast.specs.declared.expr.Expr.{Expr}
+use Rattle.std.proofs.Common.{◌∙◌, ap, ap₂}
+use Rattle.sq_text.specs.Names.{Bytes}
 use Rattle.sq_ast.specs.declared.expr.ArgUse.{ArgUse, out-ArgUse}
 use Rattle.sq_ast.specs.declared.program.Param.{Param}
 use Rattle.sq_blocks.specs.Names.{Numbers}
-use Rattle.sq_blocks.specs.Spans.{wholes, block as block_spans}
-use Rattle.sq_blocks.specs.declared.fault.ConstFault.{ConstFault}
 use Rattle.sq_blocks.specs.declared.argument.Argument.{Argument}
-use Rattle.sq_forms.specs.declared.known.Array.{Array}
-use Rattle.sq_forms.specs.declared.known.Blocks.{Blocks}
 use Rattle.sq_forms.specs.declared.args.Block.{Block}
 use Rattle.sq_forms.specs.Faults.{Value, and_then}
-use Rattle.sq_forms.specs.Args.{Names, worths, of_array, of_block, all_of_array, block_of, block_in, block_or_fault}
-use Rattle.sq_forms.specs.Args.{block_by, block, mode_of, is_reduced}
-use Rattle.sq_spec.specs.Statements.{array_number}
+use Rattle.sq_forms.specs.Args.{Names}
+use Rattle.sq_forms.specs.Args.{block, mode_of, is_reduced}
 use Rattle.sq_form_laws.specs.Reached.{AreExamined}
-use Rattle.sq_forms_fit.proofs.RowsHold.{array_of, array_by, found_block}
+use Rattle.sq_forms_fit.proofs.RowsHold.{array_of, array_by}
 use Rattle.sq_hoist_laws.proofs.Staying.{word}
 
 abbrev found_argument : Argument → Value Argument

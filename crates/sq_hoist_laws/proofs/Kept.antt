@@ -1,8 +1,7 @@
 -- Choices by which nothing leaves a loop and no loop overlaps its transfers may be chosen.
-use Rattle.std.proofs.Common.{◌≡◌, ℕ, zero, suc, ◌≤◌, Bool, true, false, List, [], ◌∷◌, map, length, get_or, slice_get}
+use Rattle.std.proofs.Common.{◌≡◌, ℕ, zero, suc, true, false, List, [], ◌∷◌, map, length, get_or, slice_get}
 use Rattle.std.proofs.Common.{Option, Some, None, refl, sym, ap, subst, ◌∙◌, arith, if◌then◌else◌}
 use Rattle.sq_forms.specs.declared.form.Form.{Form}
-use Rattle.sq_form_laws.proofs.RanHold.{as_many_forms}
 use Rattle.sq_spec.specs.declared.statement.CallInstance.{CallInstance}
 use Rattle.sq_spec.specs.declared.statement.Statement.{Statement, roll-Statement}
 use Rattle.sq_spec.specs.declared.statement.Statement.TheVariants as b
@@ -13,8 +12,7 @@ use Rattle.sq_spec.specs.declared.body.Body.TheVariants as body
 use Rattle.sq_spec.specs.declared.body.FormBody.{FormBody}
 use Rattle.sq_spec.specs.declared.resolved.Resolved.{Resolved}
 use Rattle.sq_spec.specs.Bodies.{body_of}
-use Rattle.sq_placed.specs.declared.home.Home.{Home}
-use Rattle.sq_placed.specs.declared.home.Home.TheVariants.{InPlace, Own, Held, Twin}
+use Rattle.sq_placed.specs.declared.home.Home.TheVariants.{InPlace, Held}
 use Rattle.sq_placed.specs.declared.home.Homes.{Homes}
 use Rattle.sq_placed.specs.Pipes.{NonePiped}
 use Rattle.sq_placed.proofs.Pipes.{none_stand}
@@ -27,10 +25,10 @@ use Rattle.sq_forms_fit.specs.Held.{HoldsFit, UnheldFits}
 use Rattle.sq_forms_fit.specs.Piped.{PipesFit, UnpipedFits}
 use Rattle.sq_homes.specs.declared.choice.Choice.{Choice}
 use Rattle.sq_homes.specs.Numbering.{left_by}
-use Rattle.sq_homes.specs.Drafts.{bodies_of, homes_of, choice_in, no_choice}
-use Rattle.sq_homes_laws.specs.Choosing.{IsChosenFor, left_in, MayBeChosen, NoneOverlaps}
+use Rattle.sq_homes.specs.Drafts.{bodies_of, homes_of, choice_in}
+use Rattle.sq_homes_laws.specs.Choosing.{left_in, MayBeChosen, NoneOverlaps}
 use Rattle.sq_homes_laws.proofs.Hoisting.{no_homes_at, left_within, none_pipes}
-use Rattle.sq_hoist_laws.proofs.Programs.{held_chosen, params_suited, flag_there}
+use Rattle.sq_hoist_laws.proofs.Programs.{held_chosen, params_suited}
 
 -- ---- statements in which nothing leaves a loop
 

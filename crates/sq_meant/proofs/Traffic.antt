@@ -1,14 +1,10 @@
 -- The sums over the events of a whole run are those over the plan written out.
-use Rattle.std.proofs.Common.{◌≡◌, ℕ, ◌+◌, List, [], ◌∷◌, ◌++◌, refl, sym, ap, ap₂, ◌∙◌, arith}
-use Rattle.sq_leaf.specs.declared.trap.Trap.{Trap}
+use Rattle.std.proofs.Common.{◌≡◌, ℕ, ◌+◌, List, [], ◌∷◌, ◌++◌, refl, ap, ap₂, ◌∙◌, arith}
 use Rattle.sq_ir.specs.Tree as tree
 use Rattle.sq_ir.specs.Tree.{Tree, waiting_events}
 use Rattle.sq_ir.specs.Events.{Event, Copy, Fill, Accumulate, Leaf}
 use Rattle.sq_ir.specs.Plans.{tree_of}
 use Rattle.sq_ir.specs.Traffic.{level_in}
-use Rattle.sq_ir.specs.declared.plan.Plan.{Plan}
-use Rattle.sq_ir.specs.declared.traffic.Carried.{Carried}
-use Rattle.sq_ir.specs.declared.traffic.EventCounts.{EventCounts}
 use Rattle.sq_nests.specs.Stacks.{capped}
 use Rattle.sq_sums.specs.Totals as plan
 use Rattle.sq_sums.specs.Totals.{tree_sum}

@@ -61,7 +61,6 @@ use Rattle.sq_draft_laws.specs.AtLevels.{IsAtLevel}
 use Rattle.sq_draft_laws.specs.Laws.{HasPath}
 use Rattle.sq_draft_laws.specs.Opened.{WalkedIsThere}
 use Rattle.sq_draft_laws.specs.Scope.{HomesAreNear}
-use Rattle.sq_store.specs.Place.{IsPlaced}
 use Rattle.sq_store.specs.Laws.{OffsetsAre, OffsetsAreAsMany}
 use Rattle.sq_homes.specs.declared.choice.Choice.{Choice}
 use Rattle.sq_homes.specs.Drafts.{bodies_of, homes_of, args_of, buffers_of, leaves_of, entry_of, program_term, IsDraftOf}
