@@ -11,7 +11,7 @@ use Rattle.sq_lower.specs.Choices.{all_in_buffers}
 use Rattle.sq_elim.specs.Choices.{all_in_place}
 use Rattle.sq_hoist.specs.Choices.{hoisted}
 use Rattle.sq_pipe.specs.Greedy.{overlapped}
-use Rattle.sq_plan_good.specs.Good.{HasNoRace, HasRoom, IsGoodFor}
+use Rattle.sq_plan_good.specs.Good.{HasNoRace, IsPlanWithRoom, IsGoodFor}
 
 -- what a pass chooses
 pub data IsOfPass (r : Resolved) : List Choice → Type 0 where
@@ -25,4 +25,4 @@ pub data IsOfPass (r : Resolved) : List Choice → Type 0 where
 abbrev pub EachPassIsGood : Type 0
 EachPassIsGood = (r : Resolved) → HasNoRace r → (choices : List Choice) → IsOfPass r choices → (d : Draft)
     → IsDraftOf r choices d → (nodes : List PlanNode) → AreMemories r.machine.now.levels nodes → (p : Plan)
-    → HasRoom d nodes p → IsGoodFor r choices nodes p
+    → IsPlanWithRoom d nodes p → IsGoodFor r choices nodes p

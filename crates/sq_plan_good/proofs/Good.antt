@@ -76,7 +76,7 @@ use Rattle.sq_homes_fit.specs.Lanes.{IsDraftMachine}
 use Rattle.sq_draft_laws.specs.Short.{AreShort, round_of}
 use Rattle.sq_plan_good.specs.Parts.{Placing, Laws}
 use Rattle.sq_plan_good.specs.Good.{HasNoRace, IsInput, EndsAsMeant, HasLeafCalls, LeavesAreAtHome}
-use Rattle.sq_plan_good.specs.Good.{IsGoodFor, HasRoom, WithRoomAreGood, StandsByForms, PlacedStandByForms}
+use Rattle.sq_plan_good.specs.Good.{IsGoodFor, WithRoomAreGood, StandsByForms, PlacedStandByForms}
 use Rattle.sq_plan_good.specs.Good.{MayLeave, MayOverlap, DraftsCanBePlaced, PlacedAreGood}
 
 -- ---- the last level

@@ -108,7 +108,7 @@ DraftsCanBePlaced = (r : Resolved) (choices : List Choice) → MayBeChosen r cho
     → IsPlaceable d nodes
 
 -- A plan of the draft in these memories, wherever its buffers stand: its live buffers have room in each state.
-pub record HasRoom (d : Draft) (nodes : List PlanNode) (p : Plan) : Type 0 where
+pub record IsPlanWithRoom (d : Draft) (nodes : List PlanNode) (p : Plan) : Type 0 where
   pub draft_ : p.draft ≡ d
   pub many : length p.offsets ≡ length d.buffers
   pub nodes_ : p.nodes ≡ nodes
@@ -118,7 +118,7 @@ pub record HasRoom (d : Draft) (nodes : List PlanNode) (p : Plan) : Type 0 where
 abbrev pub WithRoomAreGood : Type 0
 WithRoomAreGood = (r : Resolved) → HasNoRace r → (choices : List Choice) → MayBeChosen r choices → MayLeave r choices
     → MayOverlap r choices → (d : Draft) → IsDraftOf r choices d → (nodes : List PlanNode)
-    → AreMemories r.machine.now.levels nodes → (p : Plan) → HasRoom d nodes p → IsGoodFor r choices nodes p
+    → AreMemories r.machine.now.levels nodes → (p : Plan) → IsPlanWithRoom d nodes p → IsGoodFor r choices nodes p
 
 -- and so is the one whose buffers are stacked.
 abbrev pub PlacedAreGood : Type 0
