@@ -1,6 +1,6 @@
 -- Sums and multiples of numbers cut to 64 bits.
 use Rattle.std.proofs.Common.{◌≡◌, ℕ, ◌+◌, ◌*◌, ◌%◌, ◌<◌, ℤ, pos, neg_ℤ, ◌+ℤ◌, ◌-ℤ◌, ◌*ℤ◌, w64, FitsSigned, to_z, of_z, sym, ◌∙◌, ap, arith}
-use Rattle.std.proofs.lemmas.Int.{ints, int_wrap-add_left, int_wrap-add_right, int_wrap-sub_right, int_wrap-mul_left, int_wrap-mul_right, wrapping_add-bits, wrapping_mul-bits, wrapping_mul_is, to_z-of_z, to_z_pos}
+use Rattle.std.proofs.lemmas.Int.{ints, int_wrap_fits, int_wrap-add_left, int_wrap-add_right, int_wrap-sub_right, int_wrap-mul_left, int_wrap-mul_right, wrapping_add-bits, wrapping_mul-bits, wrapping_mul_is, to_z-of_z, to_z_pos}
 use borrow.Author.Differences.{up, down, sum_is_lem, neg_is, product_is}
 use native.Mathlib.Nat.{mod-lt}
 use lib.IntN.{*ℤ_comm}
@@ -87,6 +87,17 @@ pub times_ramp : (a d b e x y k : ℤ) → d ≡ pos 0 → x ≡ wrapped (a *ℤ
 times_ramp a d b e x y k flat_d first step =
     ramp_times b e a d x y k flat_d (first ∙ ap wrapped (*ℤ_comm a b)) (step ∙ ap wrapped (*ℤ_comm a e))
     ∙ ap wrapped (*ℤ_comm (wrapped (b +ℤ e *ℤ k)) (wrapped (a +ℤ d *ℤ k)))
+
+-- a ramp climbs by its step
+pub climbed : (a d : ℤ) (j : ℕ) (x y : ℤ) → x ≡ wrapped (a +ℤ d *ℤ pos j) → y ≡ wrapped (x +ℤ d) → y ≡ wrapped (a +ℤ d *ℤ pos (j + 1))
+climbed a d j x y here next =
+    let one_more : (a +ℤ d *ℤ pos j) +ℤ d ≡ a +ℤ d *ℤ pos (j + 1) = omega (arith, ints) in
+    next ∙ ap (λ (z : ℤ). wrapped (z +ℤ d)) here ∙ int_wrap-add_left w64 (a +ℤ d *ℤ pos j) d ∙ ap wrapped one_more
+
+pub begun : (a d : ℤ) → FitsSigned w64 a → a ≡ wrapped (a +ℤ d *ℤ pos 0)
+begun a d fits =
+    let none : a +ℤ d *ℤ pos 0 ≡ a = omega (arith, ints) in
+    sym (ap wrapped none ∙ int_wrap_fits w64 a fits)
 
 -- what the machine's operators give
 pub ramp_there : (a d : ℤ) (j : ℕ) → FitsSigned w64 a → FitsSigned w64 d → j < 256

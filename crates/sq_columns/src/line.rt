@@ -4,6 +4,9 @@ ghost use Rattle.std.specs.Prelude.{◌≡◌, ◌<◌, ◌≤◌, ℕ, pos, ◌
 ghost use Rattle.sq_leaf.specs.Numbers.{wrapped};
 ghost use Rattle.sq_columns.specs.Lines.{line_at};
 
+use crate::numbers::binary;
+use sq_ast::BinOp;
+
 /// How many turns a block has at most.
 pub const TURNS: usize = 256;
 
@@ -39,8 +42,8 @@ impl Line {
         ensures each { (j : ℕ) → j < n → get_or column.new j (pos 0) ≡ line_at self column.old j }
     {
         match self {
-            Line::Same(x) => fill(Line::Same(x), column, n),
-            Line::Ramp(first, step) => fill(Line::Ramp(first, step), column, n),
+            Line::Same(x) => fill(x, column, n),
+            Line::Ramp(first, step) => climb(first, step, column, n),
             Line::Column => {}
         }
     }
@@ -54,14 +57,25 @@ fn ramp_at(first: i64, step: i64, j: usize) -> i64
     first.wrapping_add(step.wrapping_mul(j as i64))
 }
 
-#[inline(always)]
-fn fill(line: Line, column: &mut [i64], n: usize)
-    requires few { n ≤ 256 }
-    requires room { n ≤ length column.old }
+fn fill(x: i64, column: &mut [i64], n: usize)
+    requires { n ≤ length column.old }
     ensures size { length column.new ≡ length column.old }
-    ensures each { (j : ℕ) → j < n → get_or column.new j (pos 0) ≡ line_at line column.old j }
+    ensures each { (j : ℕ) → j < n → get_or column.new j (pos 0) ≡ x }
 {
     for j in 0..n {
-        column[j] = line.at(column, j);
+        column[j] = x;
+    }
+}
+
+// A sum a turn, which goes in lanes where a product a turn doesn't.
+fn climb(first: i64, step: i64, column: &mut [i64], n: usize)
+    requires { n ≤ length column.old }
+    ensures size { length column.new ≡ length column.old }
+    ensures each { (j : ℕ) → j < n → get_or column.new j (pos 0) ≡ wrapped (first +ℤ step *ℤ pos j) }
+{
+    let mut x = first;
+    for j in 0..n {
+        column[j] = x;
+        x = binary(BinOp::Add, x, step);
     }
 }
