@@ -35,7 +35,7 @@ impl Line {
     }
 
     /// Puts the numbers of the turns into the column.
-    pub(crate) fn spread(self, column: &mut [i64], n: usize)
+    pub fn spread(self, column: &mut [i64], n: usize)
         requires few { n ≤ 256 }
         requires room { n ≤ length column.old }
         ensures size { length column.new ≡ length column.old }
