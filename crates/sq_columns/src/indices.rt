@@ -152,7 +152,6 @@ fn by_kind(spots: Line, column: &mut [i64], index: Line, indices: &[i64], by: i6
 }
 
 #[inline(always)]
-#[tactic(auto, using(crate::proofs::Carried::same_turn))]
 fn move_each(spots: Line, column: &mut [i64], index: Line, indices: &[i64], by: i64, n: usize)
     requires few { n ≤ 256 }
     requires left { n ≤ length column.old }

@@ -1,6 +1,6 @@
 //! Operators on the numbers of the turns.
 
-ghost use Rattle.std.specs.Prelude.{◌≡◌, ◌<◌, ◌≤◌, ℕ, ℤ, List, pos, ◌+ℤ◌, ◌*ℤ◌, length, get_or, IfSome, IsTrue, true, false};
+ghost use Rattle.std.specs.Prelude.{◌≡◌, ◌<◌, ◌≤◌, ℕ, ℤ, List, pos, ◌+ℤ◌, ◌*ℤ◌, length, get_or, IfSome, None, true, false};
 ghost use Rattle.std.specs.Int.{int_min, int_max};
 ghost use Rattle.sq_leaf.specs.Numbers as spec;
 ghost use Rattle.sq_columns.specs.Lines.{line_at, divides};
@@ -66,6 +66,7 @@ pub fn binary_line(
     requires right { n ≤ length ys.old }
     ensures sizes { (length xs.new ≡ length xs.old) × (length ys.new ≡ length ys.old) }
     ensures each { IfSome result (λ l. (j : ℕ) → j < n → line_at l xs.new j ≡ spec.binary op (line_at x xs.old j) (line_at y ys.old j)) }
+    ensures refuses { result ≡ None → divides op ≡ true }
     ensures divides { IfSome result (λ l. divides op ≡ true → (j : ℕ) → j < n → spec.is_zero (line_at y ys.old j) ≡ false) }
 {
     if is_division(op) && has_zero(y, ys, n) {
