@@ -1,6 +1,7 @@
 //! Indices of elements at each turn.
 
-ghost use Rattle.std.specs.Prelude.{◌≡◌, ◌+◌, ◌-◌, ◌*◌, ◌^◌, ◌<◌, ◌≤◌, ◌≤ℤ◌, ◌<ℤ◌, ℕ, ℤ, List, [], Option, pos, negsuc, ◌+ℤ◌, ◌-ℤ◌, ◌*ℤ◌, length, get_or, IfSome, true};
+ghost use Rattle.std.specs.Prelude.{◌≡◌, ◌+◌, ◌-◌, ◌*◌, ◌^◌, ◌<◌, ◌≤◌, ◌≤ℤ◌, ◌<ℤ◌, ℕ, ℤ, List, [], Option, pos, negsuc};
+ghost use Rattle.std.specs.Prelude.{◌+ℤ◌, ◌-ℤ◌, ◌*ℤ◌, length, get_or, IfSome, true};
 ghost use Rattle.sq_num.specs.Elements.{width};
 ghost use Rattle.sq_leaf.specs.Places.{along};
 ghost use Rattle.sq_columns.specs.declared.line.Line.TheVariants.{Ramp};
@@ -36,7 +37,8 @@ fn is_index(i: i64, extent: u32) -> bool
 // Its first and its last number are inside, and no number between them wraps.
 fn is_inside_ramp(first: i64, step: i64, extent: u32, n: usize) -> bool
     requires { n ≤ 256 }
-    ensures { result ≡ true → (j : ℕ) → j < n → (pos 0 ≤ℤ line_at (Ramp first step) [] j) × (line_at (Ramp first step) [] j <ℤ pos extent) }
+    ensures { result ≡ true → (j : ℕ) → j < n → (pos 0 ≤ℤ line_at (Ramp first step) [] j)
+        × (line_at (Ramp first step) [] j <ℤ pos extent) }
 {
     if step < -4_294_967_296 || 4_294_967_296 < step {
         return false;
@@ -59,7 +61,8 @@ fn last_of(first: i64, step: i64, n: usize) -> i64
 
 fn are_indices(xs: &[i64], extent: u32, n: usize) -> bool
     requires { n ≤ length xs.now }
-    ensures { result ≡ true → (j : ℕ) → j < n → (pos 0 ≤ℤ get_or xs.now j (pos 0)) × (get_or xs.now j (pos 0) <ℤ pos extent) }
+    ensures { result ≡ true → (j : ℕ) → j < n → (pos 0 ≤ℤ get_or xs.now j (pos 0))
+        × (get_or xs.now j (pos 0) <ℤ pos extent) }
 {
     for j in 0..n {
         if !is_index(xs[j], extent) {
@@ -85,7 +88,10 @@ pub fn along_line(
     requires left { n ≤ length column.old }
     requires right { n ≤ length indices.now }
     ensures size { length column.new ≡ length column.old }
-    ensures each { (at most : ℕ) (f : ℕ → Option ℕ) → at + width elem * ((extent - 1) * stride + most) < 2 ^ 62 → ((j : ℕ) → j < n → IsSpot at (width elem) most (f j) (line_at spots column.old j)) → IfSome result (λ l. (j : ℕ) → j < n → IsSpot at (width elem) ((extent - 1) * stride + most) (along (line_at index indices.now j) extent stride (f j)) (line_at l column.new j)) }
+    ensures each { (at most : ℕ) (f : ℕ → Option ℕ) → at + width elem * ((extent - 1) * stride + most) < 2 ^ 62
+        → ((j : ℕ) → j < n → IsSpot at (width elem) most (f j) (line_at spots column.old j))
+        → IfSome result (λ l. (j : ℕ) → j < n → IsSpot at (width elem) ((extent - 1) * stride + most)
+        (along (line_at index indices.now j) extent stride (f j)) (line_at l column.new j)) }
 {
     if !is_inside_line(index, indices, extent, n) {
         return None;
@@ -106,7 +112,8 @@ fn moved(spots: Line, column: &mut [i64], index: Line, indices: &[i64], by: i64,
     requires left { n ≤ length column.old }
     requires right { n ≤ length indices.now }
     ensures size { length column.new ≡ length column.old }
-    ensures each { (j : ℕ) → j < n → line_at result column.new j ≡ spec.moved by (line_at spots column.old j) (line_at index indices.now j) }
+    ensures each { (j : ℕ) → j < n → line_at result column.new j ≡ spec.moved by (line_at spots column.old j)
+        (line_at index indices.now j) }
 {
     match moved_ramp(spots, index, by) {
         Some(line) => line,
@@ -118,7 +125,8 @@ fn moved(spots: Line, column: &mut [i64], index: Line, indices: &[i64], by: i64,
 }
 
 fn moved_ramp(spots: Line, index: Line, by: i64) -> Option<Line>
-    ensures { IfSome result (λ l. (xs ys zs : List ℤ) (j : ℕ) → line_at l zs j ≡ spec.moved by (line_at spots xs j) (line_at index ys j)) }
+    ensures { IfSome result (λ l. (xs ys zs : List ℤ) (j : ℕ) → line_at l zs j ≡ spec.moved by (line_at spots xs j)
+        (line_at index ys j)) }
 {
     match without_column(BinOp::Mul, index, Line::Same(by)) {
         Some(steps) => without_column(BinOp::Add, spots, steps),
@@ -132,7 +140,8 @@ fn by_kind(spots: Line, column: &mut [i64], index: Line, indices: &[i64], by: i6
     requires left { n ≤ length column.old }
     requires right { n ≤ length indices.now }
     ensures size { length column.new ≡ length column.old }
-    ensures each { (j : ℕ) → j < n → get_or column.new j (pos 0) ≡ spec.moved by (line_at spots column.old j) (line_at index indices.now j) }
+    ensures each { (j : ℕ) → j < n → get_or column.new j (pos 0) ≡ spec.moved by (line_at spots column.old j)
+        (line_at index indices.now j) }
 {
     match index {
         Line::Column => match spots {
@@ -157,7 +166,8 @@ fn move_each(spots: Line, column: &mut [i64], index: Line, indices: &[i64], by: 
     requires left { n ≤ length column.old }
     requires right { n ≤ length indices.now }
     ensures size { length column.new ≡ length column.old }
-    ensures each { (j : ℕ) → j < n → get_or column.new j (pos 0) ≡ spec.moved by (line_at spots column.old j) (line_at index indices.now j) }
+    ensures each { (j : ℕ) → j < n → get_or column.new j (pos 0) ≡ spec.moved by (line_at spots column.old j)
+        (line_at index indices.now j) }
 {
     for j in 0..n {
         column[j] = further(by, spots.at(column, j), index.at(indices, j));

@@ -14,7 +14,8 @@ pub fn load_line(elem: Elem, spots: Line, column: &mut [i64], bytes: &[u8], n: u
     requires room { n ≤ length column.old }
     requires inside { (j : ℕ) → j < n → IsFirst (width elem) (length bytes.now) (line_at spots column.old j) }
     ensures size { length column.new ≡ length column.old }
-    ensures each { (j : ℕ) → j < n → line_at result column.new j ≡ value elem (take (width elem) (drop (first_byte spots column.old j) bytes.now)) }
+    ensures each { (j : ℕ) → j < n → line_at result column.new j ≡ value elem
+        (take (width elem) (drop (first_byte spots column.old j) bytes.now)) }
 {
     match spots {
         Line::Same(at) => Line::Same(load_at(elem, at, bytes)),
@@ -32,7 +33,8 @@ fn by_type(elem: Elem, spots: Line, column: &mut [i64], bytes: &[u8], n: usize)
     requires room { n ≤ length column.old }
     requires inside { (j : ℕ) → j < n → IsFirst (width elem) (length bytes.now) (line_at spots column.old j) }
     ensures size { length column.new ≡ length column.old }
-    ensures each { (j : ℕ) → j < n → get_or column.new j (pos 0) ≡ value elem (take (width elem) (drop (first_byte spots column.old j) bytes.now)) }
+    ensures each { (j : ℕ) → j < n → get_or column.new j (pos 0) ≡ value elem
+        (take (width elem) (drop (first_byte spots column.old j) bytes.now)) }
 {
     match elem {
         Elem::Byte => by_step(Elem::Byte, 1, spots, column, bytes, n),
@@ -47,7 +49,8 @@ fn by_step(elem: Elem, wide: i64, spots: Line, column: &mut [i64], bytes: &[u8],
     requires room { n ≤ length column.old }
     requires inside { (j : ℕ) → j < n → IsFirst (width elem) (length bytes.now) (line_at spots column.old j) }
     ensures size { length column.new ≡ length column.old }
-    ensures each { (j : ℕ) → j < n → get_or column.new j (pos 0) ≡ value elem (take (width elem) (drop (first_byte spots column.old j) bytes.now)) }
+    ensures each { (j : ℕ) → j < n → get_or column.new j (pos 0) ≡ value elem
+        (take (width elem) (drop (first_byte spots column.old j) bytes.now)) }
 {
     match spots {
         Line::Ramp(at, step) if step == wide => {
@@ -64,7 +67,8 @@ fn load_each(elem: Elem, spots: Line, column: &mut [i64], bytes: &[u8], n: usize
     requires room { n ≤ length column.old }
     requires inside { (j : ℕ) → j < n → IsFirst (width elem) (length bytes.now) (line_at spots column.old j) }
     ensures size { length column.new ≡ length column.old }
-    ensures each { (j : ℕ) → j < n → get_or column.new j (pos 0) ≡ value elem (take (width elem) (drop (first_byte spots column.old j) bytes.now)) }
+    ensures each { (j : ℕ) → j < n → get_or column.new j (pos 0) ≡ value elem
+        (take (width elem) (drop (first_byte spots column.old j) bytes.now)) }
 {
     for j in 0..n {
         column[j] = load_at(elem, spots.at(column, j), bytes);

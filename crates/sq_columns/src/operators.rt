@@ -1,6 +1,7 @@
 //! Operators on the numbers of the turns.
 
-ghost use Rattle.std.specs.Prelude.{◌≡◌, ◌<◌, ◌≤◌, ℕ, ℤ, List, pos, ◌+ℤ◌, ◌*ℤ◌, length, get_or, IfSome, None, true, false};
+ghost use Rattle.std.specs.Prelude.{◌≡◌, ◌<◌, ◌≤◌, ℕ, ℤ, List, pos, ◌+ℤ◌, ◌*ℤ◌, length, get_or, IfSome, None, true};
+ghost use Rattle.std.specs.Prelude.{false};
 ghost use Rattle.std.specs.Int.{int_min, int_max};
 ghost use Rattle.sq_leaf.specs.Numbers as spec;
 ghost use Rattle.sq_columns.specs.Lines.{line_at, divides};
@@ -65,9 +66,11 @@ pub fn binary_line(
     requires left { n ≤ length xs.old }
     requires right { n ≤ length ys.old }
     ensures sizes { (length xs.new ≡ length xs.old) × (length ys.new ≡ length ys.old) }
-    ensures each { IfSome result (λ l. (j : ℕ) → j < n → line_at l xs.new j ≡ spec.binary op (line_at x xs.old j) (line_at y ys.old j)) }
+    ensures each { IfSome result (λ l. (j : ℕ) → j < n → line_at l xs.new j ≡ spec.binary op (line_at x xs.old j)
+        (line_at y ys.old j)) }
     ensures refuses { result ≡ None → divides op ≡ true }
-    ensures divides { IfSome result (λ l. divides op ≡ true → (j : ℕ) → j < n → spec.is_zero (line_at y ys.old j) ≡ false) }
+    ensures divides { IfSome result (λ l. divides op ≡ true → (j : ℕ) → j < n
+        → spec.is_zero (line_at y ys.old j) ≡ false) }
 {
     if is_division(op) && has_zero(y, ys, n) {
         return None;
@@ -106,7 +109,8 @@ fn has_zero(y: Line, ys: &[i64], n: usize) -> bool
 
 // The result where it needs no column: a number, or the sum, difference or multiple of ramps.
 pub(crate) fn without_column(op: BinOp, x: Line, y: Line) -> Option<Line>
-    ensures { IfSome result (λ l. (xs ys zs : List ℤ) (j : ℕ) → line_at l zs j ≡ spec.binary op (line_at x xs j) (line_at y ys j)) }
+    ensures { IfSome result (λ l. (xs ys zs : List ℤ) (j : ℕ) → line_at l zs j ≡ spec.binary op (line_at x xs j)
+        (line_at y ys j)) }
 {
     match x {
         Line::Same(a) => match y {
@@ -124,7 +128,8 @@ pub(crate) fn without_column(op: BinOp, x: Line, y: Line) -> Option<Line>
 }
 
 fn from_ramps(op: BinOp, a: i64, d: i64, b: i64, e: i64) -> Option<Line>
-    ensures { IfSome result (λ l. (zs : List ℤ) (j : ℕ) → line_at l zs j ≡ spec.binary op (spec.wrapped (a +ℤ d *ℤ pos j)) (spec.wrapped (b +ℤ e *ℤ pos j))) }
+    ensures { IfSome result (λ l. (zs : List ℤ) (j : ℕ) → line_at l zs j ≡ spec.binary op
+        (spec.wrapped (a +ℤ d *ℤ pos j)) (spec.wrapped (b +ℤ e *ℤ pos j))) }
 {
     match op {
         BinOp::Add => Some(Line::Ramp(a.wrapping_add(b), d.wrapping_add(e))),
@@ -136,7 +141,8 @@ fn from_ramps(op: BinOp, a: i64, d: i64, b: i64, e: i64) -> Option<Line>
 
 // One of them is a number.
 fn multiple(a: i64, d: i64, b: i64, e: i64) -> Option<Line>
-    ensures { IfSome result (λ l. (zs : List ℤ) (j : ℕ) → line_at l zs j ≡ spec.wrapped (spec.wrapped (a +ℤ d *ℤ pos j) *ℤ spec.wrapped (b +ℤ e *ℤ pos j))) }
+    ensures { IfSome result (λ l. (zs : List ℤ) (j : ℕ) → line_at l zs j ≡ spec.wrapped
+        (spec.wrapped (a +ℤ d *ℤ pos j) *ℤ spec.wrapped (b +ℤ e *ℤ pos j))) }
 {
     if e == 0 {
         Some(Line::Ramp(a.wrapping_mul(b), d.wrapping_mul(b)))
@@ -153,7 +159,8 @@ fn right_line(op: BinOp, xs: &mut [i64], y: Line, ys: &mut [i64], n: usize)
     requires left { n ≤ length xs.old }
     requires right { n ≤ length ys.old }
     ensures sizes { (length xs.new ≡ length xs.old) × (length ys.new ≡ length ys.old) }
-    ensures each { (j : ℕ) → j < n → get_or xs.new j (pos 0) ≡ spec.binary op (get_or xs.old j (pos 0)) (line_at y ys.old j) }
+    ensures each { (j : ℕ) → j < n → get_or xs.new j (pos 0) ≡ spec.binary op (get_or xs.old j (pos 0))
+        (line_at y ys.old j) }
 {
     match y {
         Line::Same(y) => by_binary(op, xs, Line::Same(y), ys, n),
@@ -171,7 +178,8 @@ fn by_binary(op: BinOp, xs: &mut [i64], y: Line, ys: &[i64], n: usize)
     requires left { n ≤ length xs.old }
     requires right { n ≤ length ys.now }
     ensures size { length xs.new ≡ length xs.old }
-    ensures each { (j : ℕ) → j < n → get_or xs.new j (pos 0) ≡ spec.binary op (get_or xs.old j (pos 0)) (line_at y ys.now j) }
+    ensures each { (j : ℕ) → j < n → get_or xs.new j (pos 0) ≡ spec.binary op (get_or xs.old j (pos 0))
+        (line_at y ys.now j) }
 {
     match op {
         BinOp::OrElse => binary_each(BinOp::OrElse, xs, y, ys, n),
@@ -201,7 +209,8 @@ fn binary_each(op: BinOp, xs: &mut [i64], y: Line, ys: &[i64], n: usize)
     requires left { n ≤ length xs.old }
     requires right { n ≤ length ys.now }
     ensures size { length xs.new ≡ length xs.old }
-    ensures each { (j : ℕ) → j < n → get_or xs.new j (pos 0) ≡ spec.binary op (get_or xs.old j (pos 0)) (line_at y ys.now j) }
+    ensures each { (j : ℕ) → j < n → get_or xs.new j (pos 0) ≡ spec.binary op (get_or xs.old j (pos 0))
+        (line_at y ys.now j) }
 {
     for j in 0..n {
         xs[j] = binary(op, xs[j], y.at(ys, j));
@@ -226,7 +235,8 @@ fn least_each(xs: &mut [i64], ys: &[i64], n: usize)
     requires left { n ≤ length xs.old }
     requires right { n ≤ length ys.now }
     ensures size { length xs.new ≡ length xs.old }
-    ensures each { (j : ℕ) → j < n → get_or xs.new j (pos 0) ≡ int_min (get_or xs.old j (pos 0)) (get_or ys.now j (pos 0)) }
+    ensures each { (j : ℕ) → j < n → get_or xs.new j (pos 0) ≡ int_min (get_or xs.old j (pos 0))
+        (get_or ys.now j (pos 0)) }
 {
     for j in 0..n {
         xs[j] = xs[j].min(ys[j]);
@@ -251,7 +261,8 @@ fn most_each(xs: &mut [i64], ys: &[i64], n: usize)
     requires left { n ≤ length xs.old }
     requires right { n ≤ length ys.now }
     ensures size { length xs.new ≡ length xs.old }
-    ensures each { (j : ℕ) → j < n → get_or xs.new j (pos 0) ≡ int_max (get_or xs.old j (pos 0)) (get_or ys.now j (pos 0)) }
+    ensures each { (j : ℕ) → j < n → get_or xs.new j (pos 0) ≡ int_max (get_or xs.old j (pos 0))
+        (get_or ys.now j (pos 0)) }
 {
     for j in 0..n {
         xs[j] = xs[j].max(ys[j]);
