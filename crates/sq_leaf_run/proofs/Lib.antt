@@ -1,1 +1,5 @@
 pub mod Turns
+pub mod Meeting
+pub mod Putting
+pub mod Spotting
+pub mod Linking

@@ -2,9 +2,12 @@
 #![tactic(auto)]
 
 mod act;
+mod block;
 mod frame;
 mod leaf;
+mod lines;
 mod numbers;
+mod puts;
 mod run;
 mod spot;
 
