@@ -3,3 +3,5 @@ pub mod Meeting
 pub mod Putting
 pub mod Spotting
 pub mod Linking
+pub mod Loading
+pub mod Blocking

@@ -63,8 +63,8 @@ met_next t e g s x j b c h may fits = stored t e (g (load (record { elem = e; at
 pub clear_rise : (t : Block) (e : Elem) (l : Line) (column : List ℤ) (r : Rise) → IsRise r l → t.turns ≤ 256 → AreClear t e (λ j. r.at + r.step * j) → AreClear t e (first_byte l column)
 clear_rise t e l column r rises few h = record {
   each = λ j k below from less.
-    let same : first_byte l column j ≡ r.at + r.step * j = ap unsigned_abs (rises.is column j (omega (arith, below, few))) in
-    h.each j k below (omega (arith, same, from)) (omega (arith, same, less));
+      let same : first_byte l column j ≡ r.at + r.step * j = ap unsigned_abs (rises.is column j (omega (arith, below, few))) in
+      h.each j k below (omega (arith, same, from)) (omega (arith, same, less));
 }
 
 -- what the block began with is met by each turn where nothing was written

@@ -45,7 +45,7 @@ spots_whole t ks b off at w most l all xs ys e room h = record {
 pub none_behind : (t : Block) (ks : List ℤ) (b : List ℕ) (at w : ℕ) (column : List ℤ) → AreSpots t ks b (λ k c. Some 0) at w 0 (Same (pos at)) column
 none_behind t ks b at w column = record {
   steady = λ j c below met. refl;
-  spot = λ j below. let here : at ≡ at + w * 0 = omega arith in record { o = 0; there = refl; low = omega arith; is = ap pos here };
+  spot = λ j below. let here : at ≡ at + w * 0 = omega arith in record { before = 0; there = refl; low = omega arith; is = ap pos here };
 }
 
 -- one more dimension in front
@@ -55,10 +55,10 @@ pub spots_along : (t : Block) (ks : List ℤ) (b : List ℕ) (off : Offset) (at 
     → AreSpots t ks b (λ k c. along_value (f k c) n s (off k c)) at w ((n - 1) * s + most) m zs
 spots_along t ks b off at w most l xs f index ys n s m zs behind gives h = record {
   steady = λ j c below met.
-    ap (λ (r : Result ℤ Trap). along_value r n s (off (counters_at t ks j) c)) (gives.each j c below met ∙ sym (gives.each j b below (met_same t j b)))
-    ∙ ap (λ (o : Option ℕ). along_value (f (counters_at t ks j) b) n s o) (behind.steady j c below met);
+      ap (λ (r : Result ℤ Trap). along_value r n s (off (counters_at t ks j) c)) (gives.each j c below met ∙ sym (gives.each j b below (met_same t j b)))
+      ∙ ap (λ (o : Option ℕ). along_value (f (counters_at t ks j) b) n s o) (behind.steady j c below met);
   spot = λ j below.
-    subst (λ (r : Result ℤ Trap). IsSpot at w ((n - 1) * s + most) (along_value r n s (off (counters_at t ks j) b)) (line_at m zs j)) (sym (gives.each j b below (met_same t j b))) (h j below);
+      subst (λ (r : Result ℤ Trap). IsSpot at w ((n - 1) * s + most) (along_value r n s (off (counters_at t ks j) b)) (line_at m zs j)) (sym (gives.each j b below (met_same t j b))) (h j below);
 }
 
 along_none : (i : ℤ) (n s : ℕ) → along i n s None ≡ None
@@ -106,10 +106,10 @@ spots_places t ks b c v vs l column found h = record { each = λ j d below met. 
         → offset_of v.extents v.strides (out-Cell c).index vs (counters_at t ks j) d ≡ offset_of v.extents v.strides (out-Cell c).index vs (counters_at t ks j) b
         → run_cell c vs (counters_at t ks j) d ≡ Ok (record { elem = v.elem; at = first_byte l column j })
     go j d spot steady =
-        let there : AllIn v.extents v.strides (map (λ (f : CodeRun). f vs (counters_at t ks j) d) (map run_code (out-Cell c).index)) spot.o =
-        all_in v.extents v.strides _ spot.o (steady ∙ spot.there) in
-        let here : first_byte l column j ≡ v.at + width v.elem * spot.o = ap unsigned_abs spot.is in
-        cell_found c v vs (counters_at t ks j) d (v.at + width v.elem * spot.o) found (first_is c v vs (counters_at t ks j) d spot.o there)
+        let there : AllIn v.extents v.strides (map (λ (f : CodeRun). f vs (counters_at t ks j) d) (map run_code (out-Cell c).index)) spot.before =
+        all_in v.extents v.strides _ spot.before (steady ∙ spot.there) in
+        let here : first_byte l column j ≡ v.at + width v.elem * spot.before = ap unsigned_abs spot.is in
+        cell_found c v vs (counters_at t ks j) d (v.at + width v.elem * spot.before) found (first_is c v vs (counters_at t ks j) d spot.before there)
         ∙ ap (λ (n : ℕ). Ok (record { elem = v.elem; at = n })) (sym here)
 
 ends : (e : Elem) (o most : ℕ) → o ≤ most → width e * o + width e ≤ width e * (most + 1)
@@ -121,11 +121,11 @@ pub spots_lie : (t : Block) (ks : List ℤ) (b : List ℕ) (off : Offset) (at mo
     → (j : ℕ) → j < t.turns → LiesIn at (at + width e * (most + 1)) e l column j
 spots_lie t ks b off at most e l column h j below =
     let spot : IsSpot at (width e) most (off (counters_at t ks j) b) (line_at l column j) = h.spot j below in
-    let here : first_byte l column j ≡ at + width e * spot.o = ap unsigned_abs spot.is in
+    let here : first_byte l column j ≡ at + width e * spot.before = ap unsigned_abs spot.is in
     record {
       is = spot.is ∙ ap pos (sym here);
       from = omega (arith, here);
-      ends = omega (arith, here, ends e spot.o most spot.low);
+      ends = omega (arith, here, ends e spot.before most spot.low);
     }
 
 pub some_after : {A : Type 0} (o : Option A) (P Q : A → Type 0) → ((x : A) → P x → Q x) → IfSome o P → IfSome o Q
@@ -186,10 +186,10 @@ pub three_indices : (t : Block) (ks : List ℤ) (b : List ℕ) (vs : List View) 
 three_indices t ks b vs at w n s m u i v x y z l k j old mid far o new ns ss codes f g g2 h en es ec near =
     moved t ks b vs at w o new (n ∷ m ∷ i ∷ []) (s ∷ u ∷ v ∷ []) (x ∷ y ∷ z ∷ []) ns ss codes en es ec
     (λ close.
-      let less : at + w * reach (m ∷ i ∷ []) (u ∷ v ∷ []) < 2 ^ 62 = less_near at w ((n - 1) * s) (reach (m ∷ i ∷ []) (u ∷ v ∷ [])) close in
-      g2 (reach (m ∷ i ∷ []) (u ∷ v ∷ [])) (offset_of (m ∷ i ∷ []) (u ∷ v ∷ []) (y ∷ z ∷ []) vs) close
-      (g (reach (i ∷ []) (v ∷ [])) (offset_of (i ∷ []) (v ∷ []) (z ∷ []) vs) less
-      (f 0 (offset_of [] [] [] vs) (less_near at w ((m - 1) * u) (reach (i ∷ []) (v ∷ [])) less) h))) near
+    let less : at + w * reach (m ∷ i ∷ []) (u ∷ v ∷ []) < 2 ^ 62 = less_near at w ((n - 1) * s) (reach (m ∷ i ∷ []) (u ∷ v ∷ [])) close in
+    g2 (reach (m ∷ i ∷ []) (u ∷ v ∷ [])) (offset_of (m ∷ i ∷ []) (u ∷ v ∷ []) (y ∷ z ∷ []) vs) close
+    (g (reach (i ∷ []) (v ∷ [])) (offset_of (i ∷ []) (v ∷ []) (z ∷ []) vs) less
+    (f 0 (offset_of [] [] [] vs) (less_near at w ((m - 1) * u) (reach (i ∷ []) (v ∷ [])) less) h))) near
 
 reach_near : (e : Elem) (at r size : ℕ) → at + width e * (r + 1) ≤ size → size < 2 ^ 62 → at + width e * r < 2 ^ 62
 reach_near Byte at r size h less = omega arith
@@ -240,3 +240,13 @@ codes_three (p ∷ []) x y z n e f g = absurd (omega (arith, n))
 codes_three (p ∷ q ∷ []) x y z n e f g = absurd (omega (arith, n))
 codes_three (p ∷ q ∷ r ∷ []) x y z n e f g = cc
 codes_three (p ∷ q ∷ r ∷ o ∷ zs) x y z n e f g = absurd (omega (arith, n))
+
+-- the elements by the first of the columns
+pub lies_front : (n low high : ℕ) (e : Elem) (l : Line) (all xs ys : List ℤ) → all ≡ xs ++ ys → n ≤ length xs → ((j : ℕ) → j < n → LiesIn low high e l all j) → (j : ℕ) → j < n → LiesIn low high e l xs j
+lies_front n low high e l all xs ys eq room h j below =
+    let here : LiesIn low high e l all j = h j below in
+    let same : line_at l all j ≡ line_at l xs j = line_front l all xs ys j eq (omega (arith, below, room)) in
+    let byte : first_byte l all j ≡ first_byte l xs j = ap unsigned_abs same in
+    let from : low ≤ first_byte l all j = here.from in
+    let end : first_byte l all j + width e ≤ high = here.ends in
+    record { is = sym same ∙ (here.is ∙ ap pos byte); from = omega (arith, byte, from); ends = omega (arith, byte, end) }

@@ -1,5 +1,5 @@
 -- Blocks of turns of a loop whose body assigns one element.
-use Rattle.std.specs.Prelude.{◌≡◌, ℕ, zero, suc, ◌+◌, ◌*◌, ◌^◌, ◌<◌, ◌≤◌, List, [], ◌∷◌, ◌++◌, length, get_or, map, Option, Some, None, Result, Ok, Err, ℤ, pos, ◌+ℤ◌, ◌≤ℤ◌}
+use Rattle.std.specs.Prelude.{◌≡◌, ℕ, zero, suc, ◌+◌, ◌*◌, ◌^◌, ◌<◌, ◌≤◌, Bool, true, false, List, [], ◌∷◌, ◌++◌, length, get_or, map, Option, Some, None, Result, Ok, Err, ℤ, pos, ◌+ℤ◌, ◌≤ℤ◌}
 use Rattle.sq_num.specs.declared.Elem.{Elem}
 use Rattle.sq_num.specs.Elements.{width}
 use Rattle.sq_columns.specs.declared.line.Line.{Line}
@@ -10,7 +10,7 @@ use Rattle.sq_leaf.specs.declared.code.Code.{Code}
 use Rattle.sq_rect.specs.declared.view.View.{View}
 use Rattle.sq_leaf.specs.Places.{along}
 use Rattle.sq_leaf.specs.Spots.{load, store}
-use Rattle.sq_leaf.specs.Running.{run_code}
+use Rattle.sq_leaf.specs.Running.{Ran, Goes, repeats, ActionRun, run_code}
 use Rattle.sq_leaf_run.specs.declared.block.Block.{Block}
 use Rattle.sq_leaf_run.specs.declared.block.Rise.{Rise}
 
@@ -125,3 +125,10 @@ pub record IsCounted (t : Block) : Type 0 where
   pub few : t.turns ≤ 256
   pub some : 0 < t.turns
   pub last : (t.from +ℤ pos t.turns) ≤ℤ pos 9223372036854775807
+
+-- ---- loops
+
+-- the turns of a loop with this body, or nothing
+abbrev pub block_or_nothing : Bool → ℕ → ℤ → ActionRun → List View → List ℤ → List ℕ → Ran
+block_or_nothing true n i f vs ks b = repeats n i (λ k. f vs (ks ++ k ∷ [])) b
+block_or_nothing false n i f vs ks b = Goes b

@@ -3,10 +3,10 @@
 
 mod act;
 mod block;
+mod blocks;
 mod frame;
 mod leaf;
 mod lines;
-mod numbers;
 mod puts;
 mod run;
 mod spot;

@@ -12,7 +12,7 @@ ghost use Rattle.sq_leaf_run.specs.Blocks.{Read, value_alone, counters_at, IsCou
 
 use crate::block::{Block, end_of, is_clear};
 use crate::frame::Frame;
-use sq_columns::{Line, along_line, binary_line};
+use sq_columns::{Line, along_line, binary_line, load_line};
 use sq_leaf::{Cell, Code, Step};
 use sq_num::Elem;
 use sq_rect::View;
@@ -145,23 +145,21 @@ fn element(
 }
 
 /// The line of the numbers at these elements of a view. None: one may be written by an earlier turn of the block.
-fn loaded(
-    spots: Line,
-    view: &View,
-    bytes: &[u8],
-    block: Block,
-    columns: &mut [i64],
-) -> Option<Line>
+fn loaded(spots: Line, view: &View, bytes: &[u8], block: Block, columns: &mut [i64]) -> Option<Line>
     requires counted { IsCounted block }
     requires one { IsInside (length bytes.now) view.now }
     requires lies { (j : ℕ) → j < block.turns → LiesIn view.now.at (view.now.at + width view.now.elem * (spec.reach view.now.extents view.now.strides + 1)) view.now.elem spots columns.old j }
     ensures { (ks : List ℤ) (f : Read Spot) → Places block ks bytes.now f view.now.elem spots columns.old → IfSome result (λ l. Gives block ks bytes.now (λ k c. running.load_from (f k c) c) l columns.new) }
 {
     let high = end_of(view, bytes.len());
-    if columns.len() < COLUMN || !is_clear(view.elem, spots, columns, view.at as usize, high, block) {
+    if columns.len() < COLUMN {
         return None;
     }
-    None
+    if is_clear(view.elem, spots, columns, view.at as usize, high, block) {
+        Some(load_line(view.elem, spots, columns, bytes, block.turns))
+    } else {
+        None
+    }
 }
 
 /// The line of a counter.
@@ -199,9 +197,15 @@ pub(crate) fn spots(
     let (at, elem) = (view.at, view.elem);
     let index = cell.index.as_slice();
     match index.len() {
-        1 => places_one(extents, strides, index, at, elem, frame, bytes, block, columns),
-        2 => places_two(extents, strides, index, at, elem, frame, bytes, block, columns),
-        3 => places_three(extents, strides, index, at, elem, frame, bytes, block, columns),
+        1 => places_one(
+            extents, strides, index, at, elem, frame, bytes, block, columns,
+        ),
+        2 => places_two(
+            extents, strides, index, at, elem, frame, bytes, block, columns,
+        ),
+        3 => places_three(
+            extents, strides, index, at, elem, frame, bytes, block, columns,
+        ),
         _ => None,
     }
 }
@@ -311,7 +315,9 @@ fn along(
         return None;
     }
     let (front, rest) = columns.split_at_mut(COLUMN);
-    along_in(spots, code, extent, stride, elem, frame, bytes, block, front, rest)
+    along_in(
+        spots, code, extent, stride, elem, frame, bytes, block, front, rest,
+    )
 }
 
 #[cycle(column)]

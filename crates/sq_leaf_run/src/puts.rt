@@ -9,7 +9,7 @@ ghost use Rattle.sq_leaf_run.specs.Blocks.{LiesIn, puts};
 
 use crate::spot::{load, store};
 use sq_ast::AssignOp;
-use sq_columns::{Line, number_at};
+use sq_columns::Line;
 use sq_num::Elem;
 
 /// Each turn's number is put at its element, in the order of the turns.
@@ -31,7 +31,7 @@ pub(crate) fn put_each(
 {
     for j in 0..turns {
         let at = place_at(elem, spots, places, j, bytes.len());
-        put(elem, op, at, number_at(x, numbers, j), bytes);
+        put(elem, op, at, x.at(numbers, j), bytes);
     }
 }
 
@@ -45,7 +45,7 @@ fn place_at(elem: Elem, spots: Line, places: &[i64], j: usize, size: usize) -> u
 {
     let _elem = elem;
     let _size = size;
-    number_at(spots, places, j) as usize
+    spots.at(places, j) as usize
 }
 
 /// A number is put at an element.

@@ -23,8 +23,8 @@ along_in-returns-in-Some t c = λ at most off near h.
 
 pub next_in-returns-in-Some : goal.next_in-returns-in-Some
 next_in-returns-in-Some t c =
-    next_follows c.args.block c.args.frame.now.counters c.args.bytes.now c.args.step.now c.args.frame.now.views c.args.x c.in-Some.y c.binary_line.result c.args.front.now c.column.new.columns c.binary_line.new._xs
-    c.in-Some.ensures c.binary_line.ensures.each c.binary_line.ensures.gives
+    next_follows c.args.block c.args.frame.now.counters c.args.bytes.now c.args.step.now c.args.frame.now.views c.args.x c.in-Some.y c.binary_line.result c.args.front.now c.column.new.columns c.binary_line.new.xs
+    c.in-Some.ensures c.binary_line.ensures.each c.binary_line.ensures.divides
 
 pub places_one-returns : goal.places_one-returns
 places_one-returns t c = λ near.
