@@ -2,8 +2,12 @@
 #![tactic(auto)]
 
 mod act;
+mod block;
+mod blocks;
 mod frame;
 mod leaf;
+mod lines;
+mod puts;
 mod run;
 mod spot;
 

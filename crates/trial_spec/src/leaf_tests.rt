@@ -537,6 +537,316 @@ const TRAPS: [Case; 29] = [
     ),
 ];
 
+// Loops of few and of many turns.
+const TURNS: [Case; 15] = [
+    (
+        "task t::leaf(inout int S[1]) { tunable int N; for (int i = 0; i < N; i++) S[0] += i * i; }",
+        "N=0",
+        "int 1 = 5",
+        "5",
+    ),
+    (
+        "task t::leaf(inout int S[1]) { tunable int N; for (int i = 0; i < N; i++) S[0] += i * i; }",
+        "N=1",
+        "int 1 = 5",
+        "5",
+    ),
+    (
+        "task t::leaf(inout int S[1]) { tunable int N; for (int i = 0; i < N; i++) S[0] += i * i; }",
+        "N=3",
+        "int 1 = 5",
+        "10",
+    ),
+    (
+        "task t::leaf(inout int S[1]) { tunable int N; for (int i = 0; i < N; i++) S[0] += i * i; }",
+        "N=4",
+        "int 1 = 5",
+        "19",
+    ),
+    (
+        "task t::leaf(inout int S[1]) { tunable int N; for (int i = 0; i < N; i++) S[0] += i * i; }",
+        "N=255",
+        "int 1 = 5",
+        "5494660",
+    ),
+    (
+        "task t::leaf(inout int S[1]) { tunable int N; for (int i = 0; i < N; i++) S[0] += i * i; }",
+        "N=256",
+        "int 1 = 5",
+        "5559685",
+    ),
+    (
+        "task t::leaf(inout int S[1]) { tunable int N; for (int i = 0; i < N; i++) S[0] += i * i; }",
+        "N=257",
+        "int 1 = 5",
+        "5625221",
+    ),
+    (
+        "task t::leaf(out byte A[N]) { for (int i = 0; i < N; i++) A[i] = (7 * i + 3) % 10; }",
+        "N=1",
+        "byte 1",
+        "3",
+    ),
+    (
+        "task t::leaf(out byte A[N]) { for (int i = 0; i < N; i++) A[i] = (7 * i + 3) % 10; }",
+        "N=4",
+        "byte 4",
+        "3 0 7 4",
+    ),
+    (
+        "task t::leaf(out byte A[N]) { for (int i = 0; i < N; i++) A[i] = (7 * i + 3) % 10; }",
+        "N=255",
+        "byte 255",
+        "3 0 7 4 1 8 5 2 9 6 3 0 7 4 1 8 5 2 9 6 3 0 7 4 1 8 5 2 9 6 3 0 7 4 1 8 5 2 9 6 3 0 7 4 1 8 5 2 9 6 3 0 7 4 1 8 5 2 9 6 3 0 7 4 1 8 5 2 9 6 3 0 7 4 1 8 5 2 9 6 3 0 7 4 1 8 5 2 9 6 3 0 7 4 1 8 5 2 9 6 3 0 7 4 1 8 5 2 9 6 3 0 7 4 1 8 5 2 9 6 3 0 7 4 1 8 5 2 9 6 3 0 7 4 1 8 5 2 9 6 3 0 7 4 1 8 5 2 9 6 3 0 7 4 1 8 5 2 9 6 3 0 7 4 1 8 5 2 9 6 3 0 7 4 1 8 5 2 9 6 3 0 7 4 1 8 5 2 9 6 3 0 7 4 1 8 5 2 9 6 3 0 7 4 1 8 5 2 9 6 3 0 7 4 1 8 5 2 9 6 3 0 7 4 1 8 5 2 9 6 3 0 7 4 1 8 5 2 9 6 3 0 7 4 1 8 5 2 9 6 3 0 7 4 1",
+    ),
+    (
+        "task t::leaf(out byte A[N]) { for (int i = 0; i < N; i++) A[i] = (7 * i + 3) % 10; }",
+        "N=256",
+        "byte 256",
+        "3 0 7 4 1 8 5 2 9 6 3 0 7 4 1 8 5 2 9 6 3 0 7 4 1 8 5 2 9 6 3 0 7 4 1 8 5 2 9 6 3 0 7 4 1 8 5 2 9 6 3 0 7 4 1 8 5 2 9 6 3 0 7 4 1 8 5 2 9 6 3 0 7 4 1 8 5 2 9 6 3 0 7 4 1 8 5 2 9 6 3 0 7 4 1 8 5 2 9 6 3 0 7 4 1 8 5 2 9 6 3 0 7 4 1 8 5 2 9 6 3 0 7 4 1 8 5 2 9 6 3 0 7 4 1 8 5 2 9 6 3 0 7 4 1 8 5 2 9 6 3 0 7 4 1 8 5 2 9 6 3 0 7 4 1 8 5 2 9 6 3 0 7 4 1 8 5 2 9 6 3 0 7 4 1 8 5 2 9 6 3 0 7 4 1 8 5 2 9 6 3 0 7 4 1 8 5 2 9 6 3 0 7 4 1 8 5 2 9 6 3 0 7 4 1 8 5 2 9 6 3 0 7 4 1 8 5 2 9 6 3 0 7 4 1 8 5 2 9 6 3 0 7 4 1 8",
+    ),
+    (
+        "task t::leaf(out byte A[N]) { for (int i = 0; i < N; i++) A[i] = (7 * i + 3) % 10; }",
+        "N=257",
+        "byte 257",
+        "3 0 7 4 1 8 5 2 9 6 3 0 7 4 1 8 5 2 9 6 3 0 7 4 1 8 5 2 9 6 3 0 7 4 1 8 5 2 9 6 3 0 7 4 1 8 5 2 9 6 3 0 7 4 1 8 5 2 9 6 3 0 7 4 1 8 5 2 9 6 3 0 7 4 1 8 5 2 9 6 3 0 7 4 1 8 5 2 9 6 3 0 7 4 1 8 5 2 9 6 3 0 7 4 1 8 5 2 9 6 3 0 7 4 1 8 5 2 9 6 3 0 7 4 1 8 5 2 9 6 3 0 7 4 1 8 5 2 9 6 3 0 7 4 1 8 5 2 9 6 3 0 7 4 1 8 5 2 9 6 3 0 7 4 1 8 5 2 9 6 3 0 7 4 1 8 5 2 9 6 3 0 7 4 1 8 5 2 9 6 3 0 7 4 1 8 5 2 9 6 3 0 7 4 1 8 5 2 9 6 3 0 7 4 1 8 5 2 9 6 3 0 7 4 1 8 5 2 9 6 3 0 7 4 1 8 5 2 9 6 3 0 7 4 1 8 5 2 9 6 3 0 7 4 1 8 5",
+    ),
+    (
+        "task t::leaf(inout long A[4]) { tunable int N; for (int i = 0; i < N; i++) A[i % 4] -= i; }",
+        "N=3",
+        "long 4",
+        "0 -1 -2 0",
+    ),
+    (
+        "task t::leaf(inout long A[4]) { tunable int N; for (int i = 0; i < N; i++) A[i % 4] -= i; }",
+        "N=256",
+        "long 4",
+        "-8064 -8128 -8192 -8256",
+    ),
+    (
+        "task t::leaf(inout long A[4]) { tunable int N; for (int i = 0; i < N; i++) A[i % 4] -= i; }",
+        "N=257",
+        "long 4",
+        "-8320 -8128 -8192 -8256",
+    ),
+];
+
+// What traps in the first, a middle or the last turn.
+const LATE_TRAPS: [Case; 13] = [
+    (
+        "task t::leaf(in int I[N], out int B[4]) {\n  for (int i = 0; i < N; i++)\n    B[I[i]] = i;\n}\n",
+        "N=6",
+        "int 6 = 4 1 1 1 1 1 ; int 4",
+        "Index 3:5",
+    ),
+    (
+        "task t::leaf(in int I[N], out int B[4]) {\n  for (int i = 0; i < N; i++)\n    B[I[i]] = i;\n}\n",
+        "N=6",
+        "int 6 = 1 1 1 4 1 1 ; int 4",
+        "Index 3:5",
+    ),
+    (
+        "task t::leaf(in int I[N], out int B[4]) {\n  for (int i = 0; i < N; i++)\n    B[I[i]] = i;\n}\n",
+        "N=6",
+        "int 6 = 1 1 1 1 1 4 ; int 4",
+        "Index 3:5",
+    ),
+    (
+        "task t::leaf(in int A[4], out int B[6]) {\n  tunable int N; tunable int K; for (int i = 0; i < N; i++)\n    B[i] = A[i + K];\n}\n",
+        "N=6 K=0",
+        "int 4 = 1 2 3 4 ; int 6",
+        "Index 3:12",
+    ),
+    (
+        "task t::leaf(in int A[4], out int B[6]) {\n  tunable int N; tunable int K; for (int i = 0; i < N; i++)\n    B[i] = A[i + K];\n}\n",
+        "N=6 K=-1",
+        "int 4 = 1 2 3 4 ; int 6",
+        "Index 3:12",
+    ),
+    (
+        "task t::leaf(in int A[4], out int B[6]) {\n  tunable int N; tunable int K; for (int i = 0; i < N; i++)\n    B[i] = A[i + K];\n}\n",
+        "N=5 K=0",
+        "int 4 = 1 2 3 4 ; int 6",
+        "Index 3:12",
+    ),
+    (
+        "task t::leaf(in int A[4], out int B[6]) {\n  for (int i = 0; i < 6; i++)\n    B[i] = A[5 - i];\n}\n",
+        "",
+        "int 4 = 1 2 3 4 ; int 6",
+        "Index 3:12",
+    ),
+    (
+        "task t::leaf(out int B[6]) {\n  for (int i = 0; i < 8; i++)\n    B[i] = i;\n}\n",
+        "",
+        "int 6",
+        "Index 3:5",
+    ),
+    (
+        "task t::leaf(in int A[N], out int B[N]) {\n  for (int i = 0; i < N; i++)\n    B[i] = 100 / A[i];\n}\n",
+        "N=6",
+        "int 6 = 0 2 2 2 2 2 ; int 6",
+        "DivZero 3:16",
+    ),
+    (
+        "task t::leaf(in int A[N], out int B[N]) {\n  for (int i = 0; i < N; i++)\n    B[i] = 100 / A[i];\n}\n",
+        "N=6",
+        "int 6 = 2 2 2 0 2 2 ; int 6",
+        "DivZero 3:16",
+    ),
+    (
+        "task t::leaf(in int A[N], out int B[N]) {\n  for (int i = 0; i < N; i++)\n    B[i] = 100 / A[i];\n}\n",
+        "N=6",
+        "int 6 = 2 2 2 2 2 0 ; int 6",
+        "DivZero 3:16",
+    ),
+    (
+        "task t::leaf(in int A[N], out int B[N]) {\n  for (int i = 0; i < N; i++)\n    B[i] = 100 / A[i];\n}\n",
+        "N=6",
+        "int 6 = 3 -3 7 -7 1 -1 ; int 6",
+        "3 -3 7 -7 1 -1 ; 33 -33 14 -14 100 -100",
+    ),
+    (
+        "task t::leaf(in int A[N], out int B[N]) {\n  for (int i = 0; i < N; i++)\n    B[i] = 100 % A[i];\n}\n",
+        "N=6",
+        "int 6 = 3 -3 7 -7 1 -1 ; int 6",
+        "3 -3 7 -7 1 -1 ; 1 1 2 2 0 0",
+    ),
+];
+
+// Strides, elements that are assigned again, numbers that wrap.
+const AGAIN: [Case; 12] = [
+    (
+        "task t::leaf(in int A[N][2], out int B[2][N]) { for (int j = 0; j < 2; j++) for (int i = 0; i < N; i++) B[j][i] = 2 * A[i][j]; }",
+        "N=6",
+        "int 6 2 = 1 2 3 4 5 6 7 8 9 10 11 12 ; int 2 6",
+        "1 2 3 4 5 6 7 8 9 10 11 12 ; 2 6 10 14 18 22 4 8 12 16 20 24",
+    ),
+    (
+        "task t::leaf(in int A[2][N], out int B[N][2]) { for (int j = 0; j < 2; j++) for (int i = 0; i < N; i++) B[i][j] = A[j][i] + 10 * j; }",
+        "N=6",
+        "int 2 6 = 1 2 3 4 5 6 7 8 9 10 11 12 ; int 6 2",
+        "1 2 3 4 5 6 7 8 9 10 11 12 ; 1 17 2 18 3 19 4 20 5 21 6 22",
+    ),
+    (
+        "task t::leaf(in byte I[N], inout int H[4]) { for (int i = 0; i < N; i++) H[I[i]] += 1; }",
+        "N=8",
+        "byte 8 = 0 2 2 1 2 0 3 2 ; int 4",
+        "0 2 2 1 2 0 3 2 ; 2 1 4 1",
+    ),
+    (
+        "task t::leaf(in byte I[N], inout int H[4]) { for (int i = 0; i < N; i++) H[I[i]] = i + 1; }",
+        "N=8",
+        "byte 8 = 0 2 2 1 2 0 3 2 ; int 4 = 1 1 1 1",
+        "0 2 2 1 2 0 3 2 ; 6 4 8 7",
+    ),
+    (
+        "task t::leaf(inout byte S[1]) { for (int i = 0; i < 300; i++) S[0] += i; }",
+        "",
+        "byte 1 = 250",
+        "44",
+    ),
+    (
+        "task t::leaf(inout int S[1]) { for (int i = 1; i < 41; i++) S[0] *= i; }",
+        "",
+        "int 1 = 3",
+        "0",
+    ),
+    (
+        "task t::leaf(out byte A[7]) { for (int i = -3; i < 4; i++) A[i + 3] = i * 4611686018427387905 + 3; }",
+        "",
+        "byte 7",
+        "0 1 2 3 4 5 6",
+    ),
+    (
+        "task t::leaf(out int A[7]) { for (int i = -3; i < 4; i++) A[i + 3] = i * 4611686018427387905 + 3; }",
+        "",
+        "int 7",
+        "0 1 2 3 4 5 6",
+    ),
+    (
+        "task t::leaf(out long A[7]) { for (int i = -3; i < 4; i++) A[i + 3] = i * 4611686018427387905 + 3; }",
+        "",
+        "long 7",
+        "4611686018427387904 -9223372036854775807 -4611686018427387902 3 4611686018427387908 -9223372036854775803 -4611686018427387898",
+    ),
+    (
+        "task t::leaf(in int A[N], out int B[N]) { for (int i = 0; i < N; i++) B[i] = A[i] && (i < 3 || A[i] > 2); }",
+        "N=6",
+        "int 6 = -2 -1 0 1 2 3 ; int 6",
+        "-2 -1 0 1 2 3 ; 1 1 0 0 0 1",
+    ),
+    (
+        "task t::leaf(in int A[N], out int B[N]) { for (int i = 0; i < N; i++) B[i] = max(A[i], i - 2) + min(A[i] << i, 7); }",
+        "N=6",
+        "int 6 = -2 -1 0 1 2 3 ; int 6",
+        "-2 -1 0 1 2 3 ; -4 -3 0 8 9 10",
+    ),
+    (
+        "task t::leaf(in int A[N], out int B[N]) { for (int i = 0; i < N; i++) B[i] = A[i] != 0 && 6 / A[i] > 2; }",
+        "N=6",
+        "int 6 = -2 -1 0 1 2 3 ; int 6",
+        "-2 -1 0 1 2 3 ; 0 0 0 1 1 0",
+    ),
+];
+
+// What a turn reads just before, at or just behind what is assigned.
+const NEAR: [Case; 9] = [
+    (
+        "task t::leaf(inout int A[N]) { for (int i = 1; i < N; i++) A[i] = A[i - 1] + A[i]; }",
+        "N=8",
+        "int 8 = 1 2 3 4 5 6 7 8",
+        "1 3 6 10 15 21 28 36",
+    ),
+    (
+        "task t::leaf(inout int A[N]) { for (int i = 0; i < N; i++) A[i] = 2 * A[i] + 1; }",
+        "N=8",
+        "int 8 = 1 2 3 4 5 6 7 8",
+        "3 5 7 9 11 13 15 17",
+    ),
+    (
+        "task t::leaf(inout int A[N]) { for (int i = 0; i < N - 1; i++) A[i] = A[i + 1]; }",
+        "N=8",
+        "int 8 = 1 2 3 4 5 6 7 8",
+        "2 3 4 5 6 7 8 8",
+    ),
+    (
+        "task t::leaf(inout int A[N]) { for (int i = 1; i < N; i++) A[i] = A[i - 1]; }",
+        "N=8",
+        "int 8 = 1 2 3 4 5 6 7 8",
+        "1 1 1 1 1 1 1 1",
+    ),
+    (
+        "task t::leaf(inout int A[N]) { for (int i = 0; i < N; i++) A[i] = A[N - 1 - i]; }",
+        "N=8",
+        "int 8 = 1 2 3 4 5 6 7 8",
+        "8 7 6 5 5 6 7 8",
+    ),
+    (
+        "task t::leaf(inout int A[N]) { for (int i = 0; i < N; i++) A[N - 1 - i] = A[N - 1 - i] * i; }",
+        "N=8",
+        "int 8 = 1 2 3 4 5 6 7 8",
+        "7 12 15 16 15 12 7 0",
+    ),
+    (
+        "task t::leaf(inout int A[N]) { for (int i = 0; i < N; i++) A[3] += A[i]; }",
+        "N=8",
+        "int 8 = 1 2 3 4 5 6 7 8",
+        "1 2 3 46 5 6 7 8",
+    ),
+    (
+        "task t::leaf(inout int A[N]) { for (int i = 0; i < 4; i++) A[i] = A[i + 4] - A[2]; }",
+        "N=8",
+        "int 8 = 1 2 3 4 5 6 7 8",
+        "2 3 4 4 5 6 7 8",
+    ),
+    (
+        "task t::leaf(inout int A[N]) { for (int i = 0; i < N; i++) A[A[i]] = i; }",
+        "N=8",
+        "int 8 = 1 2 3 4 5 6 7 0",
+        "1 0 3 2 5 4 7 6",
+    ),
+];
+
 fn elem_of(word: &str) -> Elem {
     if word == "byte" {
         Elem::Byte
@@ -806,4 +1116,24 @@ fn what_is_not_computed_does_not_trap(rt: HostRuntime) -> Result<(), AllocError>
 #[test]
 fn each_trap_is_at_its_place(rt: HostRuntime) -> Result<(), AllocError> {
     all_are_so(&rt, rt.alloc(), &TRAPS)
+}
+
+#[test]
+fn loops_of_any_number_of_turns(rt: HostRuntime) -> Result<(), AllocError> {
+    all_are_so(&rt, rt.alloc(), &TURNS)
+}
+
+#[test]
+fn traps_of_late_turns_are_met(rt: HostRuntime) -> Result<(), AllocError> {
+    all_are_so(&rt, rt.alloc(), &LATE_TRAPS)
+}
+
+#[test]
+fn elements_are_assigned_again(rt: HostRuntime) -> Result<(), AllocError> {
+    all_are_so(&rt, rt.alloc(), &AGAIN)
+}
+
+#[test]
+fn turns_read_what_earlier_ones_assigned(rt: HostRuntime) -> Result<(), AllocError> {
+    all_are_so(&rt, rt.alloc(), &NEAR)
 }

@@ -1,0 +1,152 @@
+-- A block whose elements and values are known is the loop over its turns.
+use Rattle.std.proofs.Common.{◌≡◌, ℕ, zero, suc, ◌+◌, ◌*◌, ◌<◌, ◌≤◌, List, [], ◌∷◌, ◌++◌, length, map, Result, Ok, ℤ, pos, negsuc, ◌-◌, ◌+ℤ◌, ◌<ℤ◌, ◌≤ℤ◌, subst, w64, to_z, of_z, FitsSigned, refl, sym, ◌∙◌, ap, arith}
+use Rattle.std.proofs.lemmas.Int.{ints, to_z-of_z, to_z_pos}
+use Rattle.std.specs.Int.{int_gap}
+use Rattle.sq_num.specs.declared.Elem.{Elem}
+use Rattle.sq_num.specs.Elements.{width}
+use Rattle.sq_rect.specs.declared.view.View.{View}
+use Rattle.sq_ast.specs.declared.leaf.AssignOp.{AssignOp}
+use Rattle.sq_columns.specs.declared.line.Line.{Line}
+use Rattle.sq_columns.specs.Lines.{line_at, first_byte}
+use Rattle.sq_leaf.specs.declared.trap.Trap.{Trap}
+use Rattle.sq_leaf.specs.declared.spot.Spot.{Spot}
+use Rattle.sq_leaf.specs.declared.code.Code.{Code}
+use Rattle.sq_leaf.specs.declared.code.Cell.{Cell}
+use Rattle.sq_leaf.specs.Source.{assigned}
+use Rattle.sq_leaf.specs.Spots.{load, store}
+use Rattle.sq_leaf.specs.Running.{Sight, Ran, Goes, Stops, once, onward, each, repeats, assigns, run_code, run_cell, run_each, ActionRun}
+use Rattle.sq_leaf_run.specs.declared.block.Block.{Block}
+use Rattle.sq_leaf_run.specs.Blocks.{IsClear, Below, Above, Ahead, MayPut, IsNarrower, IsMet, counters_at, Gives, Places, LiesIn, put_turn, puts}
+use Rattle.sq_leaf_run.proofs.Putting.{AreKnown, block_is_loop, in_parts}
+use Rattle.sq_leaf_run.proofs.Turns.{gap_next}
+
+-- the turns of a block, and where another one writes
+abbrev pub turns_in : Block → Block → Block
+turns_in t u = record { from = t.from; turns = t.turns; low = u.low; high = u.high; front = u.front; step = u.step }
+
+narrow_clear : (t u : Block) (j k : ℕ) → IsNarrower t u → t.high ≤ t.front → IsClear t j k → IsClear (turns_in t u) j k
+narrow_clear t u j k less whole (Below p) = let low : t.low ≤ u.low = less.low in Below (omega (arith, p, low))
+narrow_clear t u j k less whole (Above p) = let high : u.high ≤ t.high = less.high in Above (omega (arith, p, high))
+narrow_clear t u j k less whole (Ahead p) = let high : u.high ≤ t.high = less.high in Above (omega (arith, p, high, whole))
+
+narrow_met : (t u : Block) (j : ℕ) (b c : List ℕ) → IsNarrower t u → t.high ≤ t.front → IsMet (turns_in t u) j b c → IsMet t j b c
+narrow_met t u j b c less whole met = record { size = met.size; same = λ k clear. met.same k (narrow_clear t u j k less whole clear) }
+
+turn_put : (t u : Block) (ks : List ℤ) (vs : List View) (b : List ℕ) (cell : Cell) (o : AssignOp) (code : Code) (e : Elem) (spots x : Line) (places numbers : List ℤ)
+    → IsNarrower t u → t.high ≤ t.front → Places t ks b (run_cell cell vs) e spots places → Gives (turns_in t u) ks b (run_code code vs) x numbers
+    → (j : ℕ) (c : List ℕ) → j < t.turns → IsMet (turns_in t u) j b c
+    → assigns cell o code vs (counters_at t ks j) c ≡ Goes (put_turn e (assigned o) (first_byte spots places) (line_at x numbers) j c)
+turn_put t u ks vs b cell o code e spots x places numbers less whole there gives j c below met =
+    ap (λ (r : Result Spot Trap). once r c (λ s. once (run_code code vs (counters_at t ks j) c) c (λ v. Goes (store s (assigned o (load s c) v) c)))) (there.each j c below (narrow_met t u j b c less whole met))
+    ∙ ap (λ (r : Result ℤ Trap). once r c (λ v. Goes (store (record { elem = e; at = first_byte spots places j }) (assigned o (load (record { elem = e; at = first_byte spots places j }) c) v) c))) (gives.each j c below met)
+
+pub block_goes : (t u : Block) (ks : List ℤ) (vs : List View) (b : List ℕ) (cell : Cell) (o : AssignOp) (code : Code) (e : Elem) (spots x : Line) (places numbers : List ℤ)
+    → IsNarrower t u → t.high ≤ t.front → Places t ks b (run_cell cell vs) e spots places → ((j : ℕ) → j < t.turns → LiesIn t.low t.high e spots places j) → t.high ≤ length b
+    → ((j : ℕ) → j < t.turns → MayPut u e j (first_byte spots places j)) → Gives (turns_in t u) ks b (run_code code vs) x numbers
+    → Goes (puts e (assigned o) (first_byte spots places) (line_at x numbers) t.turns 0 b) ≡ repeats t.turns t.from (λ k. assigns cell o code vs (ks ++ k ∷ [])) b
+block_goes t u ks vs b cell o code e spots x places numbers less whole there lies within may gives =
+    sym (block_is_loop (turns_in t u) e (assigned o) (first_byte spots places) (line_at x numbers) (λ k. assigns cell o code vs (ks ++ k ∷ [])) b (record {
+      turn = λ j c below met. turn_put t u ks vs b cell o code e spots x places numbers less whole there gives j c below met;
+      may = λ j below. let h : MayPut u e j (first_byte spots places j) = may j below in record { low = h.low; high = h.high; ahead = h.ahead };
+      room = λ j below.
+          let h : LiesIn t.low t.high e spots places j = lies j below in
+          let end : first_byte spots places j + width e ≤ t.high = h.ends in
+          omega (arith, end, within);
+    }))
+
+alone : (r : Ran) → onward r (λ c. Goes c) ≡ r
+alone (Goes c) = refl
+alone (Stops c t) = refl
+
+-- a body of one statement
+pub one_alone : (f : ActionRun) (vs : List View) (ks : List ℤ) (b : List ℕ) → run_each (f ∷ []) vs ks b ≡ f vs ks b
+one_alone f vs ks b = alone (f vs ks b)
+
+-- ---- a loop in blocks
+
+one_up : (i : ℤ) (n : ℕ) → i +ℤ pos 1 +ℤ pos n ≡ i +ℤ pos (suc n)
+one_up i n = omega (arith, ints)
+
+none_up : (i : ℤ) → i +ℤ pos 0 ≡ i
+none_up i = omega (arith, ints)
+
+-- so many turns, and those after them
+gap_split : (i end : ℤ) (n : ℕ) → (i +ℤ pos n) ≤ℤ end → int_gap i end ≡ n + int_gap (i +ℤ pos n) end
+gap_split i end zero h =
+    let none : 0 + int_gap i end ≡ int_gap i end = omega arith in
+    sym none ∙ ap (λ (k : ℤ). 0 + int_gap k end) (sym (none_up i))
+gap_split i end (suc n) h =
+    let more : (i +ℤ pos 1 +ℤ pos n) ≤ℤ end = subst (λ (k : ℤ). k ≤ℤ end) (sym (one_up i n)) h in
+    let less : i <ℤ end = omega (arith, ints, h) in
+    let next : suc (n + int_gap (i +ℤ pos 1 +ℤ pos n) end) ≡ suc n + int_gap (i +ℤ pos 1 +ℤ pos n) end = omega arith in
+    gap_next i end less ∙ (ap suc (gap_split (i +ℤ pos 1) end n more) ∙ (next ∙ ap (λ (k : ℤ). suc n + int_gap k end) (one_up i n)))
+
+parts : (f : ℤ → List ℕ → Ran) (i end : ℤ) (n : ℕ) (b : List ℕ) → (i +ℤ pos n) ≤ℤ end
+    → repeats (int_gap i end) i f b ≡ onward (repeats n i f b) (repeats (int_gap (i +ℤ pos n) end) (i +ℤ pos n) f)
+parts f i end n b h = ap (λ (m : ℕ). repeats m i f b) (gap_split i end n h) ∙ in_parts n (int_gap (i +ℤ pos n) end) i f b
+
+pub next_block : (a : ActionRun) (i j end : ℤ) (n : ℕ) (s now : Sight) (b c : List ℕ) (whole : Ran) → (i +ℤ pos n) ≤ℤ end → now ≡ s
+    → Goes c ≡ repeats n i (λ m. a now.views (now.counters ++ m ∷ [])) b → repeats (int_gap i end) i (λ m. a s.views (s.counters ++ m ∷ [])) b ≡ whole → j ≡ i +ℤ pos n
+    → repeats (int_gap j end) j (λ m. a s.views (s.counters ++ m ∷ [])) c ≡ whole
+next_block a i j end n s now b c whole h same e w is =
+    ap (λ (k : ℤ). repeats (int_gap k end) k (λ m. a s.views (s.counters ++ m ∷ [])) c) is
+    ∙ (ap (λ (r : Ran). onward r (repeats (int_gap (i +ℤ pos n) end) (i +ℤ pos n) (λ m. a s.views (s.counters ++ m ∷ [])))) (e ∙ ap (λ (l : Sight). repeats n i (λ m. a l.views (l.counters ++ m ∷ [])) b) same)
+    ∙ (sym (parts (λ m. a s.views (s.counters ++ m ∷ [])) i end n b h) ∙ w))
+
+pub last_block : (a : ActionRun) (i end : ℤ) (n : ℕ) (s now : Sight) (b c : List ℕ) (t : Trap) (whole : Ran) → (i +ℤ pos n) ≤ℤ end → now ≡ s
+    → Stops c t ≡ repeats n i (λ m. a now.views (now.counters ++ m ∷ [])) b → repeats (int_gap i end) i (λ m. a s.views (s.counters ++ m ∷ [])) b ≡ whole → Stops c t ≡ whole
+last_block a i end n s now b c t whole h same e w =
+    ap (λ (r : Ran). onward r (repeats (int_gap (i +ℤ pos n) end) (i +ℤ pos n) (λ m. a s.views (s.counters ++ m ∷ [])))) (e ∙ ap (λ (l : Sight). repeats n i (λ m. a l.views (l.counters ++ m ∷ [])) b) same)
+    ∙ (sym (parts (λ m. a s.views (s.counters ++ m ∷ [])) i end n b h) ∙ w)
+
+pub fewer : (i j end : ℤ) (n : ℕ) → (i +ℤ pos n) ≤ℤ end → 0 < n → j ≡ i +ℤ pos n → int_gap j end < int_gap i end
+fewer i j end n h some is =
+    let split : int_gap i end ≡ n + int_gap (i +ℤ pos n) end = gap_split i end n h in
+    let same : int_gap j end ≡ int_gap (i +ℤ pos n) end = ap (λ (k : ℤ). int_gap k end) is in
+    omega (arith, split, same, some)
+
+-- ---- turns one after another
+
+pub next_one : (a : ActionRun) (i k : ℤ) (n j : ℕ) (s now : Sight) (b c : List ℕ) (whole : Ran) → j < n → now ≡ s → Goes c ≡ a now.views (now.counters ++ k ∷ []) b
+    → repeats (n - j) (i +ℤ pos j) (λ m. a s.views (s.counters ++ m ∷ [])) b ≡ whole → k ≡ i +ℤ pos j
+    → repeats (n - (j + 1)) (i +ℤ pos (j + 1)) (λ m. a s.views (s.counters ++ m ∷ [])) c ≡ whole
+next_one a i k n j s now b c whole below same e w is =
+    let more : n - j ≡ suc (n - (j + 1)) = omega arith in
+    let next : i +ℤ pos (j + 1) ≡ i +ℤ pos j +ℤ pos 1 = omega (arith, ints) in
+    ap (λ (m : ℤ). repeats (n - (j + 1)) m (λ l. a s.views (s.counters ++ l ∷ [])) c) next
+    ∙ (ap (λ (r : Ran). onward r (repeats (n - (j + 1)) (i +ℤ pos j +ℤ pos 1) (λ l. a s.views (s.counters ++ l ∷ []))))
+    (e ∙ (ap (λ (l : Sight). a l.views (l.counters ++ k ∷ []) b) same ∙ ap (λ (m : ℤ). a s.views (s.counters ++ m ∷ []) b) is))
+    ∙ (sym (ap (λ (m : ℕ). repeats m (i +ℤ pos j) (λ l. a s.views (s.counters ++ l ∷ [])) b) more) ∙ w))
+
+pub last_one : (a : ActionRun) (i k : ℤ) (n j : ℕ) (s now : Sight) (b c : List ℕ) (t : Trap) (whole : Ran) → j < n → now ≡ s → Stops c t ≡ a now.views (now.counters ++ k ∷ []) b
+    → repeats (n - j) (i +ℤ pos j) (λ m. a s.views (s.counters ++ m ∷ [])) b ≡ whole → k ≡ i +ℤ pos j → Stops c t ≡ whole
+last_one a i k n j s now b c t whole below same e w is =
+    let more : n - j ≡ suc (n - (j + 1)) = omega arith in
+    ap (λ (r : Ran). onward r (repeats (n - (j + 1)) (i +ℤ pos j +ℤ pos 1) (λ l. a s.views (s.counters ++ l ∷ []))))
+    (e ∙ (ap (λ (l : Sight). a l.views (l.counters ++ k ∷ []) b) same ∙ ap (λ (m : ℤ). a s.views (s.counters ++ m ∷ []) b) is))
+    ∙ (sym (ap (λ (m : ℕ). repeats m (i +ℤ pos j) (λ l. a s.views (s.counters ++ l ∷ [])) b) more) ∙ w)
+
+negative_fits : (a : ℕ) → a < 9223372036854775808 → FitsSigned w64 (negsuc a)
+negative_fits a low = record { sfits = low }
+
+natural_fits : (a : ℕ) → a < 9223372036854775808 → FitsSigned w64 (pos a)
+natural_fits a low = record { sfits = low }
+
+below_fits : (a j : ℕ) → a < 9223372036854775808 → j ≤ 9223372036854775807 + a → FitsSigned w64 (negsuc a +ℤ pos j)
+below_fits a zero low high = let e : negsuc a ≡ negsuc a +ℤ pos 0 = omega (arith, ints) in subst (FitsSigned w64) e (negative_fits a low)
+below_fits zero (suc j) low high = let e : pos j ≡ negsuc 0 +ℤ pos (suc j) = omega (arith, ints) in subst (FitsSigned w64) e (natural_fits j (omega (arith, high)))
+below_fits (suc a) (suc j) low high =
+    let e : negsuc a +ℤ pos j ≡ negsuc (suc a) +ℤ pos (suc j) = omega (arith, ints) in subst (FitsSigned w64) e (below_fits a j (omega (arith, low)) (omega (arith, high)))
+
+sum_fits : (i : ℤ) (j n : ℕ) → FitsSigned w64 i → j < n → (i +ℤ pos n) ≤ℤ pos 9223372036854775807 → FitsSigned w64 (i +ℤ pos j)
+sum_fits (pos a) j n fits below last = natural_fits (a + j) (omega (arith, ints, below, last))
+sum_fits (negsuc a) j n fits below last = below_fits a j fits.sfits (omega (arith, ints, below, last))
+
+-- the code's counter of turn j
+pub counter_is : (i : ℤ) (j n : ℕ) → FitsSigned w64 i → j < n → n ≤ 256 → (i +ℤ pos n) ≤ℤ pos 9223372036854775807
+    → to_z w64 (of_z w64 (to_z w64 (of_z w64 i) +ℤ to_z w64 j)) ≡ to_z w64 (of_z w64 i) +ℤ pos j
+counter_is i j n fits below few last =
+    let here : to_z w64 (of_z w64 i) ≡ i = to_z-of_z w64 i fits in
+    let turn : to_z w64 j ≡ pos j = to_z_pos w64 j (omega (arith, below, few)) in
+    let in_range : FitsSigned w64 (i +ℤ pos j) = sum_fits i j n fits below last in
+    ap (λ (z : ℤ). to_z w64 (of_z w64 z)) (ap (λ (z : ℤ). z +ℤ to_z w64 j) here ∙ ap (λ (z : ℤ). i +ℤ z) turn) ∙ (to_z-of_z w64 (i +ℤ pos j) in_range ∙ ap (λ (z : ℤ). z +ℤ pos j) (sym here))

@@ -1,0 +1,32 @@
+-- Elements that a block reads, as they were before it.
+use Rattle.std.proofs.Common.{◌≡◌, ℕ, ◌+◌, ◌<◌, ◌≤◌, List, length, Option, Some, Result, Ok, ℤ, pos, refl, sym, ◌∙◌, ap, arith}
+use Rattle.sq_num.specs.declared.Elem.{Elem}
+use Rattle.sq_num.specs.Elements.{width}
+use Rattle.sq_columns.specs.declared.line.Line.{Line}
+use Rattle.sq_columns.specs.Lines.{line_at, first_byte, IsFirst}
+use Rattle.sq_leaf.specs.declared.trap.Trap.{Trap}
+use Rattle.sq_leaf.specs.declared.spot.Spot.{Spot}
+use Rattle.sq_leaf.specs.Spots.{load}
+use Rattle.sq_leaf.specs.Running.{load_from}
+use Rattle.sq_leaf_run.specs.declared.block.Block.{Block}
+use Rattle.sq_leaf_run.specs.Blocks.{IsMet, Read, counters_at, Gives, Places, LiesIn, AreClear}
+use Rattle.sq_leaf_run.proofs.Meeting.{load_clear}
+
+pub are_first : (t : Block) (e : Elem) (spots : Line) (column : List ℤ) (low high size : ℕ) → ((j : ℕ) → j < t.turns → LiesIn low high e spots column j) → high ≤ size
+    → (j : ℕ) → j < t.turns → IsFirst (width e) size (line_at spots column j)
+are_first t e spots column low high size lies within j below =
+    let here : LiesIn low high e spots column j = lies j below in
+    let end : first_byte spots column j + width e ≤ high = here.ends in
+    record { natural = here.is; ends = omega (arith, end, within) }
+
+pub loaded_gives : (t : Block) (ks : List ℤ) (b : List ℕ) (f : Read Spot) (e : Elem) (spots : Line) (old : List ℤ) (l : Line) (new : List ℤ) (low high : ℕ) → Places t ks b f e spots old
+    → AreClear t e (first_byte spots old) → ((j : ℕ) → j < t.turns → LiesIn low high e spots old j) → high ≤ length b
+    → ((j : ℕ) → j < t.turns → line_at l new j ≡ load (record { elem = e; at = first_byte spots old j }) b) → Gives t ks b (λ k c. load_from (f k c) c) l new
+loaded_gives t ks b f e spots old l new low high places clear lies within loaded = record {
+  each = λ j c below met.
+      let here : LiesIn low high e spots old j = lies j below in
+      let end : first_byte spots old j + width e ≤ high = here.ends in
+      let fits : first_byte spots old j + width e ≤ length b = omega (arith, end, within) in
+      ap (λ (r : Result Spot Trap). load_from r c) (places.each j c below met)
+      ∙ (ap Ok (load_clear t j b c e (first_byte spots old j) met fits (λ k from less. clear.each j k below from less)) ∙ ap Ok (sym (loaded j below)));
+}

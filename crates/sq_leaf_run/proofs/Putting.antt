@@ -1,0 +1,67 @@
+-- Turns whose elements and values are known beforehand are puts, one after another.
+use Rattle.std.proofs.Common.{◌≡◌, ℕ, zero, suc, ◌+◌, ◌-◌, ◌<◌, ◌≤◌, List, length, ℤ, pos, ◌+ℤ◌, refl, sym, ◌∙◌, ap, arith}
+use Rattle.std.proofs.lemmas.Int.{ints}
+use Rattle.sq_num.specs.declared.Elem.{Elem}
+use Rattle.sq_num.specs.Elements.{width}
+use Rattle.sq_leaf.specs.Spots.{load, store}
+use Rattle.sq_leaf.specs.Running.{Ran, Goes, Stops, onward, repeats}
+use Rattle.sq_leaf_run.specs.declared.block.Block.{Block}
+use Rattle.sq_leaf_run.specs.Blocks.{MayPut, IsMet, put_turn, puts}
+use Rattle.sq_leaf_run.proofs.Meeting.{met_first, met_next}
+
+-- each turn is its put, whatever it meets
+pub record AreKnown (t : Block) (e : Elem) (g : ℤ → ℤ → ℤ) (s : ℕ → ℕ) (x : ℕ → ℤ) (f : ℤ → List ℕ → Ran) (b : List ℕ) : Type 0 where
+  pub turn : (j : ℕ) (c : List ℕ) → j < t.turns → IsMet t j b c → f (t.from +ℤ pos j) c ≡ Goes (put_turn e g s x j c)
+  pub may : (j : ℕ) → j < t.turns → MayPut t e j (s j)
+  pub room : (j : ℕ) → j < t.turns → s j + width e ≤ length b
+
+one_on : (i : ℤ) (j : ℕ) → i +ℤ pos j +ℤ pos 1 ≡ i +ℤ pos (suc j)
+one_on i j = omega (arith, ints)
+
+block_from : (t : Block) (e : Elem) (g : ℤ → ℤ → ℤ) (s : ℕ → ℕ) (x : ℕ → ℤ) (f : ℤ → List ℕ → Ran) (b : List ℕ) → AreKnown t e g s x f b
+    → (n j : ℕ) (c : List ℕ) → j + n ≤ t.turns → IsMet t j b c → repeats n (t.from +ℤ pos j) f c ≡ Goes (puts e g s x n j c)
+block_from t e g s x f b known zero j c within h = refl
+block_from t e g s x f b known (suc n) j c within h =
+    let less : j < t.turns = omega arith in
+    let rest : suc j + n ≤ t.turns = omega arith in
+    ap (λ (r : Ran). onward r (repeats n (t.from +ℤ pos j +ℤ pos 1) f)) (known.turn j c less h)
+    ∙ (ap (λ (k : ℤ). repeats n k f (put_turn e g s x j c)) (one_on t.from j)
+    ∙ block_from t e g s x f b known n (suc j) (put_turn e g s x j c) rest (met_next t e g s x j b c h (known.may j less) (known.room j less)))
+
+none_on : (i : ℤ) → i ≡ i +ℤ pos 0
+none_on i = omega (arith, ints)
+
+-- the block form of a loop gives the loop
+pub block_is_loop : (t : Block) (e : Elem) (g : ℤ → ℤ → ℤ) (s : ℕ → ℕ) (x : ℕ → ℤ) (f : ℤ → List ℕ → Ran) (b : List ℕ) → AreKnown t e g s x f b
+    → repeats t.turns t.from f b ≡ Goes (puts e g s x t.turns 0 b)
+block_is_loop t e g s x f b known =
+    let all : 0 + t.turns ≤ t.turns = omega arith in
+    ap (λ (k : ℤ). repeats t.turns k f b) (none_on t.from) ∙ block_from t e g s x f b known t.turns 0 b all (met_first t b)
+
+one_more : (i : ℤ) (m : ℕ) → i +ℤ pos 1 +ℤ pos m ≡ i +ℤ pos (suc m)
+one_more i m = omega (arith, ints)
+
+-- a loop in two parts
+pub in_parts : (m n : ℕ) (i : ℤ) (f : ℤ → List ℕ → Ran) (b : List ℕ) → repeats (m + n) i f b ≡ onward (repeats m i f b) (repeats n (i +ℤ pos m) f)
+in_parts zero n i f b =
+    let none : 0 + n ≡ n = omega arith in
+    ap (λ (m : ℕ). repeats m i f b) none ∙ ap (λ (k : ℤ). repeats n k f b) (none_on i)
+in_parts (suc m) n i f b =
+    let more : suc m + n ≡ suc (m + n) = omega arith in
+    ap (λ (k : ℕ). repeats k i f b) more ∙ go (λ c. in_parts m n (i +ℤ pos 1) f c) (f i b)
+  where
+    go : ((c : List ℕ) → repeats (m + n) (i +ℤ pos 1) f c ≡ onward (repeats m (i +ℤ pos 1) f c) (repeats n (i +ℤ pos 1 +ℤ pos m) f))
+        → (r : Ran) → onward r (repeats (m + n) (i +ℤ pos 1) f) ≡ onward (onward r (repeats m (i +ℤ pos 1) f)) (repeats n (i +ℤ pos (suc m)) f)
+    go below (Goes c) = below c ∙ ap (λ (k : ℤ). onward (repeats m (i +ℤ pos 1) f c) (repeats n k f)) (one_more i m)
+    go below (Stops c t) = refl
+
+-- a turn of the code's loop over the puts
+pub next_put : (e : Elem) (g : ℤ → ℤ → ℤ) (s : ℕ → ℕ) (x : ℕ → ℤ) (n j at : ℕ) (y : ℤ) (b c whole : List ℕ) → j < n → at ≡ s j → y ≡ x j
+    → c ≡ store (record { elem = e; at = at }) (g (load (record { elem = e; at = at }) b) y) b → puts e g s x (n - j) j b ≡ whole → puts e g s x (n - (j + 1)) (j + 1) c ≡ whole
+next_put e g s x n j at y b c whole below is value put before =
+    let more : n - j ≡ suc (n - (j + 1)) = omega arith in
+    let next : j + 1 ≡ suc j = omega arith in
+    let here : c ≡ put_turn e g s x j b =
+    put ∙ (ap (λ (a : ℕ). store (record { elem = e; at = a }) (g (load (record { elem = e; at = a }) b) y) b) is
+    ∙ ap (λ (z : ℤ). store (record { elem = e; at = s j }) (g (load (record { elem = e; at = s j }) b) z) b) value) in
+    ap (λ (k : ℕ). puts e g s x (n - (j + 1)) k c) next ∙ (ap (λ (d : List ℕ). puts e g s x (n - (j + 1)) (suc j) d) here ∙ (sym (ap (λ (m : ℕ). puts e g s x m j b) more) ∙ before))

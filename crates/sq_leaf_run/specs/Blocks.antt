@@ -1,0 +1,134 @@
+-- Blocks of turns of a loop whose body assigns one element.
+use Rattle.std.specs.Prelude.{◌≡◌, ℕ, zero, suc, ◌+◌, ◌*◌, ◌^◌, ◌<◌, ◌≤◌, Bool, true, false, List, [], ◌∷◌, ◌++◌, length, get_or, map, Option, Some, None, Result, Ok, Err, ℤ, pos, ◌+ℤ◌, ◌≤ℤ◌}
+use Rattle.sq_num.specs.declared.Elem.{Elem}
+use Rattle.sq_num.specs.Elements.{width}
+use Rattle.sq_columns.specs.declared.line.Line.{Line}
+use Rattle.sq_columns.specs.Lines.{line_at, first_byte, IsSpot}
+use Rattle.sq_leaf.specs.declared.trap.Trap.{Trap}
+use Rattle.sq_leaf.specs.declared.spot.Spot.{Spot}
+use Rattle.sq_leaf.specs.declared.code.Code.{Code}
+use Rattle.sq_rect.specs.declared.view.View.{View}
+use Rattle.sq_leaf.specs.Places.{along}
+use Rattle.sq_leaf.specs.Spots.{load, store}
+use Rattle.sq_leaf.specs.Running.{Ran, Goes, repeats, ActionRun, run_code}
+use Rattle.sq_leaf_run.specs.declared.block.Block.{Block}
+use Rattle.sq_leaf_run.specs.declared.block.Rise.{Rise}
+
+-- no turn before turn j writes byte k
+pub data IsClear (t : Block) (j k : ℕ) : Type 0 where
+  Below : k < t.low → IsClear t j k
+  Above : t.high ≤ k → IsClear t j k
+  Ahead : t.front + t.step * j ≤ k → IsClear t j k
+
+-- the element of each turn from this byte on is written by no turn before it
+pub record AreClear (t : Block) (e : Elem) (s : ℕ → ℕ) : Type 0 where
+  pub each : (j k : ℕ) → j < t.turns → s j ≤ k → k < s j + width e → IsClear t j k
+
+-- where turn j may put an element
+pub record MayPut (t : Block) (e : Elem) (j at : ℕ) : Type 0 where
+  pub low : t.low ≤ at
+  pub high : at + width e ≤ t.high
+  pub ahead : at + width e ≤ t.front + t.step * suc j
+
+-- the same turns, of which less is written
+pub record IsNarrower (t u : Block) : Type 0 where
+  pub from : u.from ≡ t.from
+  pub turns : u.turns ≡ t.turns
+  pub low : t.low ≤ u.low
+  pub high : u.high ≤ t.high
+
+-- c may be what turn j meets, where the block began with b
+pub record IsMet (t : Block) (j : ℕ) (b c : List ℕ) : Type 0 where
+  pub size : length c ≡ length b
+  pub same : (k : ℕ) → IsClear t j k → get_or c k 0 ≡ get_or b k 0
+
+-- what is computed from the counters and the bytes
+abbrev pub Read : Type 0 → Type 0
+Read A = List ℤ → List ℕ → Result A Trap
+
+-- the counters within turn j
+abbrev pub counters_at : Block → List ℤ → ℕ → List ℤ
+counters_at t ks j = ks ++ (t.from +ℤ pos j) ∷ []
+
+-- at each turn, whatever it meets, this gives the line's number
+pub record Gives (t : Block) (ks : List ℤ) (b : List ℕ) (f : Read ℤ) (l : Line) (column : List ℤ) : Type 0 where
+  pub each : (j : ℕ) (c : List ℕ) → j < t.turns → IsMet t j b c → f (counters_at t ks j) c ≡ Ok (line_at l column j)
+
+-- a number as it is
+abbrev pub value_alone : List ℤ → List ℕ → ℤ → Result ℤ Trap
+value_alone ks c x = Ok x
+
+-- at each turn, whatever it meets, f of the first line's number is what g gives of the second's
+pub record Follows (t : Block) (ks : List ℤ) (b : List ℕ) (f g : List ℤ → List ℕ → ℤ → Result ℤ Trap) (x : Line) (xs : List ℤ) (y : Line) (ys : List ℤ) : Type 0 where
+  pub each : (j : ℕ) (c : List ℕ) → j < t.turns → IsMet t j b c → f (counters_at t ks j) c (line_at x xs j) ≡ g (counters_at t ks j) c (line_at y ys j)
+
+-- at each turn, whatever it meets, this gives the element whose first byte is the line's number
+pub record Places (t : Block) (ks : List ℤ) (b : List ℕ) (f : Read Spot) (e : Elem) (l : Line) (column : List ℤ) : Type 0 where
+  pub each : (j : ℕ) (c : List ℕ) → j < t.turns → IsMet t j b c → f (counters_at t ks j) c ≡ Ok (record { elem = e; at = first_byte l column j })
+
+-- the element of this turn lies between two bytes of the memory
+pub record LiesIn (low high : ℕ) (e : Elem) (l : Line) (column : List ℤ) (j : ℕ) : Type 0 where
+  pub is : line_at l column j ≡ pos (first_byte l column j)
+  pub from : low ≤ first_byte l column j
+  pub ends : first_byte l column j + width e ≤ high
+
+-- ---- puts
+
+-- turn j puts its number at its element, assigned by g
+abbrev pub put_turn : Elem → (ℤ → ℤ → ℤ) → (ℕ → ℕ) → (ℕ → ℤ) → ℕ → List ℕ → List ℕ
+put_turn e g s x j c = store (record { elem = e; at = s j }) (g (load (record { elem = e; at = s j }) c) (x j)) c
+
+-- n turns from turn j on
+abbrev pub puts : Elem → (ℤ → ℤ → ℤ) → (ℕ → ℕ) → (ℕ → ℤ) → ℕ → ℕ → List ℕ → List ℕ
+puts e g s x zero j c = c
+puts e g s x (suc n) j c = puts e g s x n (suc j) (put_turn e g s x j c)
+
+-- ---- first bytes that go up
+
+pub record IsRise (r : Rise) (l : Line) : Type 0 where
+  pub near : r.at < 2 ^ 62
+  pub slow : r.step ≤ 2 ^ 32
+  pub is : (column : List ℤ) (j : ℕ) → j < 256 → line_at l column j ≡ pos (r.at + r.step * j)
+
+pub record IsRiseFrom (r : Rise) (a d : ℤ) : Type 0 where
+  pub near : r.at < 2 ^ 62
+  pub slow : r.step ≤ 2 ^ 32
+  pub first : a ≡ pos r.at
+  pub each : d ≡ pos r.step
+
+-- ---- indices of a block
+
+-- one more dimension in front, by its index
+abbrev pub along_value : Result ℤ Trap → ℕ → ℕ → Option ℕ → Option ℕ
+along_value (Ok i) n s behind = along i n s behind
+along_value (Err t) n s behind = None
+
+-- how many elements stand before the element of these indices
+abbrev pub offset_by : List ℕ → List ℕ → List (Result ℤ Trap) → Option ℕ
+offset_by [] [] [] = Some 0
+offset_by (n ∷ ns) (s ∷ ss) (i ∷ is) = along_value i n s (offset_by ns ss is)
+offset_by _ _ _ = None
+
+abbrev pub Offset : Type 0
+Offset = List ℤ → List ℕ → Option ℕ
+
+abbrev pub offset_of : List ℕ → List ℕ → List Code → List View → Offset
+offset_of ns ss codes vs ks c = offset_by ns ss (map (λ f. f vs ks c) (map run_code codes))
+
+-- at each turn, whatever it meets, the offset is that of the element whose first byte is the line's number
+pub record AreSpots (t : Block) (ks : List ℤ) (b : List ℕ) (offset : Offset) (at w most : ℕ) (l : Line) (column : List ℤ) : Type 0 where
+  pub steady : (j : ℕ) (c : List ℕ) → j < t.turns → IsMet t j b c → offset (counters_at t ks j) c ≡ offset (counters_at t ks j) b
+  pub spot : (j : ℕ) → j < t.turns → IsSpot at w most (offset (counters_at t ks j) b) (line_at l column j)
+
+-- there are few turns, and their counters are numbers of 64 bits
+pub record IsCounted (t : Block) : Type 0 where
+  pub few : t.turns ≤ 256
+  pub some : 0 < t.turns
+  pub last : (t.from +ℤ pos t.turns) ≤ℤ pos 9223372036854775807
+
+-- ---- loops
+
+-- the turns of a loop with this body, or nothing
+abbrev pub block_or_nothing : Bool → ℕ → ℤ → ActionRun → List View → List ℤ → List ℕ → Ran
+block_or_nothing true n i f vs ks b = repeats n i (λ k. f vs (ks ++ k ∷ [])) b
+block_or_nothing false n i f vs ks b = Goes b

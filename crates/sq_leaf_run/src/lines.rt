@@ -1,0 +1,349 @@
+//! The numbers that expressions have at the turns of a block.
+
+ghost use Rattle.std.specs.Prelude.{◌≡◌, ◌+◌, ◌-◌, ◌*◌, ◌^◌, ◌<◌, ◌≤◌, ℕ, ℤ, List, [], ◌∷◌, length, slice_get, map, IfSome};
+ghost use Rattle.std.specs.List.{All};
+ghost use Rattle.sq_num.specs.Elements.{width};
+ghost use Rattle.sq_leaf.specs.Places as spec;
+ghost use Rattle.sq_leaf.specs.Spots.{IsInside};
+ghost use Rattle.sq_leaf.specs.declared.spot.Spot.{Spot};
+ghost use Rattle.sq_leaf.specs.Running as running;
+ghost use Rattle.sq_columns.specs.Lines.{line_at};
+ghost use Rattle.sq_leaf_run.specs.Blocks.{Read, value_alone, counters_at, IsCounted, Gives, Follows, Places, LiesIn, Offset, AreSpots, along_value, offset_of};
+
+use crate::block::{Block, end_of, is_clear};
+use crate::frame::Frame;
+use sq_columns::{Line, along_line, binary_line, load_line};
+use sq_leaf::{Cell, Code, Step};
+use sq_num::Elem;
+use sq_rect::View;
+use sqlite_items::at;
+
+/// How many numbers a column has.
+pub(crate) const COLUMN: usize = 256;
+
+/// The line of an expression's values, in the first of the columns. None: it may trap, or may read what an earlier turn
+/// of the block writes.
+#[cycle(column)]
+pub(crate) fn column(
+    code: &Code,
+    frame: &Frame<'_>,
+    bytes: &[u8],
+    block: Block,
+    columns: &mut [i64],
+) -> Option<Line>
+    requires counted { IsCounted block }
+    requires near { length bytes.now < 2 ^ 62 }
+    requires inside { All (IsInside (length bytes.now)) frame.now.views }
+    ensures { IfSome result (λ l. Gives block frame.now.counters bytes.now (running.run_code code.now frame.now.views) l columns.new) }
+{
+    match code {
+        Code::Constant(n) => Some(Line::Same(*n)),
+        Code::Counter(k) => Some(counter(*k, frame, block)),
+        Code::Element(cell) => element(cell, frame, bytes, block, columns),
+        Code::Chain(first, rest) => {
+            match column(first.get(), frame, bytes, block, columns) {
+                Some(x) => steps(x, rest.as_slice(), frame, bytes, block, columns),
+                None => None,
+            }
+        }
+        _ => None,
+    }
+}
+
+/// Operators and their right sides, from the left.
+#[cycle(column)]
+fn steps(
+    first: Line,
+    list: &[Step],
+    frame: &Frame<'_>,
+    bytes: &[u8],
+    block: Block,
+    columns: &mut [i64],
+) -> Option<Line>
+    requires counted { IsCounted block }
+    requires near { length bytes.now < 2 ^ 62 }
+    requires inside { All (IsInside (length bytes.now)) frame.now.views }
+    ensures { IfSome result (λ l. Follows block frame.now.counters bytes.now value_alone (running.run_each_step list.now frame.now.views) l columns.new first columns.old) }
+{
+    let mut x = first;
+    for step in list {
+        match next(x, step, frame, bytes, block, columns) {
+            Some(y) => x = y,
+            None => return None,
+        }
+    }
+    Some(x)
+}
+
+/// An operator and its right side. `&&` and `||` compute the right side at each turn, and nothing where it may trap.
+#[cycle(column)]
+fn next(
+    x: Line,
+    step: &Step,
+    frame: &Frame<'_>,
+    bytes: &[u8],
+    block: Block,
+    columns: &mut [i64],
+) -> Option<Line>
+    requires counted { IsCounted block }
+    requires near { length bytes.now < 2 ^ 62 }
+    requires inside { All (IsInside (length bytes.now)) frame.now.views }
+    ensures { IfSome result (λ l. Follows block frame.now.counters bytes.now value_alone (running.run_step step.now frame.now.views) l columns.new x columns.old) }
+{
+    if columns.len() < 2 * COLUMN {
+        return None;
+    }
+    let (front, rest) = columns.split_at_mut(COLUMN);
+    next_in(x, step, frame, bytes, block, front, rest)
+}
+
+#[cycle(column)]
+#[inline(always)]
+fn next_in(
+    x: Line,
+    step: &Step,
+    frame: &Frame<'_>,
+    bytes: &[u8],
+    block: Block,
+    front: &mut [i64],
+    rest: &mut [i64],
+) -> Option<Line>
+    requires counted { IsCounted block }
+    requires near { length bytes.now < 2 ^ 62 }
+    requires inside { All (IsInside (length bytes.now)) frame.now.views }
+    requires front { block.turns ≤ length front.old }
+    requires rest { block.turns ≤ length rest.old }
+    ensures { IfSome result (λ l. Follows block frame.now.counters bytes.now value_alone (running.run_step step.now frame.now.views) l front.new x front.old) }
+{
+    match column(&step.right, frame, bytes, block, rest) {
+        Some(y) => binary_line(step.op, x, front, y, rest, block.turns),
+        None => None,
+    }
+}
+
+/// The line of an element's numbers.
+#[cycle(column)]
+fn element(
+    cell: &Cell,
+    frame: &Frame<'_>,
+    bytes: &[u8],
+    block: Block,
+    columns: &mut [i64],
+) -> Option<Line>
+    requires counted { IsCounted block }
+    requires near { length bytes.now < 2 ^ 62 }
+    requires inside { All (IsInside (length bytes.now)) frame.now.views }
+    ensures { IfSome result (λ l. Gives block frame.now.counters bytes.now (λ ks c. running.load_from (running.run_cell cell.now frame.now.views ks c) c) l columns.new) }
+{
+    match at(frame.views(), cell.array) {
+        Some(view) => match spots(cell, view, frame, bytes, block, columns) {
+            Some(spots) => loaded(spots, view, bytes, block, columns),
+            None => None,
+        },
+        None => None,
+    }
+}
+
+/// The line of the numbers at these elements of a view. None: one may be written by an earlier turn of the block.
+fn loaded(spots: Line, view: &View, bytes: &[u8], block: Block, columns: &mut [i64]) -> Option<Line>
+    requires counted { IsCounted block }
+    requires one { IsInside (length bytes.now) view.now }
+    requires lies { (j : ℕ) → j < block.turns → LiesIn view.now.at (view.now.at + width view.now.elem * (spec.reach view.now.extents view.now.strides + 1)) view.now.elem spots columns.old j }
+    ensures { (ks : List ℤ) (f : Read Spot) → Places block ks bytes.now f view.now.elem spots columns.old → IfSome result (λ l. Gives block ks bytes.now (λ k c. running.load_from (f k c) c) l columns.new) }
+{
+    let high = end_of(view, bytes.len());
+    if columns.len() < COLUMN {
+        return None;
+    }
+    if is_clear(view.elem, spots, columns, view.at as usize, high, block) {
+        Some(load_line(view.elem, spots, columns, bytes, block.turns))
+    } else {
+        None
+    }
+}
+
+/// The line of a counter.
+fn counter(k: usize, frame: &Frame<'_>, block: Block) -> Line
+    requires { IsCounted block }
+    ensures { (column : List ℤ) (j : ℕ) → j < block.turns → running.counter (counters_at block frame.now.counters j) k ≡ line_at result column j }
+{
+    if k == frame.depth() {
+        Line::Ramp(block.from, 1)
+    } else {
+        Line::Same(frame.counter(k))
+    }
+}
+
+/// The first bytes of a cell's elements in its view. None: an index may trap, or lie outside.
+#[cycle(column)]
+pub(crate) fn spots(
+    cell: &Cell,
+    view: &View,
+    frame: &Frame<'_>,
+    bytes: &[u8],
+    block: Block,
+    columns: &mut [i64],
+) -> Option<Line>
+    requires counted { IsCounted block }
+    requires near { length bytes.now < 2 ^ 62 }
+    requires inside { All (IsInside (length bytes.now)) frame.now.views }
+    requires one { IsInside (length bytes.now) view.now }
+    requires there { Some view.now ≡ slice_get frame.now.views cell.now.array }
+    ensures places { IfSome result (λ l. Places block frame.now.counters bytes.now (running.run_cell cell.now frame.now.views) view.now.elem l columns.new) }
+    ensures lies { IfSome result (λ l. (j : ℕ) → j < block.turns → LiesIn view.now.at (view.now.at + width view.now.elem * (spec.reach view.now.extents view.now.strides + 1)) view.now.elem l columns.new j) }
+{
+    let extents = view.extents.as_slice();
+    let strides = view.strides.as_slice();
+    let (at, elem) = (view.at, view.elem);
+    let index = cell.index.as_slice();
+    match index.len() {
+        1 => places_one(
+            extents, strides, index, at, elem, frame, bytes, block, columns,
+        ),
+        2 => places_two(
+            extents, strides, index, at, elem, frame, bytes, block, columns,
+        ),
+        3 => places_three(
+            extents, strides, index, at, elem, frame, bytes, block, columns,
+        ),
+        _ => None,
+    }
+}
+
+/// The first bytes of elements by one index.
+#[cycle(column)]
+fn places_one(
+    extents: &[u32],
+    strides: &[u32],
+    index: &[Code],
+    at: u32,
+    elem: Elem,
+    frame: &Frame<'_>,
+    bytes: &[u8],
+    block: Block,
+    columns: &mut [i64],
+) -> Option<Line>
+    requires counted { IsCounted block }
+    requires near { length bytes.now < 2 ^ 62 }
+    requires inside { All (IsInside (length bytes.now)) frame.now.views }
+    ensures { at + width elem * spec.reach extents.now strides.now < 2 ^ 62 → IfSome result (λ l. AreSpots block frame.now.counters bytes.now (offset_of extents.now strides.now index.now frame.now.views) at (width elem) (spec.reach extents.now strides.now) l columns.new) }
+{
+    let ([x], [n], [s]) = (index, extents, strides) else {
+        return None;
+    };
+    along(first(at), x, *n, *s, elem, frame, bytes, block, columns)
+}
+
+/// The same by two indices.
+#[cycle(column)]
+fn places_two(
+    extents: &[u32],
+    strides: &[u32],
+    index: &[Code],
+    at: u32,
+    elem: Elem,
+    frame: &Frame<'_>,
+    bytes: &[u8],
+    block: Block,
+    columns: &mut [i64],
+) -> Option<Line>
+    requires counted { IsCounted block }
+    requires near { length bytes.now < 2 ^ 62 }
+    requires inside { All (IsInside (length bytes.now)) frame.now.views }
+    ensures { at + width elem * spec.reach extents.now strides.now < 2 ^ 62 → IfSome result (λ l. AreSpots block frame.now.counters bytes.now (offset_of extents.now strides.now index.now frame.now.views) at (width elem) (spec.reach extents.now strides.now) l columns.new) }
+{
+    let ([x, y], [n, m], [s, t]) = (index, extents, strides) else {
+        return None;
+    };
+    let spots = along(first(at), y, *m, *t, elem, frame, bytes, block, columns)?;
+    along(spots, x, *n, *s, elem, frame, bytes, block, columns)
+}
+
+/// The same by three indices.
+#[cycle(column)]
+fn places_three(
+    extents: &[u32],
+    strides: &[u32],
+    index: &[Code],
+    at: u32,
+    elem: Elem,
+    frame: &Frame<'_>,
+    bytes: &[u8],
+    block: Block,
+    columns: &mut [i64],
+) -> Option<Line>
+    requires counted { IsCounted block }
+    requires near { length bytes.now < 2 ^ 62 }
+    requires inside { All (IsInside (length bytes.now)) frame.now.views }
+    ensures { at + width elem * spec.reach extents.now strides.now < 2 ^ 62 → IfSome result (λ l. AreSpots block frame.now.counters bytes.now (offset_of extents.now strides.now index.now frame.now.views) at (width elem) (spec.reach extents.now strides.now) l columns.new) }
+{
+    let ([x, y, z], [n, m, k], [s, t, u]) = (index, extents, strides) else {
+        return None;
+    };
+    let spots = along(first(at), z, *k, *u, elem, frame, bytes, block, columns)?;
+    let spots = along(spots, y, *m, *t, elem, frame, bytes, block, columns)?;
+    along(spots, x, *n, *s, elem, frame, bytes, block, columns)
+}
+
+/// The first byte where no dimension is left.
+fn first(at: u32) -> Line
+    ensures { (t : Block) (ks : List ℤ) (b : List ℕ) (vs : List View) (w : ℕ) (column : List ℤ) → AreSpots t ks b (offset_of [] [] [] vs) at w 0 result column }
+{
+    Line::Same(i64::from(at))
+}
+
+/// One more dimension in front.
+#[cycle(column)]
+fn along(
+    spots: Line,
+    code: &Code,
+    extent: u32,
+    stride: u32,
+    elem: Elem,
+    frame: &Frame<'_>,
+    bytes: &[u8],
+    block: Block,
+    columns: &mut [i64],
+) -> Option<Line>
+    requires counted { IsCounted block }
+    requires near { length bytes.now < 2 ^ 62 }
+    requires inside { All (IsInside (length bytes.now)) frame.now.views }
+    ensures { (at most : ℕ) (off : Offset) → at + width elem * ((extent - 1) * stride + most) < 2 ^ 62 → AreSpots block frame.now.counters bytes.now off at (width elem) most spots columns.old
+        → IfSome result (λ l. AreSpots block frame.now.counters bytes.now (λ ks c. along_value (running.run_code code.now frame.now.views ks c) extent stride (off ks c)) at (width elem) ((extent - 1) * stride + most) l columns.new) }
+{
+    if columns.len() < 2 * COLUMN {
+        return None;
+    }
+    let (front, rest) = columns.split_at_mut(COLUMN);
+    along_in(
+        spots, code, extent, stride, elem, frame, bytes, block, front, rest,
+    )
+}
+
+#[cycle(column)]
+#[inline(always)]
+fn along_in(
+    spots: Line,
+    code: &Code,
+    extent: u32,
+    stride: u32,
+    elem: Elem,
+    frame: &Frame<'_>,
+    bytes: &[u8],
+    block: Block,
+    front: &mut [i64],
+    rest: &mut [i64],
+) -> Option<Line>
+    requires counted { IsCounted block }
+    requires near { length bytes.now < 2 ^ 62 }
+    requires inside { All (IsInside (length bytes.now)) frame.now.views }
+    requires front { block.turns ≤ length front.old }
+    requires rest { block.turns ≤ length rest.old }
+    ensures { (at most : ℕ) (off : Offset) → at + width elem * ((extent - 1) * stride + most) < 2 ^ 62 → AreSpots block frame.now.counters bytes.now off at (width elem) most spots front.old
+        → IfSome result (λ l. AreSpots block frame.now.counters bytes.now (λ ks c. along_value (running.run_code code.now frame.now.views ks c) extent stride (off ks c)) at (width elem) ((extent - 1) * stride + most) l front.new) }
+{
+    match column(code, frame, bytes, block, rest) {
+        Some(index) => along_line(spots, front, index, rest, extent, stride, elem, block.turns),
+        None => None,
+    }
+}
