@@ -10,10 +10,11 @@ use Rattle.sq_leaf.specs.declared.trap.Trap.{Trap}
 use Rattle.sq_leaf.specs.declared.code.Step.{Step, out-Step}
 use Rattle.sq_leaf.specs.declared.code.Code.TheFolds.{fold_out-Step}
 use Rattle.sq_leaf.specs.Numbers.{truth, is_zero, binary}
+use Rattle.sq_leaf.specs.Outcome.{and_then}
 use Rattle.sq_leaf.specs.Source.{linked}
 use Rattle.sq_leaf.specs.Running.{run_code, run_step, CodeRun, CellRun, StepRun, code_step, cell_step, step_step}
 use Rattle.sq_leaf_run.specs.declared.block.Block.{Block}
-use Rattle.sq_leaf_run.specs.Blocks.{IsMet, counters_at, Gives, Follows, value_alone}
+use Rattle.sq_leaf_run.specs.Blocks.{IsMet, Read, counters_at, Gives, Follows, value_alone, extreme, extreme_of}
 use Rattle.sq_leaf_run.proofs.Spotting.{line_front}
 
 abbrev Right : ℤ → Result ℤ Trap
@@ -79,4 +80,10 @@ follows_front t ks b f x (Some l) all front rest new_front new_rest e room new_r
   each = λ j d below met.
       ap Ok (line_front l (new_front ++ new_rest) new_front new_rest j refl (omega (arith, below, new_room)))
       ∙ (h.each j d below met ∙ ap (f (counters_at t ks j) d) (sym (line_front x all front rest j e (omega (arith, below, room)))));
+}
+
+pub extreme_follows : (t : Block) (ks : List ℤ) (b : List ℕ) (most : Bool) (f : Read ℤ) (x y l : Line) (xs ys zs : List ℤ) → Gives t ks b f y ys
+    → ((j : ℕ) → j < t.turns → line_at l zs j ≡ extreme most (line_at x xs j) (line_at y ys j)) → Follows t ks b value_alone (extreme_of most f) l zs x xs
+extreme_follows t ks b most f x y l xs ys zs right h = record {
+  each = λ j d below met. ap Ok (h j below) ∙ ap (λ (r : Result ℤ Trap). and_then r (λ w. Ok (extreme most (line_at x xs j) w))) (sym (right.each j d below met));
 }

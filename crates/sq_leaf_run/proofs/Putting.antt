@@ -1,12 +1,15 @@
 -- Turns whose elements and values are known beforehand are puts, one after another.
-use Rattle.std.proofs.Common.{◌≡◌, ℕ, zero, suc, ◌+◌, ◌-◌, ◌<◌, ◌≤◌, List, length, ℤ, pos, ◌+ℤ◌, refl, sym, ◌∙◌, ap, arith}
+use Rattle.std.proofs.Common.{◌≡◌, ℕ, zero, suc, ◌+◌, ◌-◌, ◌*◌, ◌<◌, ◌≤◌, List, length, ℤ, pos, ◌+ℤ◌, unsigned_abs, refl, sym, ◌∙◌, ap, arith}
 use Rattle.std.proofs.lemmas.Int.{ints}
 use Rattle.sq_num.specs.declared.Elem.{Elem}
 use Rattle.sq_num.specs.Elements.{width}
 use Rattle.sq_leaf.specs.Spots.{load, store}
 use Rattle.sq_leaf.specs.Running.{Ran, Goes, Stops, onward, repeats}
 use Rattle.sq_leaf_run.specs.declared.block.Block.{Block}
-use Rattle.sq_leaf_run.specs.Blocks.{MayPut, IsMet, put_turn, puts}
+use Rattle.sq_leaf_run.specs.declared.block.Rise.{Rise}
+use Rattle.sq_columns.specs.declared.line.Line.{Line}
+use Rattle.sq_columns.specs.Lines.{first_byte}
+use Rattle.sq_leaf_run.specs.Blocks.{MayPut, IsRise, LiesIn, IsMet, put_turn, puts}
 use Rattle.sq_leaf_run.proofs.Meeting.{met_first, met_next}
 
 -- each turn is its put, whatever it meets
@@ -65,3 +68,25 @@ next_put e g s x n j at y b c whole below is value put before =
     put ∙ (ap (λ (a : ℕ). store (record { elem = e; at = a }) (g (load (record { elem = e; at = a }) b) y) b) is
     ∙ ap (λ (z : ℤ). store (record { elem = e; at = s j }) (g (load (record { elem = e; at = s j }) b) z) b) value) in
     ap (λ (k : ℕ). puts e g s x (n - (j + 1)) k c) next ∙ (ap (λ (d : List ℕ). puts e g s x (n - (j + 1)) (suc j) d) here ∙ (sym (ap (λ (m : ℕ). puts e g s x m j b) more) ∙ before))
+
+-- ---- elements that go up
+
+same_puts : (e : Elem) (g : ℤ → ℤ → ℤ) (s u : ℕ → ℕ) (x : ℕ → ℤ) (n j : ℕ) (b : List ℕ) → ((k : ℕ) → k < j + n → s k ≡ u k) → puts e g s x n j b ≡ puts e g u x n j b
+same_puts e g s u x zero j b h = refl
+same_puts e g s u x (suc n) j b h =
+    ap (λ (d : List ℕ). puts e g s x n (suc j) d) (ap (λ (a : ℕ). store (record { elem = e; at = a }) (g (load (record { elem = e; at = a }) b) (x j)) b) (h j (omega arith)))
+    ∙ same_puts e g s u x n (suc j) (put_turn e g u x j b) (λ k below. h k (omega (arith, below)))
+
+rise_byte : (r : Rise) (l : Line) (column : List ℤ) (n j : ℕ) → IsRise r l → n ≤ 256 → j < n → first_byte l column j ≡ r.at + r.step * j
+rise_byte r l column n j rises few below = ap unsigned_abs (rises.is column j (omega (arith, few, below)))
+
+pub rise_puts : (e : Elem) (g : ℤ → ℤ → ℤ) (l : Line) (column : List ℤ) (x : ℕ → ℤ) (r : Rise) → IsRise r l → (n : ℕ) → n ≤ 256 → (b : List ℕ)
+    → puts e g (first_byte l column) x n 0 b ≡ puts e g (λ j. r.at + r.step * j) x n 0 b
+rise_puts e g l column x r rises n few b = same_puts e g (first_byte l column) (λ j. r.at + r.step * j) x n 0 b (λ k below. rise_byte r l column n k rises few (omega (arith, below)))
+
+pub rise_room : (n size : ℕ) (e : Elem) (l : Line) (column : List ℤ) (r : Rise) → IsRise r l → n ≤ 256 → ((j : ℕ) → j < n → LiesIn 0 size e l column j)
+    → (j : ℕ) → j < n → r.at + r.step * j + width e ≤ size
+rise_room n size e l column r rises few lies j below =
+    let here : LiesIn 0 size e l column j = lies j below in
+    let end : first_byte l column j + width e ≤ size = here.ends in
+    omega (arith, end, rise_byte r l column n j rises few below)

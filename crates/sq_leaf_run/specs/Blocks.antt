@@ -1,5 +1,6 @@
 -- Blocks of turns of a loop whose body assigns one element.
 use Rattle.std.specs.Prelude.{◌≡◌, ℕ, zero, suc, ◌+◌, ◌*◌, ◌^◌, ◌<◌, ◌≤◌, Bool, true, false, List, [], ◌∷◌, ◌++◌, length, get_or, map, Option, Some, None, Result, Ok, Err, ℤ, pos, ◌+ℤ◌, ◌≤ℤ◌}
+use Rattle.std.specs.Int.{int_min, int_max}
 use Rattle.sq_num.specs.declared.Elem.{Elem}
 use Rattle.sq_num.specs.Elements.{width}
 use Rattle.sq_columns.specs.declared.line.Line.{Line}
@@ -8,6 +9,7 @@ use Rattle.sq_leaf.specs.declared.trap.Trap.{Trap}
 use Rattle.sq_leaf.specs.declared.spot.Spot.{Spot}
 use Rattle.sq_leaf.specs.declared.code.Code.{Code}
 use Rattle.sq_rect.specs.declared.view.View.{View}
+use Rattle.sq_leaf.specs.Outcome.{and_then}
 use Rattle.sq_leaf.specs.Places.{along}
 use Rattle.sq_leaf.specs.Spots.{load, store}
 use Rattle.sq_leaf.specs.Running.{Ran, Goes, repeats, ActionRun, run_code}
@@ -57,6 +59,15 @@ pub record Gives (t : Block) (ks : List ℤ) (b : List ℕ) (f : Read ℤ) (l : 
 -- a number as it is
 abbrev pub value_alone : List ℤ → List ℕ → ℤ → Result ℤ Trap
 value_alone ks c x = Ok x
+
+-- the lesser or the greater of two numbers
+abbrev pub extreme : Bool → ℤ → ℤ → ℤ
+extreme true x y = int_max x y
+extreme false x y = int_min x y
+
+-- that of a number and of what is read
+abbrev pub extreme_of : Bool → Read ℤ → List ℤ → List ℕ → ℤ → Result ℤ Trap
+extreme_of most f ks c x = and_then (f ks c) (λ y. Ok (extreme most x y))
 
 -- at each turn, whatever it meets, f of the first line's number is what g gives of the second's
 pub record Follows (t : Block) (ks : List ℤ) (b : List ℕ) (f g : List ℤ → List ℕ → ℤ → Result ℤ Trap) (x : Line) (xs : List ℤ) (y : Line) (ys : List ℤ) : Type 0 where

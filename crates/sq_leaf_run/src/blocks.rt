@@ -16,7 +16,7 @@ use crate::act::assign;
 use crate::block::{Block, narrowed};
 use crate::frame::Frame;
 use crate::lines::{COLUMN, column, spots};
-use crate::puts::put_each;
+use crate::puts::put_all;
 use sq_ast::AssignOp;
 use sq_columns::Line;
 use sq_leaf::{Cell, Code, Trap};
@@ -239,7 +239,7 @@ fn block_in(
     };
     match column(code, frame, bytes, narrow, columns) {
         Some(x) => {
-            put_each(elem, op, spots, places, x, columns, block.turns, bytes);
+            put_all(elem, op, spots, places, x, columns, block.turns, bytes);
             true
         }
         None => false,

@@ -6,13 +6,17 @@ ghost use Rattle.sq_num.specs.Elements.{width};
 ghost use Rattle.sq_leaf.specs.Places as spec;
 ghost use Rattle.sq_leaf.specs.Spots.{IsInside};
 ghost use Rattle.sq_leaf.specs.declared.spot.Spot.{Spot};
+ghost use Rattle.sq_leaf.specs.Numbers as numbers;
 ghost use Rattle.sq_leaf.specs.Running as running;
 ghost use Rattle.sq_columns.specs.Lines.{line_at};
-ghost use Rattle.sq_leaf_run.specs.Blocks.{Read, value_alone, counters_at, IsCounted, Gives, Follows, Places, LiesIn, Offset, AreSpots, along_value, offset_of};
+ghost use Rattle.sq_leaf_run.specs.Blocks.{Read, value_alone, extreme, extreme_of, counters_at, IsCounted, Gives, Follows, Places, LiesIn, Offset, AreSpots, along_value, offset_of};
 
 use crate::block::{Block, end_of, is_clear};
 use crate::frame::Frame;
-use sq_columns::{Line, along_line, binary_line, load_line};
+use sq_ast::UnOp;
+use sq_columns::{
+    Line, along_line, binary_line, least_line, load_line, most_line, unary_line,
+};
 use sq_leaf::{Cell, Code, Step};
 use sq_num::Elem;
 use sq_rect::View;
@@ -46,7 +50,95 @@ pub(crate) fn column(
                 None => None,
             }
         }
-        _ => None,
+        Code::Unary(op, inner) => {
+            match column(inner.get(), frame, bytes, block, columns) {
+                Some(x) => changed(*op, x, block, columns),
+                None => None,
+            }
+        }
+        Code::Least(x, y) => {
+            match column(x.get(), frame, bytes, block, columns) {
+                Some(first) => extreme(false, first, y.get(), frame, bytes, block, columns),
+                None => None,
+            }
+        }
+        Code::Most(x, y) => {
+            match column(x.get(), frame, bytes, block, columns) {
+                Some(first) => extreme(true, first, y.get(), frame, bytes, block, columns),
+                None => None,
+            }
+        }
+    }
+}
+
+/// An operator of one side.
+fn changed(op: UnOp, x: Line, block: Block, columns: &mut [i64]) -> Option<Line>
+    requires { IsCounted block }
+    ensures { IfSome result (λ l. (j : ℕ) → j < block.turns → line_at l columns.new j ≡ numbers.unary op (line_at x columns.old j)) }
+{
+    if columns.len() < COLUMN {
+        return None;
+    }
+    Some(unary_line(op, x, columns, block.turns))
+}
+
+/// The lesser or the greater of two sides.
+#[cycle(column)]
+fn extreme(
+    most: bool,
+    x: Line,
+    code: &Code,
+    frame: &Frame<'_>,
+    bytes: &[u8],
+    block: Block,
+    columns: &mut [i64],
+) -> Option<Line>
+    requires counted { IsCounted block }
+    requires near { length bytes.now < 2 ^ 62 }
+    requires inside { All (IsInside (length bytes.now)) frame.now.views }
+    ensures { IfSome result (λ l. Follows block frame.now.counters bytes.now value_alone (extreme_of most (running.run_code code.now frame.now.views)) l columns.new x columns.old) }
+{
+    if columns.len() < 2 * COLUMN {
+        return None;
+    }
+    let (front, rest) = columns.split_at_mut(COLUMN);
+    extreme_in(most, x, code, frame, bytes, block, front, rest)
+}
+
+#[cycle(column)]
+fn extreme_in(
+    most: bool,
+    x: Line,
+    code: &Code,
+    frame: &Frame<'_>,
+    bytes: &[u8],
+    block: Block,
+    front: &mut [i64],
+    rest: &mut [i64],
+) -> Option<Line>
+    requires counted { IsCounted block }
+    requires near { length bytes.now < 2 ^ 62 }
+    requires inside { All (IsInside (length bytes.now)) frame.now.views }
+    requires front { block.turns ≤ length front.old }
+    requires rest { block.turns ≤ length rest.old }
+    ensures { IfSome result (λ l. Follows block frame.now.counters bytes.now value_alone (extreme_of most (running.run_code code.now frame.now.views)) l front.new x front.old) }
+{
+    match column(code, frame, bytes, block, rest) {
+        Some(y) => Some(extreme_line(most, x, front, y, rest, block.turns)),
+        None => None,
+    }
+}
+
+fn extreme_line(most: bool, x: Line, xs: &mut [i64], y: Line, ys: &mut [i64], n: usize) -> Line
+    requires few { n ≤ 256 }
+    requires left { n ≤ length xs.old }
+    requires right { n ≤ length ys.old }
+    ensures { (j : ℕ) → j < n → line_at result xs.new j ≡ extreme most (line_at x xs.old j) (line_at y ys.old j) }
+{
+    if most {
+        most_line(x, xs, y, ys, n)
+    } else {
+        least_line(x, xs, y, ys, n)
     }
 }
 

@@ -1,16 +1,17 @@
 //! The numbers of a block of turns, put at their elements.
 
-ghost use Rattle.std.specs.Prelude.{◌≡◌, ◌+◌, ◌<◌, ◌≤◌, ℕ, length};
+ghost use Rattle.std.specs.Prelude.{◌≡◌, ◌+◌, ◌*◌, ◌^◌, ◌<◌, ◌≤◌, ℕ, length};
 ghost use Rattle.sq_num.specs.Elements.{width};
 ghost use Rattle.sq_leaf.specs.Source as source;
 ghost use Rattle.sq_leaf.specs.Spots as running;
 ghost use Rattle.sq_columns.specs.Lines.{line_at, first_byte};
 ghost use Rattle.sq_leaf_run.specs.Blocks.{LiesIn, puts};
 
+use crate::block::{Rise, rise_of};
 use crate::spot::{load, store};
 use sq_ast::AssignOp;
 use sq_columns::Line;
-use sq_num::Elem;
+use sq_num::{Elem, width};
 
 /// Each turn's number is put at its element, in the order of the turns.
 pub(crate) fn put_each(
@@ -32,6 +33,152 @@ pub(crate) fn put_each(
     for j in 0..turns {
         let at = place_at(elem, spots, places, j, bytes.len());
         put(elem, op, at, x.at(numbers, j), bytes);
+    }
+}
+
+/// The same by a loop for each type and operator, and for rows, single elements and others.
+pub(crate) fn put_all(
+    elem: Elem,
+    op: AssignOp,
+    spots: Line,
+    places: &[i64],
+    x: Line,
+    numbers: &[i64],
+    turns: usize,
+    bytes: &mut [u8],
+)
+    requires few { turns ≤ 256 }
+    requires places { turns ≤ length places.now }
+    requires numbers { turns ≤ length numbers.now }
+    requires lies { (j : ℕ) → j < turns → LiesIn 0 (length bytes.old) elem spots places.now j }
+    ensures { bytes.new ≡ puts elem (source.assigned op) (first_byte spots places.now) (line_at x numbers.now) turns 0 bytes.old }
+{
+    match elem {
+        Elem::Byte => put_by_op(Elem::Byte, op, spots, places, x, numbers, turns, bytes),
+        Elem::Int => put_by_op(Elem::Int, op, spots, places, x, numbers, turns, bytes),
+        Elem::Long => put_by_op(Elem::Long, op, spots, places, x, numbers, turns, bytes),
+    }
+}
+
+#[inline(always)]
+fn put_by_op(
+    elem: Elem,
+    op: AssignOp,
+    spots: Line,
+    places: &[i64],
+    x: Line,
+    numbers: &[i64],
+    turns: usize,
+    bytes: &mut [u8],
+)
+    requires few { turns ≤ 256 }
+    requires places { turns ≤ length places.now }
+    requires numbers { turns ≤ length numbers.now }
+    requires lies { (j : ℕ) → j < turns → LiesIn 0 (length bytes.old) elem spots places.now j }
+    ensures { bytes.new ≡ puts elem (source.assigned op) (first_byte spots places.now) (line_at x numbers.now) turns 0 bytes.old }
+{
+    match op {
+        AssignOp::Set => put_by_spots(elem, AssignOp::Set, spots, places, x, numbers, turns, bytes),
+        AssignOp::Add => put_by_spots(elem, AssignOp::Add, spots, places, x, numbers, turns, bytes),
+        AssignOp::Sub => put_by_spots(elem, AssignOp::Sub, spots, places, x, numbers, turns, bytes),
+        AssignOp::Mul => put_by_spots(elem, AssignOp::Mul, spots, places, x, numbers, turns, bytes),
+    }
+}
+
+#[inline(always)]
+fn put_by_spots(
+    elem: Elem,
+    op: AssignOp,
+    spots: Line,
+    places: &[i64],
+    x: Line,
+    numbers: &[i64],
+    turns: usize,
+    bytes: &mut [u8],
+)
+    requires few { turns ≤ 256 }
+    requires places { turns ≤ length places.now }
+    requires numbers { turns ≤ length numbers.now }
+    requires lies { (j : ℕ) → j < turns → LiesIn 0 (length bytes.old) elem spots places.now j }
+    ensures { bytes.new ≡ puts elem (source.assigned op) (first_byte spots places.now) (line_at x numbers.now) turns 0 bytes.old }
+{
+    match rise_of(spots) {
+        Some(rise) => put_rise(elem, op, rise, x, numbers, turns, bytes),
+        None => put_each(elem, op, spots, places, x, numbers, turns, bytes),
+    }
+}
+
+/// Elements that go up by the same step: rows and single elements by loops of their own.
+#[inline(always)]
+fn put_rise(
+    elem: Elem,
+    op: AssignOp,
+    rise: Rise,
+    x: Line,
+    numbers: &[i64],
+    turns: usize,
+    bytes: &mut [u8],
+)
+    requires few { turns ≤ 256 }
+    requires near { rise.at < 2 ^ 62 }
+    requires slow { rise.step ≤ 2 ^ 32 }
+    requires numbers { turns ≤ length numbers.now }
+    requires room { (j : ℕ) → j < turns → rise.at + rise.step * j + width elem ≤ length bytes.old }
+    ensures { bytes.new ≡ puts elem (source.assigned op) (λ j. rise.at + rise.step * j) (line_at x numbers.now) turns 0 bytes.old }
+{
+    if rise.step == 0 {
+        put_steps(elem, op, rise.at, 0, x, numbers, turns, bytes);
+    } else if rise.step == width(elem) {
+        put_steps(elem, op, rise.at, width(elem), x, numbers, turns, bytes);
+    } else {
+        put_steps(elem, op, rise.at, rise.step, x, numbers, turns, bytes);
+    }
+}
+
+#[inline(always)]
+fn put_steps(
+    elem: Elem,
+    op: AssignOp,
+    at: usize,
+    step: usize,
+    x: Line,
+    numbers: &[i64],
+    turns: usize,
+    bytes: &mut [u8],
+)
+    requires few { turns ≤ 256 }
+    requires near { at < 2 ^ 62 }
+    requires slow { step ≤ 2 ^ 32 }
+    requires numbers { turns ≤ length numbers.now }
+    requires room { (j : ℕ) → j < turns → at + step * j + width elem ≤ length bytes.old }
+    ensures { bytes.new ≡ puts elem (source.assigned op) (λ j. at + step * j) (line_at x numbers.now) turns 0 bytes.old }
+{
+    match x {
+        Line::Column => put_column(elem, op, at, step, Line::Column, numbers, turns, bytes),
+        x => put_column(elem, op, at, step, x, numbers, turns, bytes),
+    }
+}
+
+#[inline(always)]
+fn put_column(
+    elem: Elem,
+    op: AssignOp,
+    at: usize,
+    step: usize,
+    x: Line,
+    numbers: &[i64],
+    turns: usize,
+    bytes: &mut [u8],
+)
+    requires few { turns ≤ 256 }
+    requires near { at < 2 ^ 62 }
+    requires slow { step ≤ 2 ^ 32 }
+    requires numbers { turns ≤ length numbers.now }
+    requires room { (j : ℕ) → j < turns → at + step * j + width elem ≤ length bytes.old }
+    ensures { bytes.new ≡ puts elem (source.assigned op) (λ j. at + step * j) (line_at x numbers.now) turns 0 bytes.old }
+{
+    for j in 0..turns {
+        put(elem, op, at + step * j, x.at(numbers, j), bytes);
     }
 }
 

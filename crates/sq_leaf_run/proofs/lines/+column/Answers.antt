@@ -2,7 +2,7 @@ use Rattle.std.proofs.Common.{rules, ◌≡◌, ◌++◌, ◌<◌, ◌≤◌, �
 use Rattle.sq_num.specs.Elements.{width}
 use Rattle.sq_leaf_run.specs.Blocks.{counters_at}
 use Rattle.sq_leaf_run.proofs.Spotting.{along_front, spots_along, spots_there, some_after, one_index, two_indices, three_indices, list_one, list_two, list_three, codes_one, codes_two, codes_three}
-use Rattle.sq_leaf_run.proofs.Linking.{next_follows, follows_front}
+use Rattle.sq_leaf_run.proofs.Linking.{next_follows, follows_front, extreme_follows}
 use Rattle.sq_leaf_run.proofs.lines.+column.Goals as goal
 
 pub along-returns : goal.along-returns
@@ -66,3 +66,13 @@ pub spots-returns-in-3-clause-places : goal.spots-returns-in-3-clause-places
 spots-returns-in-3-clause-places t c =
     spots_there c.args.block c.args.frame.now.counters c.args.bytes.now c.args.cell.now c.args.view.now c.args.frame.now.views (length c.args.bytes.now) c.places_three.result c.places_three.new.columns _ _ _
     (search rules) (search rules) (search rules) c.requires.there c.requires.one c.requires.near c.places_three.ensures
+
+pub extreme-returns : goal.extreme-returns
+extreme-returns t c =
+    follows_front c.args.block c.args.frame.now.counters c.args.bytes.now _ c.args.x c.extreme_in.result c.args.columns.now _ _ c.extreme_in.new.front c.extreme_in.new.rest
+    c.split_at_mut-front.ensures.value (search rules) (search rules) c.extreme_in.ensures
+
+pub extreme_in-returns-in-Some : goal.extreme_in-returns-in-Some
+extreme_in-returns-in-Some t c =
+    extreme_follows c.args.block c.args.frame.now.counters c.args.bytes.now c.args.most _ c.args.x c.in-Some.y c.extreme_line.result c.args.front.now c.column.new.columns c.extreme_line.new.xs
+    c.in-Some.ensures c.extreme_line.ensures
