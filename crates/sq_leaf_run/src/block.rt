@@ -38,7 +38,8 @@ impl Block {
         ensures from { result.from ≡ from }
         ensures turns { result.turns ≡ turns }
         ensures low { result.low ≡ view.now.at }
-        ensures high { result.high ≡ view.now.at + width view.now.elem * (places.reach view.now.extents view.now.strides + 1) }
+        ensures high { result.high ≡ view.now.at + width view.now.elem *
+            (places.reach view.now.extents view.now.strides + 1) }
         ensures front { result.front ≡ result.high }
         ensures step { result.step ≡ 0 }
     {
@@ -126,7 +127,8 @@ fn risen(elem: Elem, rise: Rise, block: Block) -> Block
     requires some { 0 < block.turns }
     requires near { rise.at < 2 ^ 62 }
     requires slow { rise.step ≤ 2 ^ 32 }
-    requires lies { (j : ℕ) → j < block.turns → (block.low ≤ rise.at + rise.step * j) × (rise.at + rise.step * j + width elem ≤ block.high) }
+    requires lies { (j : ℕ) → j < block.turns → (block.low ≤ rise.at + rise.step * j)
+        × (rise.at + rise.step * j + width elem ≤ block.high) }
     ensures narrower { IsNarrower block result }
     ensures may { (j : ℕ) → j < block.turns → MayPut result elem j (rise.at + rise.step * j) }
 {

@@ -1,11 +1,14 @@
 //! Turns of a loop whose body is one assignment, run together.
 //!
-//! All elements and all numbers of the turns are computed before any is put, from the bytes before the block. A turn reads
+//! All elements and all numbers of the turns are computed before any is put, from the bytes before the block. A turn
+//! reads
 //! no byte that an earlier one of the block writes, so that each computes what it would compute in its turn, and as
-//! nothing traps each turn comes to its put. Where it isn't known that a turn doesn't trap, or that it doesn't read what an
+//! nothing traps each turn comes to its put. Where it isn't known that a turn doesn't trap, or that it doesn't read
+//! what an
 //! earlier one writes, no byte is changed.
 
-ghost use Rattle.std.specs.Prelude.{◌≡◌, ◌+◌, ◌^◌, ◌<◌, ◌≤◌, ◌+ℤ◌, ◌<ℤ◌, ◌≤ℤ◌, [], ◌∷◌, ◌++◌, ℕ, pos, length, slice_get};
+ghost use Rattle.std.specs.Prelude.{◌≡◌, ◌+◌, ◌^◌, ◌<◌, ◌≤◌, ◌+ℤ◌, ◌<ℤ◌, ◌≤ℤ◌, [], ◌∷◌, ◌++◌, ℕ, pos, length};
+ghost use Rattle.std.specs.Prelude.{slice_get};
 ghost use Rattle.std.specs.Int.{int_gap};
 ghost use Rattle.std.specs.List.{All};
 ghost use Rattle.sq_leaf.specs.Spots.{IsInside};
@@ -39,7 +42,8 @@ pub(crate) fn blocks(
 ) -> Result<(), Trap>
     requires inside { All (IsInside (length bytes.old)) frame.old.views }
     requires room { length frame.old.counters < 64 }
-    ensures ran { running.ran bytes.new result ≡ running.repeats (int_gap from end) from (λ k. running.assigns cell.now op code.now frame.old.views (frame.old.counters ++ k ∷ [])) bytes.old }
+    ensures ran { running.ran bytes.new result ≡ running.repeats (int_gap from end) from
+        (λ k. running.assigns cell.now op code.now frame.old.views (frame.old.counters ++ k ∷ [])) bytes.old }
     ensures kept { frame.new ≡ frame.old }
 {
     let mut i = from;
@@ -79,7 +83,8 @@ fn some_turns(
     requires room { length frame.old.counters < 64 }
     requires few { count ≤ 256 }
     requires last { (i +ℤ pos count) ≤ℤ pos 9223372036854775807 }
-    ensures ran { running.ran bytes.new result ≡ running.repeats count i (λ k. running.assigns cell.now op code.now frame.old.views (frame.old.counters ++ k ∷ [])) bytes.old }
+    ensures ran { running.ran bytes.new result ≡ running.repeats count i
+        (λ k. running.assigns cell.now op code.now frame.old.views (frame.old.counters ++ k ∷ [])) bytes.old }
     ensures kept { frame.new ≡ frame.old }
 {
     if count < LEAST {
@@ -106,7 +111,8 @@ fn one_by_one(
     requires room { length frame.old.counters < 64 }
     requires few { count ≤ 256 }
     requires last { (from +ℤ pos count) ≤ℤ pos 9223372036854775807 }
-    ensures ran { running.ran bytes.new result ≡ running.repeats count from (λ k. running.assigns cell.now op code.now frame.old.views (frame.old.counters ++ k ∷ [])) bytes.old }
+    ensures ran { running.ran bytes.new result ≡ running.repeats count from
+        (λ k. running.assigns cell.now op code.now frame.old.views (frame.old.counters ++ k ∷ [])) bytes.old }
     ensures kept { frame.new ≡ frame.old }
 {
     for j in 0..count {
@@ -130,7 +136,8 @@ fn one_turn(
 ) -> Result<(), Trap>
     requires inside { All (IsInside (length bytes.old)) frame.old.views }
     requires room { length frame.old.counters < 64 }
-    ensures ran { running.ran bytes.new result ≡ running.assigns cell.now op code.now frame.old.views (frame.old.counters ++ i ∷ []) bytes.old }
+    ensures ran { running.ran bytes.new result ≡ running.assigns cell.now op code.now frame.old.views
+        (frame.old.counters ++ i ∷ []) bytes.old }
     ensures kept { frame.new ≡ frame.old }
 {
     frame.enter(i);
@@ -154,7 +161,8 @@ pub(crate) fn run_block(
     requires some { 0 < turns }
     requires last { (from +ℤ pos turns) ≤ℤ pos 9223372036854775807 }
     requires inside { All (IsInside (length bytes.old)) frame.now.views }
-    ensures { running.Goes bytes.new ≡ block_or_nothing result turns from (running.assigns cell.now op code.now) frame.now.views frame.now.counters bytes.old }
+    ensures { running.Goes bytes.new ≡ block_or_nothing result turns from (running.assigns cell.now op code.now)
+        frame.now.views frame.now.counters bytes.old }
 {
     if 4_611_686_018_427_387_904 <= bytes.len() {
         return false;
@@ -190,11 +198,13 @@ fn block_to(
     requires counted { IsCounted block }
     requires near { length bytes.old < 2 ^ 62 }
     requires inside { All (IsInside (length bytes.old)) frame.now.views }
-    requires places { Places block frame.now.counters bytes.old (running.run_cell cell.now frame.now.views) elem spots columns.old }
+    requires places { Places block frame.now.counters bytes.old (running.run_cell cell.now frame.now.views) elem spots
+        columns.old }
     requires lies { (j : ℕ) → j < block.turns → LiesIn block.low block.high elem spots columns.old j }
     requires within { block.high ≤ length bytes.old }
     requires whole { block.high ≤ block.front }
-    ensures { running.Goes bytes.new ≡ block_or_nothing result block.turns block.from (running.assigns cell.now op code.now) frame.now.views frame.now.counters bytes.old }
+    ensures { running.Goes bytes.new ≡ block_or_nothing result block.turns block.from
+        (running.assigns cell.now op code.now) frame.now.views frame.now.counters bytes.old }
 {
     if columns.len() < 2 * COLUMN {
         return false;
@@ -222,11 +232,13 @@ fn block_in(
     requires inside { All (IsInside (length bytes.old)) frame.now.views }
     requires front { block.turns ≤ length places.now }
     requires rest { block.turns ≤ length columns.old }
-    requires places { Places block frame.now.counters bytes.old (running.run_cell cell.now frame.now.views) elem spots places.now }
+    requires places { Places block frame.now.counters bytes.old (running.run_cell cell.now frame.now.views) elem spots
+        places.now }
     requires lies { (j : ℕ) → j < block.turns → LiesIn block.low block.high elem spots places.now j }
     requires within { block.high ≤ length bytes.old }
     requires whole { block.high ≤ block.front }
-    ensures { running.Goes bytes.new ≡ block_or_nothing result block.turns block.from (running.assigns cell.now op code.now) frame.now.views frame.now.counters bytes.old }
+    ensures { running.Goes bytes.new ≡ block_or_nothing result block.turns block.from
+        (running.assigns cell.now op code.now) frame.now.views frame.now.counters bytes.old }
 {
     let less = narrowed(elem, spots, places, block);
     let narrow = Block {

@@ -1,6 +1,7 @@
 //! The numbers that expressions have at the turns of a block.
 
-ghost use Rattle.std.specs.Prelude.{◌≡◌, ◌+◌, ◌-◌, ◌*◌, ◌^◌, ◌<◌, ◌≤◌, ℕ, ℤ, List, [], ◌∷◌, length, slice_get, map, IfSome};
+ghost use Rattle.std.specs.Prelude.{◌≡◌, ◌+◌, ◌-◌, ◌*◌, ◌^◌, ◌<◌, ◌≤◌, ℕ, ℤ, List, [], ◌∷◌, length, slice_get, map};
+ghost use Rattle.std.specs.Prelude.{IfSome};
 ghost use Rattle.std.specs.List.{All};
 ghost use Rattle.sq_num.specs.Elements.{width};
 ghost use Rattle.sq_leaf.specs.Places as spec;
@@ -9,14 +10,13 @@ ghost use Rattle.sq_leaf.specs.declared.spot.Spot.{Spot};
 ghost use Rattle.sq_leaf.specs.Numbers as numbers;
 ghost use Rattle.sq_leaf.specs.Running as running;
 ghost use Rattle.sq_columns.specs.Lines.{line_at};
-ghost use Rattle.sq_leaf_run.specs.Blocks.{Read, value_alone, extreme, extreme_of, counters_at, IsCounted, Gives, Follows, Places, LiesIn, Offset, AreSpots, along_value, offset_of};
+ghost use Rattle.sq_leaf_run.specs.Blocks.{Read, value_alone, extreme, extreme_of, counters_at, IsCounted, Gives};
+ghost use Rattle.sq_leaf_run.specs.Blocks.{Follows, Places, LiesIn, Offset, AreSpots, along_value, offset_of};
 
 use crate::block::{Block, end_of, is_clear};
 use crate::frame::Frame;
 use sq_ast::UnOp;
-use sq_columns::{
-    Line, along_line, binary_line, least_line, load_line, most_line, unary_line,
-};
+use sq_columns::{Line, along_line, binary_line, least_line, load_line, most_line, unary_line};
 use sq_leaf::{Cell, Code, Step};
 use sq_num::Elem;
 use sq_rect::View;
@@ -38,7 +38,8 @@ pub(crate) fn column(
     requires counted { IsCounted block }
     requires near { length bytes.now < 2 ^ 62 }
     requires inside { All (IsInside (length bytes.now)) frame.now.views }
-    ensures { IfSome result (λ l. Gives block frame.now.counters bytes.now (running.run_code code.now frame.now.views) l columns.new) }
+    ensures { IfSome result (λ l. Gives block frame.now.counters bytes.now (running.run_code code.now frame.now.views) l
+        columns.new) }
 {
     match code {
         Code::Constant(n) => Some(Line::Same(*n)),
@@ -74,7 +75,8 @@ pub(crate) fn column(
 /// An operator of one side.
 fn changed(op: UnOp, x: Line, block: Block, columns: &mut [i64]) -> Option<Line>
     requires { IsCounted block }
-    ensures { IfSome result (λ l. (j : ℕ) → j < block.turns → line_at l columns.new j ≡ numbers.unary op (line_at x columns.old j)) }
+    ensures { IfSome result (λ l. (j : ℕ) → j < block.turns → line_at l columns.new j ≡ numbers.unary op
+        (line_at x columns.old j)) }
 {
     if columns.len() < COLUMN {
         return None;
@@ -96,7 +98,8 @@ fn extreme(
     requires counted { IsCounted block }
     requires near { length bytes.now < 2 ^ 62 }
     requires inside { All (IsInside (length bytes.now)) frame.now.views }
-    ensures { IfSome result (λ l. Follows block frame.now.counters bytes.now value_alone (extreme_of most (running.run_code code.now frame.now.views)) l columns.new x columns.old) }
+    ensures { IfSome result (λ l. Follows block frame.now.counters bytes.now value_alone
+        (extreme_of most (running.run_code code.now frame.now.views)) l columns.new x columns.old) }
 {
     if columns.len() < 2 * COLUMN {
         return None;
@@ -121,7 +124,8 @@ fn extreme_in(
     requires inside { All (IsInside (length bytes.now)) frame.now.views }
     requires front { block.turns ≤ length front.old }
     requires rest { block.turns ≤ length rest.old }
-    ensures { IfSome result (λ l. Follows block frame.now.counters bytes.now value_alone (extreme_of most (running.run_code code.now frame.now.views)) l front.new x front.old) }
+    ensures { IfSome result (λ l. Follows block frame.now.counters bytes.now value_alone
+        (extreme_of most (running.run_code code.now frame.now.views)) l front.new x front.old) }
 {
     match column(code, frame, bytes, block, rest) {
         Some(y) => Some(extreme_line(most, x, front, y, rest, block.turns)),
@@ -155,7 +159,8 @@ fn steps(
     requires counted { IsCounted block }
     requires near { length bytes.now < 2 ^ 62 }
     requires inside { All (IsInside (length bytes.now)) frame.now.views }
-    ensures { IfSome result (λ l. Follows block frame.now.counters bytes.now value_alone (running.run_each_step list.now frame.now.views) l columns.new first columns.old) }
+    ensures { IfSome result (λ l. Follows block frame.now.counters bytes.now value_alone
+        (running.run_each_step list.now frame.now.views) l columns.new first columns.old) }
 {
     let mut x = first;
     for step in list {
@@ -180,7 +185,8 @@ fn next(
     requires counted { IsCounted block }
     requires near { length bytes.now < 2 ^ 62 }
     requires inside { All (IsInside (length bytes.now)) frame.now.views }
-    ensures { IfSome result (λ l. Follows block frame.now.counters bytes.now value_alone (running.run_step step.now frame.now.views) l columns.new x columns.old) }
+    ensures { IfSome result (λ l. Follows block frame.now.counters bytes.now value_alone
+        (running.run_step step.now frame.now.views) l columns.new x columns.old) }
 {
     if columns.len() < 2 * COLUMN {
         return None;
@@ -205,7 +211,8 @@ fn next_in(
     requires inside { All (IsInside (length bytes.now)) frame.now.views }
     requires front { block.turns ≤ length front.old }
     requires rest { block.turns ≤ length rest.old }
-    ensures { IfSome result (λ l. Follows block frame.now.counters bytes.now value_alone (running.run_step step.now frame.now.views) l front.new x front.old) }
+    ensures { IfSome result (λ l. Follows block frame.now.counters bytes.now value_alone
+        (running.run_step step.now frame.now.views) l front.new x front.old) }
 {
     match column(&step.right, frame, bytes, block, rest) {
         Some(y) => binary_line(step.op, x, front, y, rest, block.turns),
@@ -225,7 +232,8 @@ fn element(
     requires counted { IsCounted block }
     requires near { length bytes.now < 2 ^ 62 }
     requires inside { All (IsInside (length bytes.now)) frame.now.views }
-    ensures { IfSome result (λ l. Gives block frame.now.counters bytes.now (λ ks c. running.load_from (running.run_cell cell.now frame.now.views ks c) c) l columns.new) }
+    ensures { IfSome result (λ l. Gives block frame.now.counters bytes.now
+        (λ ks c. running.load_from (running.run_cell cell.now frame.now.views ks c) c) l columns.new) }
 {
     match at(frame.views(), cell.array) {
         Some(view) => match spots(cell, view, frame, bytes, block, columns) {
@@ -240,8 +248,10 @@ fn element(
 fn loaded(spots: Line, view: &View, bytes: &[u8], block: Block, columns: &mut [i64]) -> Option<Line>
     requires counted { IsCounted block }
     requires one { IsInside (length bytes.now) view.now }
-    requires lies { (j : ℕ) → j < block.turns → LiesIn view.now.at (view.now.at + width view.now.elem * (spec.reach view.now.extents view.now.strides + 1)) view.now.elem spots columns.old j }
-    ensures { (ks : List ℤ) (f : Read Spot) → Places block ks bytes.now f view.now.elem spots columns.old → IfSome result (λ l. Gives block ks bytes.now (λ k c. running.load_from (f k c) c) l columns.new) }
+    requires lies { (j : ℕ) → j < block.turns → LiesIn view.now.at (view.now.at + width view.now.elem *
+        (spec.reach view.now.extents view.now.strides + 1)) view.now.elem spots columns.old j }
+    ensures { (ks : List ℤ) (f : Read Spot) → Places block ks bytes.now f view.now.elem spots columns.old
+        → IfSome result (λ l. Gives block ks bytes.now (λ k c. running.load_from (f k c) c) l columns.new) }
 {
     let high = end_of(view, bytes.len());
     if columns.len() < COLUMN {
@@ -257,7 +267,8 @@ fn loaded(spots: Line, view: &View, bytes: &[u8], block: Block, columns: &mut [i
 /// The line of a counter.
 fn counter(k: usize, frame: &Frame<'_>, block: Block) -> Line
     requires { IsCounted block }
-    ensures { (column : List ℤ) (j : ℕ) → j < block.turns → running.counter (counters_at block frame.now.counters j) k ≡ line_at result column j }
+    ensures { (column : List ℤ) (j : ℕ) → j < block.turns → running.counter (counters_at block frame.now.counters j) k
+        ≡ line_at result column j }
 {
     if k == frame.depth() {
         Line::Ramp(block.from, 1)
@@ -281,8 +292,11 @@ pub(crate) fn spots(
     requires inside { All (IsInside (length bytes.now)) frame.now.views }
     requires one { IsInside (length bytes.now) view.now }
     requires there { Some view.now ≡ slice_get frame.now.views cell.now.array }
-    ensures places { IfSome result (λ l. Places block frame.now.counters bytes.now (running.run_cell cell.now frame.now.views) view.now.elem l columns.new) }
-    ensures lies { IfSome result (λ l. (j : ℕ) → j < block.turns → LiesIn view.now.at (view.now.at + width view.now.elem * (spec.reach view.now.extents view.now.strides + 1)) view.now.elem l columns.new j) }
+    ensures places { IfSome result (λ l. Places block frame.now.counters bytes.now
+        (running.run_cell cell.now frame.now.views) view.now.elem l columns.new) }
+    ensures lies { IfSome result (λ l. (j : ℕ) → j < block.turns → LiesIn view.now.at
+        (view.now.at + width view.now.elem * (spec.reach view.now.extents view.now.strides + 1)) view.now.elem l
+        columns.new j) }
 {
     let extents = view.extents.as_slice();
     let strides = view.strides.as_slice();
@@ -318,7 +332,10 @@ fn places_one(
     requires counted { IsCounted block }
     requires near { length bytes.now < 2 ^ 62 }
     requires inside { All (IsInside (length bytes.now)) frame.now.views }
-    ensures { at + width elem * spec.reach extents.now strides.now < 2 ^ 62 → IfSome result (λ l. AreSpots block frame.now.counters bytes.now (offset_of extents.now strides.now index.now frame.now.views) at (width elem) (spec.reach extents.now strides.now) l columns.new) }
+    ensures { at + width elem * spec.reach extents.now strides.now < 2 ^ 62
+        → IfSome result (λ l. AreSpots block frame.now.counters bytes.now
+        (offset_of extents.now strides.now index.now frame.now.views) at (width elem)
+        (spec.reach extents.now strides.now) l columns.new) }
 {
     let ([x], [n], [s]) = (index, extents, strides) else {
         return None;
@@ -342,7 +359,10 @@ fn places_two(
     requires counted { IsCounted block }
     requires near { length bytes.now < 2 ^ 62 }
     requires inside { All (IsInside (length bytes.now)) frame.now.views }
-    ensures { at + width elem * spec.reach extents.now strides.now < 2 ^ 62 → IfSome result (λ l. AreSpots block frame.now.counters bytes.now (offset_of extents.now strides.now index.now frame.now.views) at (width elem) (spec.reach extents.now strides.now) l columns.new) }
+    ensures { at + width elem * spec.reach extents.now strides.now < 2 ^ 62
+        → IfSome result (λ l. AreSpots block frame.now.counters bytes.now
+        (offset_of extents.now strides.now index.now frame.now.views) at (width elem)
+        (spec.reach extents.now strides.now) l columns.new) }
 {
     let ([x, y], [n, m], [s, t]) = (index, extents, strides) else {
         return None;
@@ -367,7 +387,10 @@ fn places_three(
     requires counted { IsCounted block }
     requires near { length bytes.now < 2 ^ 62 }
     requires inside { All (IsInside (length bytes.now)) frame.now.views }
-    ensures { at + width elem * spec.reach extents.now strides.now < 2 ^ 62 → IfSome result (λ l. AreSpots block frame.now.counters bytes.now (offset_of extents.now strides.now index.now frame.now.views) at (width elem) (spec.reach extents.now strides.now) l columns.new) }
+    ensures { at + width elem * spec.reach extents.now strides.now < 2 ^ 62
+        → IfSome result (λ l. AreSpots block frame.now.counters bytes.now
+        (offset_of extents.now strides.now index.now frame.now.views) at (width elem)
+        (spec.reach extents.now strides.now) l columns.new) }
 {
     let ([x, y, z], [n, m, k], [s, t, u]) = (index, extents, strides) else {
         return None;
@@ -379,7 +402,8 @@ fn places_three(
 
 /// The first byte where no dimension is left.
 fn first(at: u32) -> Line
-    ensures { (t : Block) (ks : List ℤ) (b : List ℕ) (vs : List View) (w : ℕ) (column : List ℤ) → AreSpots t ks b (offset_of [] [] [] vs) at w 0 result column }
+    ensures { (t : Block) (ks : List ℤ) (b : List ℕ) (vs : List View) (w : ℕ) (column : List ℤ)
+        → AreSpots t ks b (offset_of [] [] [] vs) at w 0 result column }
 {
     Line::Same(i64::from(at))
 }
@@ -400,8 +424,11 @@ fn along(
     requires counted { IsCounted block }
     requires near { length bytes.now < 2 ^ 62 }
     requires inside { All (IsInside (length bytes.now)) frame.now.views }
-    ensures { (at most : ℕ) (off : Offset) → at + width elem * ((extent - 1) * stride + most) < 2 ^ 62 → AreSpots block frame.now.counters bytes.now off at (width elem) most spots columns.old
-        → IfSome result (λ l. AreSpots block frame.now.counters bytes.now (λ ks c. along_value (running.run_code code.now frame.now.views ks c) extent stride (off ks c)) at (width elem) ((extent - 1) * stride + most) l columns.new) }
+    ensures { (at most : ℕ) (off : Offset) → at + width elem * ((extent - 1) * stride + most) < 2 ^ 62
+        → AreSpots block frame.now.counters bytes.now off at (width elem) most spots columns.old
+        → IfSome result (λ l. AreSpots block frame.now.counters bytes.now
+        (λ ks c. along_value (running.run_code code.now frame.now.views ks c) extent stride (off ks c)) at (width elem)
+        ((extent - 1) * stride + most) l columns.new) }
 {
     if columns.len() < 2 * COLUMN {
         return None;
@@ -431,8 +458,11 @@ fn along_in(
     requires inside { All (IsInside (length bytes.now)) frame.now.views }
     requires front { block.turns ≤ length front.old }
     requires rest { block.turns ≤ length rest.old }
-    ensures { (at most : ℕ) (off : Offset) → at + width elem * ((extent - 1) * stride + most) < 2 ^ 62 → AreSpots block frame.now.counters bytes.now off at (width elem) most spots front.old
-        → IfSome result (λ l. AreSpots block frame.now.counters bytes.now (λ ks c. along_value (running.run_code code.now frame.now.views ks c) extent stride (off ks c)) at (width elem) ((extent - 1) * stride + most) l front.new) }
+    ensures { (at most : ℕ) (off : Offset) → at + width elem * ((extent - 1) * stride + most) < 2 ^ 62
+        → AreSpots block frame.now.counters bytes.now off at (width elem) most spots front.old
+        → IfSome result (λ l. AreSpots block frame.now.counters bytes.now
+        (λ ks c. along_value (running.run_code code.now frame.now.views ks c) extent stride (off ks c)) at (width elem)
+        ((extent - 1) * stride + most) l front.new) }
 {
     match column(code, frame, bytes, block, rest) {
         Some(index) => along_line(spots, front, index, rest, extent, stride, elem, block.turns),

@@ -28,7 +28,8 @@ pub(crate) fn put_each(
     requires places { turns ≤ length places.now }
     requires numbers { turns ≤ length numbers.now }
     requires lies { (j : ℕ) → j < turns → LiesIn 0 (length bytes.old) elem spots places.now j }
-    ensures { bytes.new ≡ puts elem (source.assigned op) (first_byte spots places.now) (line_at x numbers.now) turns 0 bytes.old }
+    ensures { bytes.new ≡ puts elem (source.assigned op) (first_byte spots places.now) (line_at x numbers.now) turns 0
+        bytes.old }
 {
     for j in 0..turns {
         let at = place_at(elem, spots, places, j, bytes.len());
@@ -51,7 +52,8 @@ pub(crate) fn put_all(
     requires places { turns ≤ length places.now }
     requires numbers { turns ≤ length numbers.now }
     requires lies { (j : ℕ) → j < turns → LiesIn 0 (length bytes.old) elem spots places.now j }
-    ensures { bytes.new ≡ puts elem (source.assigned op) (first_byte spots places.now) (line_at x numbers.now) turns 0 bytes.old }
+    ensures { bytes.new ≡ puts elem (source.assigned op) (first_byte spots places.now) (line_at x numbers.now) turns 0
+        bytes.old }
 {
     match elem {
         Elem::Byte => put_by_op(Elem::Byte, op, spots, places, x, numbers, turns, bytes),
@@ -75,7 +77,8 @@ fn put_by_op(
     requires places { turns ≤ length places.now }
     requires numbers { turns ≤ length numbers.now }
     requires lies { (j : ℕ) → j < turns → LiesIn 0 (length bytes.old) elem spots places.now j }
-    ensures { bytes.new ≡ puts elem (source.assigned op) (first_byte spots places.now) (line_at x numbers.now) turns 0 bytes.old }
+    ensures { bytes.new ≡ puts elem (source.assigned op) (first_byte spots places.now) (line_at x numbers.now) turns 0
+        bytes.old }
 {
     match op {
         AssignOp::Set => put_by_spots(elem, AssignOp::Set, spots, places, x, numbers, turns, bytes),
@@ -100,7 +103,8 @@ fn put_by_spots(
     requires places { turns ≤ length places.now }
     requires numbers { turns ≤ length numbers.now }
     requires lies { (j : ℕ) → j < turns → LiesIn 0 (length bytes.old) elem spots places.now j }
-    ensures { bytes.new ≡ puts elem (source.assigned op) (first_byte spots places.now) (line_at x numbers.now) turns 0 bytes.old }
+    ensures { bytes.new ≡ puts elem (source.assigned op) (first_byte spots places.now) (line_at x numbers.now) turns 0
+        bytes.old }
 {
     match rise_of(spots) {
         Some(rise) => put_rise(elem, op, rise, x, numbers, turns, bytes),
@@ -124,7 +128,8 @@ fn put_rise(
     requires slow { rise.step ≤ 2 ^ 32 }
     requires numbers { turns ≤ length numbers.now }
     requires room { (j : ℕ) → j < turns → rise.at + rise.step * j + width elem ≤ length bytes.old }
-    ensures { bytes.new ≡ puts elem (source.assigned op) (λ j. rise.at + rise.step * j) (line_at x numbers.now) turns 0 bytes.old }
+    ensures { bytes.new ≡ puts elem (source.assigned op) (λ j. rise.at + rise.step * j) (line_at x numbers.now) turns 0
+        bytes.old }
 {
     if rise.step == 0 {
         put_steps(elem, op, rise.at, 0, x, numbers, turns, bytes);
@@ -151,7 +156,8 @@ fn put_steps(
     requires slow { step ≤ 2 ^ 32 }
     requires numbers { turns ≤ length numbers.now }
     requires room { (j : ℕ) → j < turns → at + step * j + width elem ≤ length bytes.old }
-    ensures { bytes.new ≡ puts elem (source.assigned op) (λ j. at + step * j) (line_at x numbers.now) turns 0 bytes.old }
+    ensures { bytes.new ≡ puts elem (source.assigned op) (λ j. at + step * j) (line_at x numbers.now) turns 0
+        bytes.old }
 {
     match x {
         Line::Column => put_column(elem, op, at, step, Line::Column, numbers, turns, bytes),
@@ -175,7 +181,8 @@ fn put_column(
     requires slow { step ≤ 2 ^ 32 }
     requires numbers { turns ≤ length numbers.now }
     requires room { (j : ℕ) → j < turns → at + step * j + width elem ≤ length bytes.old }
-    ensures { bytes.new ≡ puts elem (source.assigned op) (λ j. at + step * j) (line_at x numbers.now) turns 0 bytes.old }
+    ensures { bytes.new ≡ puts elem (source.assigned op) (λ j. at + step * j) (line_at x numbers.now) turns 0
+        bytes.old }
 {
     for j in 0..turns {
         put(elem, op, at + step * j, x.at(numbers, j), bytes);
@@ -199,7 +206,8 @@ fn place_at(elem: Elem, spots: Line, places: &[i64], j: usize, size: usize) -> u
 #[inline(always)]
 fn put(elem: Elem, op: AssignOp, at: usize, x: i64, bytes: &mut [u8])
     requires { at + width elem ≤ length bytes.old }
-    ensures { bytes.new ≡ running.store (record { elem = elem; at = at }) (source.assigned op (running.load (record { elem = elem; at = at }) bytes.old) x) bytes.old }
+    ensures { bytes.new ≡ running.store (record { elem = elem; at = at })
+        (source.assigned op (running.load (record { elem = elem; at = at }) bytes.old) x) bytes.old }
 {
     let old = load(elem, at, bytes);
     store(elem, at, assigned(op, old, x), bytes);
