@@ -1,0 +1,5 @@
+pub mod Demo
+pub mod Texts
+pub mod Tree
+pub mod Mapped
+pub mod Laws
