@@ -7,7 +7,8 @@ use Rattle.sq_rect.specs.Blocks.{Covers, Share}
 use Rattle.sq_ast.specs.declared.program.Mode.{Mode}
 use Rattle.sq_ast.specs.declared.program.Mode.TheVariants.{Input, Output, Both}
 use Rattle.sq_forms.specs.declared.form.Use.{Use}
-use Rattle.sq_demo_laws.specs.Mapped.{all_uses_from}
+use Rattle.sq_demo_laws.specs.FormsFound.{all_uses_from}
+use Rattle.sq_demo_laws.proofs.Tests.{both, passes}
 
 abbrev pub writes : Mode → Bool
 writes Input = false
@@ -34,15 +35,6 @@ abbrev pub all_clear : List Use → Bool
 all_clear uses = list_all (λ a. list_all (are_clear a) uses) uses
 
 -- ---- what it is worth
-
-both : (a b : Bool) → (a && b) ≡ true → (a ≡ true) × (b ≡ true)
-both true b h = (refl, h)
-both false b h = cc
-
-pub passes : {X : Type 0} (p : X → Bool) (xs : List X) → list_all p xs ≡ true → (i : ℕ) (x : X) → slice_get xs i ≡ Some x → p x ≡ true
-passes p [] h i x e = cc
-passes p (y ∷ xs) h zero x e = let is : y ≡ x = cc in subst (λ z. p z ≡ true) is (both (p y) (list_all p xs) h).0
-passes p (y ∷ xs) h (suc i) x e = passes p xs (both (p y) (list_all p xs) h).1 i x e
 
 overlap : (s t : Span) (x : ℕ) → s.lo ≤ x → x < s.hi → t.lo ≤ x → x < t.hi → (ltb s.lo t.hi && ltb t.lo s.hi) ≡ true
 overlap s t x a b c d = rw ((Decides-ltb s.lo t.hi).1 (omega (arith, a, d)), (Decides-ltb t.lo s.hi).1 (omega (arith, c, b))) refl

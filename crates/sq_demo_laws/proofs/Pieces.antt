@@ -14,6 +14,7 @@ use Rattle.sq_lexer.specs.Bytes.{is_blank, is_letter, is_digit, is_in_word, firs
 use Rattle.sq_lexer.specs.Signs.{spelling, IsLongest}
 use Rattle.sq_lexer.specs.Tokens.{Stands, a_blank, a_word, a_number, a_sign, TokensFrom, at_end, after_gap, after_token, token, begins_comment}
 use Rattle.sq_lexer.specs.Reading.{pair}
+use Rattle.sq_demo_laws.proofs.Tests.{both, isnt}
 use Rattle.sq_lexer.proofs.SignLemmas.{Shape, of_two, of_one, shape, longest_pair, longest_single}
 
 -- a blank, a word, a number or a sign
@@ -56,14 +57,6 @@ fits (signed s) rest = ends_spelling (spelling s) (slice_index rest 0) && not (b
 abbrev pub all_fit : List Piece → Bool
 all_fit [] = true
 all_fit (x ∷ xs) = fits x (text_of xs) && all_fit xs
-
-both : (a b : Bool) → (a && b) ≡ true → (a ≡ true) × (b ≡ true)
-both true b h = (refl, h)
-both false b h = cc
-
-isnt : (a : Bool) → not a ≡ true → a ≡ false
-isnt true h = cc
-isnt false h = refl
 
 none_of : {A : Type 0} (o : Option A) → is_none o ≡ true → o ≡ None
 none_of None h = refl

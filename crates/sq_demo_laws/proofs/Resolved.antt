@@ -23,7 +23,8 @@ use Rattle.sq_forms.specs.Resolving.{Outcome, Resolving, start, frame_in, body_s
 use Rattle.sq_forms.specs.Stmts.{Portion, all_of, portion}
 use Rattle.sq_demo_laws.specs.Texts.{at}
 use Rattle.sq_demo_laws.specs.Tree.{word, blocks_map, inner_params, inner_decls, inner_variant, leaf_variant, demo_tree}
-use Rattle.sq_demo_laws.specs.Mapped.{top_instance, mid_instance, low_instance, demo_mapped, entry_found, chip_found, core_found, square, key_to, all_uses_from, demo_found, demo_resolving}
+use Rattle.sq_demo_laws.specs.FormsFound.{entry_found, chip_found, core_found, square, key_to, all_uses_from, demo_found, demo_resolving}
+use Rattle.sq_demo_laws.specs.Machine.{top_instance, mid_instance, low_instance, demo_mapped}
 use Rattle.sq_demo_laws.proofs.Walked.{worths_named, whole_is, whole_portion, walked_with}
 
 -- ---- declarations

@@ -33,7 +33,9 @@ use Rattle.sq_work.specs.Work.{Work, Nothing, Then, Each, AtOnce, Call, Leaf}
 use Rattle.sq_work.specs.Meaning.{Outcome, and_then, with_turn, in_turn, apart, with_writes, writes, leaf_outcome, at_entry, at_return, meaning, Trapped}
 use Rattle.sq_demo_laws.specs.Texts.{at}
 use Rattle.sq_demo_laws.specs.Tree.{bound_j, product_call, products_map, blocks_map, inner_variant, leaf_variant, demo_tree}
-use Rattle.sq_demo_laws.specs.Mapped.{tunings_by, demo_mapped, entry_found, chip_found, core_found, demo_found, demo_resolving}
+use Rattle.sq_demo_laws.specs.FormsFound.{entry_found, chip_found, core_found, demo_found, demo_resolving}
+use Rattle.sq_demo_laws.specs.Machine.{tunings_by, demo_mapped}
+use Rattle.sq_demo_laws.specs.Laws.{ProgramIsTrapless}
 use Rattle.sq_demo_laws.proofs.Walked.{bounds_with, bounds_are, worths_of, range_i, range_j, range_k, quotient_i, quotient_j, quotient_k, is_quotient_i, is_quotient_j, is_quotient_k, arguments_with, arguments_are}
 use Rattle.sq_demo_laws.proofs.Resolved.{declared_with, declared_is, begun, top_frame, mid_frame, program_resolves}
 use Rattle.sq_demo_laws.proofs.LeafEnds.{Ends, eights, eight_by_eight, leaf_ends}
@@ -284,3 +286,10 @@ work_ends = call_ends _ _ _ _ top_ends
 pub program_ends : (s : Arrays) → Ends (flat demo_tree demo_mapped s)
 program_ends s =
     subst (λ v. Ends (meaning (work_of demo_tree.tasks demo_mapped (found_in v)) s)) (sym program_resolves) (work_ends.from s)
+
+ends_well : (r : Outcome) → Ends r → (x : Trapped) → r ≡ Err x → ⊥
+ends_well (Ok s) h x e = cc
+ends_well (Err y) h x e = h
+
+pub program_is_trapless : ProgramIsTrapless
+program_is_trapless s x e = ends_well (flat demo_tree demo_mapped s) (program_ends s) x e

@@ -1,11 +1,37 @@
 -- What is true of the demo's texts.
-use Rattle.std.specs.Prelude.{◌≡◌, Ok}
+use Rattle.std.specs.Prelude.{◌≡◌, ◌≤◌, ℕ, List, Some, Ok, Err, slice_get}
+use Rattle.sq_text.specs.declared.code.Code.{Code}
+use Rattle.sq_text.specs.declared.fault.Fault.{Fault}
+use Rattle.sq_text.specs.declared.place.Place.{Place}
+use Rattle.sq_text.specs.Places.{start}
+use Rattle.sq_lexer.specs.declared.token.Token.{Token}
+use Rattle.sq_lexer.specs.Faults.{BreaksFrom}
 use Rattle.sq_lexer.specs.Tokens.{AreTokens}
+use Rattle.sq_machfile.specs.Machines.{Hierarchy, StandsFor as IsHierarchyOf, MachineFault}
+use Rattle.sq_mapfile.specs.declared.mapping.Mapping.{Mapping}
+use Rattle.sq_mapfile.specs.Mappings.{StandsFor as IsMappingOf, MappingFault}
+use Rattle.sq_mapfile.specs.Sound.{Sound}
+use Rattle.sq_types.specs.Sites.{TypeFault}
+use Rattle.sq_forms.specs.Faults.{Value}
 use Rattle.sq_forms.specs.Resolving.{resolution}
+use Rattle.sq_leaf.specs.Source.{Arrays}
+use Rattle.sq_work.specs.Meaning.{Trapped}
+use Rattle.sq_spec.specs.Works.{flat}
+use Rattle.sq_spec_laws.specs.Needs.{Needs}
+use Rattle.sq_machfile.specs.declared.node.Node.{Node}
+use Rattle.sq_machfile.specs.Machines.{WithinLimits}
 use Rattle.sq_demo_laws.specs.Tree.{demo_tree}
-use Rattle.sq_demo_laws.specs.Mapped.{demo_mapped, demo_resolving}
 use Rattle.sq_demo_laws.specs.Demo.{demo_program, demo_mapping, demo_machine}
 use Rattle.sq_demo_laws.specs.Texts.{program_tokens, mapping_tokens, machine_tokens}
+use Rattle.sq_demo_laws.specs.Machine.{demo_hierarchy, demo_mapped}
+use Rattle.sq_demo_laws.specs.FormsFound.{demo_forms, demo_resolving}
+
+-- a text has one list of tokens, and doesn't break where it has one
+abbrev pub OneList : Type 0
+OneList = (text : List ℕ) (ts us : List Token) → AreTokens text ts → AreTokens text us → ts ≡ us
+
+abbrev pub NeverBoth : Type 0
+NeverBoth = (text : List ℕ) (ts : List Token) (c : Code) (place : Place) → AreTokens text ts → BreaksFrom start text c place → ⊥
 
 -- the tokens of the texts
 abbrev pub ProgramHasTokens : Type 0
@@ -17,6 +43,36 @@ MappingHasTokens = AreTokens demo_mapping mapping_tokens
 abbrev pub MachineHasTokens : Type 0
 MachineHasTokens = AreTokens demo_machine machine_tokens
 
--- the forms of the program
+-- the machine's text stands for this machine alone, and has no fault
+abbrev pub OneMachine : Type 0
+OneMachine = (h : Hierarchy) → IsHierarchyOf demo_machine h → h ≡ demo_hierarchy
+
+abbrev pub MachineIsFaultless : Type 0
+MachineIsFaultless = (f : Fault) → MachineFault demo_machine f → ⊥
+
+-- the mapping's text stands for this mapping alone, has no fault for the program and the machine, and is sound
+abbrev pub OneMapping : Type 0
+OneMapping = (m : Mapping) → IsMappingOf demo_hierarchy.levels demo_mapping m → m ≡ demo_mapped
+
+abbrev pub MappingIsFaultless : Type 0
+MappingIsFaultless = (f : Fault) → MappingFault demo_tree demo_hierarchy.levels demo_mapping f → ⊥
+
+abbrev pub MappingIsSound : Type 0
+MappingIsSound = Sound demo_tree demo_hierarchy.levels demo_mapped
+
+-- the program has no fault of names, kinds or parameters
+abbrev pub ProgramIsFaultless : Type 0
+ProgramIsFaultless = (f : Fault) → TypeFault demo_tree f → ⊥
+
+-- the forms of the program, with their accesses
 abbrev pub ProgramResolves : Type 0
 ProgramResolves = resolution demo_tree.tasks demo_mapped ≡ Ok demo_resolving
+
+-- a node has no fewer bytes than these forms need there
+abbrev pub NodesHaveEnough : Type 0
+NodesHaveEnough = (node n : ℕ) (its : Node) → slice_get demo_hierarchy.nodes node ≡ Some its
+    → Needs demo_tree.tasks demo_mapped.instances demo_hierarchy.nodes demo_forms node n → n ≤ its.capacity
+
+-- whatever the arrays hold, the program doesn't trap
+abbrev pub ProgramIsTrapless : Type 0
+ProgramIsTrapless = (s : Arrays) (trapped : Trapped) → flat demo_tree demo_mapped s ≡ Err trapped → ⊥

@@ -1,5 +1,6 @@
 pub mod Demo
 pub mod Texts
 pub mod Tree
-pub mod Mapped
+pub mod Machine
+pub mod FormsFound
 pub mod Laws

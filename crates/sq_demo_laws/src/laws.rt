@@ -1,13 +1,47 @@
 //! What is true of the demo's texts.
 
-ghost use Rattle.sq_demo_laws.specs.Laws.{ProgramHasTokens, ProgramResolves};
+ghost use Rattle.sq_machfile.specs.Machines.{WithinLimits};
+ghost use Rattle.sq_demo_laws.specs.Machine.{demo_hierarchy};
+ghost use Rattle.sq_demo_laws.specs.Laws.{OneMachine, MachineIsFaultless, OneMapping, MappingIsFaultless, MappingIsSound, ProgramIsFaultless, ProgramResolves, NodesHaveEnough, ProgramIsTrapless};
 
-/// The program's tokens.
-pub fn program_has_tokens()
-    ensures { ProgramHasTokens }
+use sq_lexer::laws::each_text_has_tokens_or_breaks;
+use sq_spec_laws::laws::needs_are_sound;
+
+/// The machine's text stands for one machine, and has no fault.
+pub fn the_machine_is_read()
+    ensures one { OneMachine }
+    ensures faultless { MachineIsFaultless }
+{
+    each_text_has_tokens_or_breaks();
+}
+
+/// The mapping's text stands for one mapping, and has no fault for the program and the machine.
+pub fn the_mapping_is_read()
+    ensures one { OneMapping }
+    ensures faultless { MappingIsFaultless }
+    ensures sound { MappingIsSound }
+{
+    each_text_has_tokens_or_breaks();
+}
+
+/// The program has no fault of names, kinds or parameters.
+pub fn the_program_is_faultless()
+    ensures { ProgramIsFaultless }
 {}
 
-/// The program's forms.
-pub fn program_resolves()
+/// The walk over the forms of the program goes through.
+pub fn the_forms_are_found()
     ensures { ProgramResolves }
+{}
+
+/// No node of the machine has less than the forms need there.
+pub fn nodes_have_enough()
+    ensures { WithinLimits demo_hierarchy → NodesHaveEnough }
+{
+    needs_are_sound();
+}
+
+/// The program doesn't trap.
+pub fn the_program_is_trapless()
+    ensures { ProgramIsTrapless }
 {}

@@ -1,99 +1,15 @@
--- The mapping and the machine of the demo, and the forms of its program: a product of 128 by 128 in blocks of 32, one
--- of 32 by 32 in blocks of 8, and one of 8 by 8.
+-- The forms of the demo's program: a product of 128 by 128 in blocks of 32, one of 32 by 32 in blocks of 8, and one of
+-- 8 by 8.
 use Rattle.std.specs.Prelude.{ℕ, zero, suc, ◌*◌, ◌/◌, ◌%◌, pos, false, List, [], ◌∷◌, ◌++◌, Some, None, codes}
 use Rattle.sq_text.specs.declared.place.Span.{Span}
-use Rattle.sq_text.specs.declared.spread.SpreadRule.TheVariants.{Cyclic}
 use Rattle.sq_ast.specs.declared.program.Mode.{Mode}
 use Rattle.sq_ast.specs.declared.program.Mode.TheVariants as mode
-use Rattle.sq_ast.specs.declared.program.VariantKind.TheVariants.{Inner, Leaf}
-use Rattle.sq_machfile.specs.declared.level.Level.{Level}
-use Rattle.sq_machfile.specs.declared.node.Node.{Node}
-use Rattle.sq_machfile.specs.Machines.{Hierarchy}
-use Rattle.sq_mapfile.specs.declared.mapping.Instance.{Instance}
-use Rattle.sq_mapfile.specs.declared.mapping.Mapping.{Mapping}
-use Rattle.sq_mapfile.specs.declared.mapping.Tuning.{Tuning}
-use Rattle.sq_mapfile.specs.declared.mapping.Setting.TheVariants.{One}
 use Rattle.sq_forms.specs.declared.form.Caller.{Caller}
 use Rattle.sq_forms.specs.declared.form.Form.{Form}
 use Rattle.sq_forms.specs.declared.form.Found.{Found}
 use Rattle.sq_forms.specs.declared.form.Use.{Use}
 use Rattle.sq_forms.specs.Steps.{Forms, Key}
 use Rattle.sq_forms.specs.Resolving.{Resolving}
-
--- ---- the mapping
-
-abbrev pub tunings_by : ℕ → List Tuning
-tunings_by n =
-    record { name = codes "U"; setting = One (pos n) } ∷ record { name = codes "X"; setting = One (pos n) }
-    ∷ record { name = codes "V"; setting = One (pos n) } ∷ []
-
-abbrev pub top_instance : Instance
-top_instance = record {
-  name = codes "top";
-  task = codes "matmul";
-  kind = Inner;
-  level = 0;
-  tunings = tunings_by 32;
-  routes = record { task = codes "matmul"; instance = 1 } ∷ [];
-  spread = Cyclic;
-}
-
-abbrev pub mid_instance : Instance
-mid_instance = record {
-  name = codes "mid";
-  task = codes "matmul";
-  kind = Inner;
-  level = 1;
-  tunings = tunings_by 8;
-  routes = record { task = codes "matmul"; instance = 2 } ∷ [];
-  spread = Cyclic;
-}
-
-abbrev pub low_instance : Instance
-low_instance = record {
-  name = codes "low";
-  task = codes "matmul";
-  kind = Leaf;
-  level = 2;
-  tunings = [];
-  routes = [];
-  spread = Cyclic;
-}
-
-abbrev pub demo_mapped : Mapping
-demo_mapped = record {
-  entry = 0;
-  sizes =
-      record { name = codes "M"; value = pos 128 } ∷ record { name = codes "N"; value = pos 128 }
-      ∷ record { name = codes "P"; value = pos 128 } ∷ [];
-  instances = top_instance ∷ mid_instance ∷ low_instance ∷ [];
-}
-
--- ---- the machine
-
-abbrev pub host : Level
-host = record { name = codes "host"; capacity = 196608; children = 2 }
-
-abbrev pub chip : Level
-chip = record { name = codes "chip"; capacity = 20480; children = 4 }
-
-abbrev pub core : Level
-core = record { name = codes "core"; capacity = 1280; children = 0 }
-
-abbrev pub node_at : (level capacity first_child children : ℕ) → Node
-node_at level capacity first_child children =
-    record { name = None; level = level; capacity = capacity; first_child = first_child; children = children }
-
-abbrev pub core_node : Node
-core_node = node_at 2 1280 0 0
-
-abbrev pub demo_hierarchy : Hierarchy
-demo_hierarchy = record {
-  levels = host ∷ chip ∷ core ∷ [];
-  nodes =
-      node_at 0 196608 1 2 ∷ node_at 1 20480 3 4 ∷ node_at 1 20480 7 4 ∷ core_node ∷ core_node ∷ core_node
-      ∷ core_node ∷ core_node ∷ core_node ∷ core_node ∷ core_node ∷ [];
-}
 
 -- ---- the forms
 
