@@ -11,3 +11,5 @@ pub mod Apart
 pub mod LeafEnds
 pub mod WorkEnds
 pub mod Enough
+pub mod FreeOfRaces
+pub mod ProgramRead

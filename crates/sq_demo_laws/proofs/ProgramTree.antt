@@ -155,7 +155,7 @@ inner_derived later = a_void_task (an_inner {w = word 1 11 (codes "matmul")} {ds
 text_derived : Derives (Many Task Any 0 (inner_variant ∷ leaf_variant ∷ [])) (inner_leveled leaf_leveled) (leveled (Last (at 20 1)) 0 ∷ [])
 text_derived = one_more refl (inner_derived leaf_leveled) (one_more refl leaf_derived no_more)
 
-are_kinds : kinds (inner_leveled leaf_leveled) ≡ symbols program_tokens
+pub are_kinds : kinds (inner_leveled leaf_leveled) ≡ symbols program_tokens
 unfolding inner_leveled leaf_leveled program_tokens keyword_of
 are_kinds = refl
 

@@ -1,5 +1,5 @@
 -- What is true of the demo's texts.
-use Rattle.std.specs.Prelude.{◌≡◌, ◌≤◌, ℕ, List, Some, Ok, Err, slice_get}
+use Rattle.std.specs.Prelude.{◌≡◌, ◌≤◌, ℕ, List, Some, None, Ok, Err, slice_get}
 use Rattle.sq_text.specs.declared.code.Code.{Code}
 use Rattle.sq_text.specs.declared.fault.Fault.{Fault}
 use Rattle.sq_text.specs.declared.place.Place.{Place}
@@ -7,12 +7,17 @@ use Rattle.sq_text.specs.Places.{start}
 use Rattle.sq_lexer.specs.declared.token.Token.{Token}
 use Rattle.sq_lexer.specs.Faults.{BreaksFrom}
 use Rattle.sq_lexer.specs.Tokens.{AreTokens}
+use Rattle.sq_text.specs.declared.code.Phase.TheVariants.{Program as ProgramPhase}
+use Rattle.sq_lexer.specs.Faults.{HasFault}
+use Rattle.sq_ast.specs.declared.program.Program.{Program}
+use Rattle.sq_parser.specs.Programs as parsing
+use Rattle.sq_spec.specs.declared.resolved.Resolved.{Resolved}
+use Rattle.sq_race.specs.Race.{IsFirstRace}
 use Rattle.sq_machfile.specs.Machines.{Hierarchy, StandsFor as IsHierarchyOf, MachineFault}
 use Rattle.sq_mapfile.specs.declared.mapping.Mapping.{Mapping}
 use Rattle.sq_mapfile.specs.Mappings.{StandsFor as IsMappingOf, MappingFault}
 use Rattle.sq_mapfile.specs.Sound.{Sound}
 use Rattle.sq_types.specs.Sites.{TypeFault}
-use Rattle.sq_forms.specs.Faults.{Value}
 use Rattle.sq_forms.specs.Resolving.{resolution}
 use Rattle.sq_leaf.specs.Source.{Arrays}
 use Rattle.sq_work.specs.Meaning.{Trapped}
@@ -24,7 +29,7 @@ use Rattle.sq_demo_laws.specs.Tree.{demo_tree}
 use Rattle.sq_demo_laws.specs.Demo.{demo_program, demo_mapping, demo_machine}
 use Rattle.sq_demo_laws.specs.Texts.{program_tokens, mapping_tokens, machine_tokens}
 use Rattle.sq_demo_laws.specs.Machine.{demo_hierarchy, demo_mapped}
-use Rattle.sq_demo_laws.specs.FormsFound.{demo_forms, demo_resolving}
+use Rattle.sq_demo_laws.specs.FormsFound.{demo_forms, demo_uses, demo_resolving}
 
 -- a text has one list of tokens, and doesn't break where it has one
 abbrev pub OneList : Type 0
@@ -32,6 +37,13 @@ OneList = (text : List ℕ) (ts us : List Token) → AreTokens text ts → AreTo
 
 abbrev pub NeverBoth : Type 0
 NeverBoth = (text : List ℕ) (ts : List Token) (c : Code) (place : Place) → AreTokens text ts → BreaksFrom start text c place → ⊥
+
+-- tokens stand for one program, and have no fault where they stand for one
+abbrev pub OneProgram : Type 0
+OneProgram = (ts : List Token) (p q : Program) → parsing.IsProgram ts p → parsing.IsProgram ts q → p ≡ q
+
+abbrev pub NeverMisread : Type 0
+NeverMisread = (ts : List Token) (p : Program) (f : Fault) → parsing.IsProgram ts p → parsing.HasFault ts f → ⊥
 
 -- the tokens of the texts
 abbrev pub ProgramHasTokens : Type 0
@@ -42,6 +54,16 @@ MappingHasTokens = AreTokens demo_mapping mapping_tokens
 
 abbrev pub MachineHasTokens : Type 0
 MachineHasTokens = AreTokens demo_machine machine_tokens
+
+-- the program's text stands for this program alone, and has no fault
+abbrev pub OneTree : Type 0
+OneTree = (ts : List Token) (p : Program) → AreTokens demo_program ts → parsing.IsProgram ts p → p ≡ demo_tree
+
+abbrev pub ProgramHasNoFault : Type 0
+ProgramHasNoFault = (f : Fault) → HasFault ProgramPhase demo_program f → ⊥
+
+abbrev pub ProgramIsRead : Type 0
+ProgramIsRead = (ts : List Token) (f : Fault) → AreTokens demo_program ts → parsing.HasFault ts f → ⊥
 
 -- the machine's text stands for this machine alone, and has no fault
 abbrev pub OneMachine : Type 0
@@ -67,6 +89,11 @@ ProgramIsFaultless = (f : Fault) → TypeFault demo_tree f → ⊥
 -- the forms of the program, with their accesses
 abbrev pub ProgramResolves : Type 0
 ProgramResolves = resolution demo_tree.tasks demo_mapped ≡ Ok demo_resolving
+
+-- with these no two of them race
+abbrev pub FormsAreFree : Type 0
+FormsAreFree = (r : Resolved) → r.typed.now ≡ demo_tree → r.mapping.now ≡ demo_mapped → r.forms ≡ demo_forms
+    → r.uses ≡ demo_uses → IsFirstRace r None
 
 -- a node has no fewer bytes than these forms need there
 abbrev pub NodesHaveEnough : Type 0

@@ -2,9 +2,10 @@
 
 ghost use Rattle.sq_machfile.specs.Machines.{WithinLimits};
 ghost use Rattle.sq_demo_laws.specs.Machine.{demo_hierarchy};
-ghost use Rattle.sq_demo_laws.specs.Laws.{OneMachine, MachineIsFaultless, OneMapping, MappingIsFaultless, MappingIsSound, ProgramIsFaultless, ProgramResolves, NodesHaveEnough, ProgramIsTrapless};
+ghost use Rattle.sq_demo_laws.specs.Laws.{OneMachine, MachineIsFaultless, OneMapping, MappingIsFaultless, MappingIsSound, ProgramIsFaultless, ProgramResolves, NodesHaveEnough, ProgramIsTrapless, OneTree, ProgramHasNoFault, ProgramIsRead, FormsAreFree};
 
 use sq_lexer::laws::each_text_has_tokens_or_breaks;
+use sq_parser::laws::tokens_are_a_program_or_have_a_fault;
 use sq_spec_laws::laws::needs_are_sound;
 
 /// The machine's text stands for one machine, and has no fault.
@@ -22,6 +23,16 @@ pub fn the_mapping_is_read()
     ensures sound { MappingIsSound }
 {
     each_text_has_tokens_or_breaks();
+}
+
+/// The program's text stands for one program, and has no fault.
+pub fn the_program_is_read()
+    ensures one { OneTree }
+    ensures tokens { ProgramHasNoFault }
+    ensures read { ProgramIsRead }
+{
+    each_text_has_tokens_or_breaks();
+    tokens_are_a_program_or_have_a_fault();
 }
 
 /// The program has no fault of names, kinds or parameters.
@@ -44,4 +55,9 @@ pub fn nodes_have_enough()
 /// The program doesn't trap.
 pub fn the_program_is_trapless()
     ensures { ProgramIsTrapless }
+{}
+
+/// No two accesses of the forms race.
+pub fn the_forms_are_free_of_races()
+    ensures { FormsAreFree }
 {}
