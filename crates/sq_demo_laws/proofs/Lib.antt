@@ -13,3 +13,4 @@ pub mod WorkEnds
 pub mod Enough
 pub mod FreeOfRaces
 pub mod ProgramRead
+pub mod DataRead

@@ -1,5 +1,12 @@
 -- What is true of the demo's texts.
-use Rattle.std.specs.Prelude.{◌≡◌, ◌≤◌, ℕ, List, Some, None, Ok, Err, slice_get}
+use Rattle.std.specs.Prelude.{◌≡◌, ◌≤◌, ◌*◌, ℕ, ℤ, false, List, [], ◌∷◌, replicate, codes, Some, None, Ok, Err, slice_get}
+use Rattle.std.specs.List.{All, AllZip}
+use Rattle.sq_num.specs.declared.Elem.TheVariants.{Int}
+use Rattle.sq_num.specs.Elements.{values_in}
+use Rattle.sq_rect.specs.Extents.{product}
+use Rattle.sq_arrays.specs.Arrays.{Wanted, arrays_of, AreValuesOf}
+use Rattle.sq_arrays.specs.Words.{is_over}
+use Rattle.sq_arrays.specs.Written.{arrays_text, HasHead}
 use Rattle.sq_text.specs.declared.code.Code.{Code}
 use Rattle.sq_text.specs.declared.fault.Fault.{Fault}
 use Rattle.sq_text.specs.declared.place.Place.{Place}
@@ -26,7 +33,7 @@ use Rattle.sq_spec_laws.specs.Needs.{Needs}
 use Rattle.sq_machfile.specs.declared.node.Node.{Node}
 use Rattle.sq_machfile.specs.Machines.{WithinLimits}
 use Rattle.sq_demo_laws.specs.Tree.{demo_tree}
-use Rattle.sq_demo_laws.specs.Demo.{demo_program, demo_mapping, demo_machine}
+use Rattle.sq_demo_laws.specs.Demo.{demo_program, demo_mapping, demo_machine, demo_data, demo_first, demo_second, demo_elements, matrix_of}
 use Rattle.sq_demo_laws.specs.Texts.{program_tokens, mapping_tokens, machine_tokens}
 use Rattle.sq_demo_laws.specs.Machine.{demo_hierarchy, demo_mapped}
 use Rattle.sq_demo_laws.specs.FormsFound.{demo_forms, demo_uses, demo_resolving}
@@ -103,3 +110,25 @@ NodesHaveEnough = (node n : ℕ) (its : Node) → slice_get demo_hierarchy.nodes
 -- whatever the arrays hold, the program doesn't trap
 abbrev pub ProgramIsTrapless : Type 0
 ProgramIsTrapless = (s : Arrays) (trapped : Trapped) → flat demo_tree demo_mapped s ≡ Err trapped → ⊥
+
+-- ---- the data
+
+-- A, B and C
+abbrev pub demo_wants : List Wanted
+demo_wants = matrix_of (codes "A") ∷ matrix_of (codes "B") ∷ matrix_of (codes "C") ∷ []
+
+abbrev pub matrix_values : List ℕ → List ℤ
+matrix_values bytes = values_in Int (product (128 ∷ 128 ∷ [])) bytes
+
+abbrev pub demo_values : ℕ → List (List ℤ)
+demo_values seed =
+    matrix_values (demo_first seed) ∷ matrix_values (demo_second seed) ∷ matrix_values (replicate (demo_elements * 4) 0) ∷ []
+
+-- what is written of arrays reads back
+abbrev pub WrittenReadBack : Type 0
+WrittenReadBack = (ws : List Wanted) (vss : List (List ℤ)) → All HasHead ws → AllZip AreValuesOf ws vss
+    → is_over (arrays_text ws vss) ≡ false → arrays_of ws (arrays_text ws vss) ≡ Ok vss
+
+-- the data of a number is read as its arrays
+abbrev pub DataIsRead : Type 0
+DataIsRead = (seed : ℕ) → arrays_of demo_wants (demo_data seed) ≡ Ok (demo_values seed)

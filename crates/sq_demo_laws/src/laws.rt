@@ -2,8 +2,9 @@
 
 ghost use Rattle.sq_machfile.specs.Machines.{WithinLimits};
 ghost use Rattle.sq_demo_laws.specs.Machine.{demo_hierarchy};
-ghost use Rattle.sq_demo_laws.specs.Laws.{OneMachine, MachineIsFaultless, OneMapping, MappingIsFaultless, MappingIsSound, ProgramIsFaultless, ProgramResolves, NodesHaveEnough, ProgramIsTrapless, OneTree, ProgramHasNoFault, ProgramIsRead, FormsAreFree};
+ghost use Rattle.sq_demo_laws.specs.Laws.{OneMachine, MachineIsFaultless, OneMapping, MappingIsFaultless, MappingIsSound, ProgramIsFaultless, ProgramResolves, NodesHaveEnough, ProgramIsTrapless, OneTree, ProgramHasNoFault, ProgramIsRead, FormsAreFree, DataIsRead};
 
+use sq_arrays::laws::written_arrays_read_back;
 use sq_lexer::laws::each_text_has_tokens_or_breaks;
 use sq_parser::laws::tokens_are_a_program_or_have_a_fault;
 use sq_spec_laws::laws::needs_are_sound;
@@ -61,3 +62,10 @@ pub fn the_program_is_trapless()
 pub fn the_forms_are_free_of_races()
     ensures { FormsAreFree }
 {}
+
+/// The data of a number is the text of its arrays.
+pub fn the_data_is_read()
+    ensures { DataIsRead }
+{
+    written_arrays_read_back();
+}
