@@ -26,7 +26,8 @@ pub(crate) fn expect_value<F: Files>(
     ensures there { IsThereUnlessFailed (F.content files.old) name.now result }
     ensures gives { (bytes : List ℕ) → IsTold (F.content files.old) name.now bytes →
         Gives (λ v. (v, rest_of window.new bytes)) result (next_value elem (rest_of window.old bytes)) }
-    ensures cause { EndCause (F.faults files.old) (F.faults files.new) (F.misses files.old) (F.misses files.new) result }
+    ensures cause { EndCause (F.faults files.old) (F.faults files.new) (F.misses files.old) (F.misses files.new)
+        result }
 {
     let mut number = Number::new();
     match word(window, files, name, &mut number) {
@@ -52,7 +53,8 @@ pub(crate) fn expect_text<F: Files>(
     ensures there { IsThereUnlessFailed (F.content files.old) name.now result }
     ensures gives { (bytes : List ℕ) → IsTold (F.content files.old) name.now bytes →
         Gives (λ v. (v, rest_of window.new bytes)) result (next_same text.now code (rest_of window.old bytes)) }
-    ensures cause { EndCause (F.faults files.old) (F.faults files.new) (F.misses files.old) (F.misses files.new) result }
+    ensures cause { EndCause (F.faults files.old) (F.faults files.new) (F.misses files.old) (F.misses files.new)
+        result }
 {
     let mut observer = ExactText { text, matched: 0 };
     match word(window, files, name, &mut observer) {
@@ -77,7 +79,8 @@ pub(crate) fn expect_array<F: Files>(
     ensures there { IsThereUnlessFailed (F.content files.old) name.now result }
     ensures gives { (bytes : List ℕ) → IsTold (F.content files.old) name.now bytes →
         Gives (λ v. (v, rest_of window.new bytes)) result (next_array first (rest_of window.old bytes)) }
-    ensures cause { EndCause (F.faults files.old) (F.faults files.new) (F.misses files.old) (F.misses files.new) result }
+    ensures cause { EndCause (F.faults files.old) (F.faults files.new) (F.misses files.old) (F.misses files.new)
+        result }
 {
     let mut number = Number::new();
     match word(window, files, name, &mut number) {

@@ -78,7 +78,8 @@ pub(crate) fn head<F: Files>(
     ensures there { IsThereUnlessFailed (F.content files.old) name.now result }
     ensures gives { (bytes : List ℕ) → IsTold (F.content files.old) name.now bytes →
         Gives (λ v. (v, rest_of window.new bytes)) result (next_head first wanted.now (elem_word elem) (shape_text extents.now) (rest_of window.old bytes)) }
-    ensures cause { EndCause (F.faults files.old) (F.faults files.new) (F.misses files.old) (F.misses files.new) result }
+    ensures cause { EndCause (F.faults files.old) (F.faults files.new) (F.misses files.old) (F.misses files.new)
+        result }
 {
     let mut line = [0u8; SHAPE];
     let end = put_shape(&mut line, extents);
@@ -106,8 +107,10 @@ pub(crate) fn end<F: Files>(window: &mut Window, files: &mut F, name: &str) -> R
     ensures content { F.content files.new ≡ F.content files.old }
     ensures stands { Stands (F.content files.new) name.now window.new }
     ensures there { IsThereUnlessFailed (F.content files.old) name.now result }
-    ensures gives { (bytes : List ℕ) → IsTold (F.content files.old) name.now bytes → Gives (λ v. v) result (finished (rest_of window.old bytes)) }
-    ensures cause { EndCause (F.faults files.old) (F.faults files.new) (F.misses files.old) (F.misses files.new) result }
+    ensures gives { (bytes : List ℕ) → IsTold (F.content files.old) name.now bytes
+        → Gives (λ v. v) result (finished (rest_of window.old bytes)) }
+    ensures cause { EndCause (F.faults files.old) (F.faults files.new) (F.misses files.old) (F.misses files.new)
+        result }
 {
     match pass(window, files, name, true, &mut Nothing) {
         Ok(Ahead::Bytes) => Err(InputEnd::Refused {

@@ -1,5 +1,6 @@
 //! Reads the arrays of a file, one after the other, in constant memory.
-ghost use Rattle.std.specs.Prelude.{◌≡◌, ◌+◌, ◌*◌, ◌/◌, ◌≤◌, ℕ, List, length, Option, Some, None, IfErr, IsErrOf, Err, OnOk, OnErr, Bool, true, false};
+ghost use Rattle.std.specs.Prelude.{◌≡◌, ◌+◌, ◌*◌, ◌/◌, ◌≤◌, ℕ, List, length, Option, Some, None, IfErr, IsErrOf, Err};
+ghost use Rattle.std.specs.Prelude.{OnOk, OnErr, Bool, true, false};
 ghost use Rattle.sq_num.specs.Elements.{width};
 ghost use Rattle.sq_rect.specs.Extents.{product};
 ghost use Rattle.sq_arrays.specs.ArrayText.{start_of, next_values, finished};
@@ -67,16 +68,20 @@ impl ArrayReader {
         ensures ready { IsReady (F.content files.new) name.now self.new }
 
         // After a refusal it is answered again, and nothing is read.
-        ensures kept { (end : _) → kept_of self.old ≡ Some end → (result ≡ Err end) × (self.new ≡ self.old) × (files.new ≡ files.old) }
+        ensures kept { (end : _) → kept_of self.old ≡ Some end → (result ≡ Err end) × (self.new ≡ self.old)
+            × (files.new ≡ files.old) }
         ensures keeps { IfErr result (λ end. kept_of self.new ≡ Some end) }
-        ensures stays { OnErr result ((elem_of self.new ≡ elem_of self.old) × (left_of self.new ≡ left_of self.old) × (is_first self.new ≡ is_first self.old)) }
-        ensures ok { OnOk result ((kept_of self.new ≡ None) × (elem_of self.new ≡ want.now.elem) × (left_of self.new ≡ product want.now.extents) × (is_first self.new ≡ false)) }
+        ensures stays { OnErr result ((elem_of self.new ≡ elem_of self.old) × (left_of self.new ≡ left_of self.old)
+            × (is_first self.new ≡ is_first self.old)) }
+        ensures ok { OnOk result ((kept_of self.new ≡ None) × (elem_of self.new ≡ want.now.elem)
+            × (left_of self.new ≡ product want.now.extents) × (is_first self.new ≡ false)) }
 
         // What the text says, where it is told.
         ensures there { kept_of self.old ≡ None → IsThereUnlessFailed (F.content files.old) name.now result }
         ensures gives { kept_of self.old ≡ None → (bytes : List ℕ) → IsTold (F.content files.old) name.now bytes →
             Gives (λ v. (v, rest_at self.new bytes)) result (head_of (is_first self.old) (wanted want.now) (rest_at self.old bytes)) }
-        ensures cause { kept_of self.old ≡ None → EndCause (F.faults files.old) (F.faults files.new) (F.misses files.old) (F.misses files.new) result }
+        ensures cause { kept_of self.old ≡ None → EndCause (F.faults files.old) (F.faults files.new)
+            (F.misses files.old) (F.misses files.new) result }
     {
         let extents = want.extents.as_slice();
         match self.kept {
@@ -119,18 +124,23 @@ impl ArrayReader {
         ensures ready { IsReady (F.content files.new) name.now self.new }
 
         // After a refusal it is answered again, and nothing is read.
-        ensures kept { (end : _) → kept_of self.old ≡ Some end → (result ≡ Err end) × (self.new ≡ self.old) × (files.new ≡ files.old) }
+        ensures kept { (end : _) → kept_of self.old ≡ Some end → (result ≡ Err end) × (self.new ≡ self.old)
+            × (files.new ≡ files.old) }
         ensures keeps { IfErr result (λ end. kept_of self.new ≡ Some end) }
-        ensures stays { OnErr result ((elem_of self.new ≡ elem_of self.old) × (left_of self.new ≡ left_of self.old) × (is_first self.new ≡ is_first self.old)) }
-        ensures ok { OnOk result ((kept_of self.new ≡ None) × (elem_of self.new ≡ elem_of self.old) × (is_first self.new ≡ is_first self.old)
+        ensures stays { OnErr result ((elem_of self.new ≡ elem_of self.old) × (left_of self.new ≡ left_of self.old)
+            × (is_first self.new ≡ is_first self.old)) }
+        ensures ok { OnOk result ((kept_of self.new ≡ None) × (elem_of self.new ≡ elem_of self.old)
+            × (is_first self.new ≡ is_first self.old)
             × (left_of self.new + length into.old / width (elem_of self.old) ≡ left_of self.old)) }
 
         // What the text says, where it is told.
         ensures gives { kept_of self.old ≡ None → (bytes : List ℕ) → IsTold (F.content files.old) name.now bytes →
             GivesValues (elem_of self.old) into.new (rest_at self.new bytes) result
             (next_values (length into.old / width (elem_of self.old)) (elem_of self.old) (rest_at self.old bytes)) }
-        ensures missing { kept_of self.old ≡ None → IsErrOf result InputEnd.Absent → IsMissing (F.content files.old) name.now }
-        ensures cause { kept_of self.old ≡ None → EndCause (F.faults files.old) (F.faults files.new) (F.misses files.old) (F.misses files.new) result }
+        ensures missing { kept_of self.old ≡ None → IsErrOf result InputEnd.Absent
+            → IsMissing (F.content files.old) name.now }
+        ensures cause { kept_of self.old ≡ None → EndCause (F.faults files.old) (F.faults files.new)
+            (F.misses files.old) (F.misses files.new) result }
     {
         match self.kept {
             Some(end) => Err(end),
@@ -158,15 +168,20 @@ impl ArrayReader {
         ensures ready { IsReady (F.content files.new) name.now self.new }
 
         // After a refusal it is answered again, and nothing is read.
-        ensures kept { (end : _) → kept_of self.old ≡ Some end → (result ≡ Err end) × (self.new ≡ self.old) × (files.new ≡ files.old) }
+        ensures kept { (end : _) → kept_of self.old ≡ Some end → (result ≡ Err end) × (self.new ≡ self.old)
+            × (files.new ≡ files.old) }
         ensures keeps { IfErr result (λ end. kept_of self.new ≡ Some end) }
-        ensures stays { OnErr result ((elem_of self.new ≡ elem_of self.old) × (left_of self.new ≡ left_of self.old) × (is_first self.new ≡ is_first self.old)) }
-        ensures ok { OnOk result ((kept_of self.new ≡ None) × (elem_of self.new ≡ elem_of self.old) × (left_of self.new ≡ 0) × (is_first self.new ≡ is_first self.old)) }
+        ensures stays { OnErr result ((elem_of self.new ≡ elem_of self.old) × (left_of self.new ≡ left_of self.old)
+            × (is_first self.new ≡ is_first self.old)) }
+        ensures ok { OnOk result ((kept_of self.new ≡ None) × (elem_of self.new ≡ elem_of self.old)
+            × (left_of self.new ≡ 0) × (is_first self.new ≡ is_first self.old)) }
 
         // What the text says, where it is told.
         ensures there { kept_of self.old ≡ None → IsThereUnlessFailed (F.content files.old) name.now result }
-        ensures gives { kept_of self.old ≡ None → (bytes : List ℕ) → IsTold (F.content files.old) name.now bytes → Gives (λ v. v) result (finished (rest_at self.old bytes)) }
-        ensures cause { kept_of self.old ≡ None → EndCause (F.faults files.old) (F.faults files.new) (F.misses files.old) (F.misses files.new) result }
+        ensures gives { kept_of self.old ≡ None → (bytes : List ℕ) → IsTold (F.content files.old) name.now bytes
+            → Gives (λ v. v) result (finished (rest_at self.old bytes)) }
+        ensures cause { kept_of self.old ≡ None → EndCause (F.faults files.old) (F.faults files.new)
+            (F.misses files.old) (F.misses files.new) result }
     {
         match self.kept {
             Some(end) => Err(end),

@@ -1,5 +1,6 @@
 //! Reads all arrays of a file, in constant memory.
-ghost use Rattle.std.specs.Prelude.{◌≡◌, ◌+◌, ◌*◌, ◌/◌, ◌^◌, ◌<◌, ◌≤◌, ℕ, List, [], length, map, ◌-◌, ◌==◌, if◌then◌else◌, Some, None, OnOk, OnErr, IsErrOf, false};
+ghost use Rattle.std.specs.Prelude.{◌≡◌, ◌+◌, ◌*◌, ◌/◌, ◌^◌, ◌<◌, ◌≤◌, ℕ, List, [], length, map, ◌-◌, ◌==◌};
+ghost use Rattle.std.specs.Prelude.{if◌then◌else◌, Some, None, OnOk, OnErr, IsErrOf, false};
 ghost use Rattle.sq_num.specs.Elements.{width};
 ghost use Rattle.sq_arrays.specs.ArrayText.{next_values};
 ghost use Rattle.sq_arrays.specs.Arrays.{wanted, size_of, array_of_text, arrays_of};
@@ -40,7 +41,8 @@ fn put_piece<F: Files, T: ArrayTarget>(
     requires room { HasRange (T.arrays target.old) spot.array spot.at (spot.count * width (elem_of reader.old)) }
     ensures content { F.content files.new ≡ F.content files.old }
     ensures ready { IsReady (F.content files.new) name.now reader.new }
-    ensures ok { OnOk result ((kept_of reader.new ≡ None) × (elem_of reader.new ≡ elem_of reader.old) × (is_first reader.new ≡ is_first reader.old)
+    ensures ok { OnOk result ((kept_of reader.new ≡ None) × (elem_of reader.new ≡ elem_of reader.old)
+        × (is_first reader.new ≡ is_first reader.old)
         × (left_of reader.new + spot.count ≡ left_of reader.old)) }
     ensures size { length into.new ≡ spot.count * width (elem_of reader.old) }
     ensures put { OnOk result (T.arrays target.new ≡ put_in spot.array spot.at into.new (T.arrays target.old)) }
@@ -49,7 +51,8 @@ fn put_piece<F: Files, T: ArrayTarget>(
     ensures missing { IsErrOf result InputEnd.Absent → IsMissing (F.content files.old) name.now }
     ensures gives { (bytes : List ℕ) → IsTold (F.content files.old) name.now bytes →
         GivesValues (elem_of reader.old) into.new (rest_at reader.new bytes) result (next_values spot.count (elem_of reader.old) (rest_at reader.old bytes)) }
-    ensures cause { EndCause (F.faults files.old) (F.faults files.new) (F.misses files.old) (F.misses files.new) result }
+    ensures cause { EndCause (F.faults files.old) (F.faults files.new) (F.misses files.old) (F.misses files.new)
+        result }
 {
     match reader.next_values(files, name, into) {
         Ok(()) => {
@@ -76,14 +79,16 @@ fn put_values<F: Files, T: ArrayTarget>(
     requires room { HasRange (T.arrays target.old) array 0 (count * width (elem_of reader.old)) }
     ensures content { F.content files.new ≡ F.content files.old }
     ensures ready { IsReady (F.content files.new) name.now reader.new }
-    ensures ok { OnOk result ((kept_of reader.new ≡ None) × (is_first reader.new ≡ is_first reader.old) × (left_of reader.new ≡ 0)) }
+    ensures ok { OnOk result ((kept_of reader.new ≡ None) × (is_first reader.new ≡ is_first reader.old)
+        × (left_of reader.new ≡ 0)) }
     ensures sizes { map length (T.arrays target.new) ≡ map length (T.arrays target.old) }
     ensures keeps { T.keeps target.old target.new }
     ensures missing { IsErrOf result InputEnd.Absent → IsMissing (F.content files.old) name.now }
     ensures gives { (bytes : List ℕ) → IsTold (F.content files.old) name.now bytes →
         GivesValuesIn array (elem_of reader.old) (T.arrays target.old) (T.arrays target.new) (rest_at reader.new bytes) result
         (next_values count (elem_of reader.old) (rest_at reader.old bytes)) }
-    ensures cause { EndCause (F.faults files.old) (F.faults files.new) (F.misses files.old) (F.misses files.new) result }
+    ensures cause { EndCause (F.faults files.old) (F.faults files.new) (F.misses files.old) (F.misses files.new)
+        result }
 {
     let size = width(reader.elem());
     let mut window = [0u8; 8 * PIECE];
@@ -132,7 +137,8 @@ fn read_array<F: Files, T: ArrayTarget>(
     ensures gives { (bytes : List ℕ) → IsTold (F.content files.old) name.now bytes →
         GivesValuesIn array want.now.elem (T.arrays target.old) (T.arrays target.new) (rest_at reader.new bytes) result
         (array_of_text (is_first reader.old) (wanted want.now) (rest_at reader.old bytes)) }
-    ensures cause { EndCause (F.faults files.old) (F.faults files.new) (F.misses files.old) (F.misses files.new) result }
+    ensures cause { EndCause (F.faults files.old) (F.faults files.new) (F.misses files.old) (F.misses files.new)
+        result }
 {
     match reader.next_head(files, name, want) {
         Ok(()) => {}
@@ -169,7 +175,8 @@ pub fn read_arrays<F: Files, T: ArrayTarget>(
     // The calls, and pieces of any size, make up the one definition over the file's bytes.
     ensures gives { (bytes : List ℕ) → IsTold (F.content files.old) name.now bytes →
         GivesArrays (map wanted wants.now) (T.arrays target.new) result (arrays_of (map wanted wants.now) bytes) }
-    ensures cause { EndCause (F.faults files.old) (F.faults files.new) (F.misses files.old) (F.misses files.new) (end_of result) }
+    ensures cause { EndCause (F.faults files.old) (F.faults files.new) (F.misses files.old) (F.misses files.new)
+        (end_of result) }
 {
     let mut reader = ArrayReader::new();
     for (array, want) in wants.iter().enumerate() {

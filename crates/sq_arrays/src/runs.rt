@@ -1,9 +1,11 @@
 //! Steps of a window: over bytes of one kind, and to the next bytes of the file.
-ghost use Rattle.std.specs.Prelude.{◌≡◌, ◌++◌, ◌≤◌, ◌<◌, ◌+◌, ◌-◌, ℕ, List, length, OnOk, IfOk, IsErrOf, Bool, true, IsOkAnd};
+ghost use Rattle.std.specs.Prelude.{◌≡◌, ◌++◌, ◌≤◌, ◌<◌, ◌+◌, ◌-◌, ℕ, List, length, OnOk, IfOk, IsErrOf, Bool, true};
+ghost use Rattle.std.specs.Prelude.{IsOkAnd};
 ghost use Rattle.sq_port.specs.Ports.{ReadCause};
 ghost use Rattle.sq_arrays.specs.declared.window.Ahead.TheVariants.{Bytes};
 ghost use Rattle.sq_arrays.specs.Words.{is_blank, is_in, is_over};
-ghost use Rattle.sq_arrays.specs.Window.{IsTold, IsThere, IsMissing, held, left, Stands, Stops, Passed, PassedRun, IsAhead};
+ghost use Rattle.sq_arrays.specs.Window.{IsTold, IsThere, IsMissing, held, left, Stands, Stops, Passed, PassedRun};
+ghost use Rattle.sq_arrays.specs.Window.{IsAhead};
 
 use crate::observer::Observer;
 use crate::window::{Ahead, LIMIT, ROOM, Spot, Window};
@@ -27,7 +29,8 @@ fn is_of(blank: bool, b: u8) -> bool
 
 /// Passes what the window has of one kind.
 pub(crate) fn pass_held<J: Observer>(window: &mut Window, blank: bool, observer: &mut J)
-    ensures passed { Passed J.step blank window.old.spot.place window.new.spot.place (held window.old) (held window.new) observer.old observer.new }
+    ensures passed { Passed J.step blank window.old.spot.place window.new.spot.place (held window.old) (held window.new)
+        observer.old observer.new }
     ensures at { window.new.spot.at + length (held window.new) ≡ window.old.spot.at + length (held window.old) }
     ensures stops { Stops blank (held window.new) }
     ensures size { length window.new.bytes ≡ 8192 }
@@ -60,10 +63,12 @@ pub(crate) fn look<F: Files>(
     ensures at { window.new.spot.at ≡ window.old.spot.at }
     ensures place { window.new.spot.place ≡ window.old.spot.place }
     ensures bytes { IfOk result (λ a. a ≡ Bytes → 0 < length (held window.new)) }
-    ensures ahead { (bytes : List ℕ) → IsTold (F.content files.old) name.now bytes → IfOk result (λ a. IsAhead a (left window.old bytes) (is_over bytes)) }
+    ensures ahead { (bytes : List ℕ) → IsTold (F.content files.old) name.now bytes
+        → IfOk result (λ a. IsAhead a (left window.old bytes) (is_over bytes)) }
     ensures there { OnOk result (IsThere (F.content files.old) name.now) }
     ensures missing { IsErrOf result FileEnd.Absent → IsMissing (F.content files.old) name.now }
-    ensures cause { ReadCause (F.faults files.old) (F.faults files.new) (F.misses files.old) (F.misses files.new) result }
+    ensures cause { ReadCause (F.faults files.old) (F.faults files.new) (F.misses files.old) (F.misses files.new)
+        result }
 {
     let spot = window.spot;
     if spot.start < spot.end {
@@ -119,7 +124,8 @@ pub(crate) fn pass<F: Files, J: Observer>(
     ensures bytes { IfOk result (λ a. a ≡ Bytes → 0 < length (held window.new)) }
     ensures passed { (bytes : List ℕ) → IsTold (F.content files.old) name.now bytes → IfOk result (λ a.
         PassedRun J.step blank window.old.spot.place window.new.spot.place (left window.old bytes) (left window.new bytes) observer.old observer.new a (is_over bytes)) }
-    ensures cause { ReadCause (F.faults files.old) (F.faults files.new) (F.misses files.old) (F.misses files.new) result }
+    ensures cause { ReadCause (F.faults files.old) (F.faults files.new) (F.misses files.old) (F.misses files.new)
+        result }
 {
     'windows: loop {
         match look(window, files, name) {

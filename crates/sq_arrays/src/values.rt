@@ -28,7 +28,8 @@ pub(crate) fn values<F: Files>(
     ensures gives { (bytes : List ℕ) → IsTold (F.content files.old) name.now bytes →
         GivesValues elem into.new (rest_of window.new bytes) result (next_values (length into.old / width elem) elem (rest_of window.old bytes)) }
     ensures missing { IsErrOf result InputEnd.Absent → IsMissing (F.content files.old) name.now }
-    ensures cause { EndCause (F.faults files.old) (F.faults files.new) (F.misses files.old) (F.misses files.new) result }
+    ensures cause { EndCause (F.faults files.old) (F.faults files.new) (F.misses files.old) (F.misses files.new)
+        result }
 {
     let size = width(elem);
     let count = into.len() / size;

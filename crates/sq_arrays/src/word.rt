@@ -25,7 +25,8 @@ pub(crate) fn word<F: Files, J: Observer>(
     ensures there { IsThereUnlessFailed (F.content files.old) name.now result }
     ensures gives { (bytes : List ℕ) → IsTold (F.content files.old) name.now bytes →
         GivesWord J.step observer.old observer.new result (rest_of window.old bytes) (rest_of window.new bytes) }
-    ensures cause { EndCause (F.faults files.old) (F.faults files.new) (F.misses files.old) (F.misses files.new) result }
+    ensures cause { EndCause (F.faults files.old) (F.faults files.new) (F.misses files.old) (F.misses files.new)
+        result }
 {
     match pass(window, files, name, true, &mut Nothing) {
         Ok(Ahead::Bytes) => {}

@@ -1,5 +1,6 @@
 //! Writes an array.
-ghost use Rattle.std.specs.Prelude.{◌≡◌, ◌++◌, ◌∷◌, [], ◌≤◌, ◌*◌, ◌==◌, ◌+◌, ℕ, List, Bool, true, cond, length, take, drop};
+ghost use Rattle.std.specs.Prelude.{◌≡◌, ◌++◌, ◌∷◌, [], ◌≤◌, ◌*◌, ◌==◌, ◌+◌, ℕ, List, Bool, true, cond, length, take};
+ghost use Rattle.std.specs.Prelude.{drop};
 ghost use Rattle.std.specs.Fmt.{signed_decimal};
 ghost use Rattle.sq_num.specs.Elements.{width, values_in};
 ghost use Rattle.sq_port.specs.Ports.{Wrote};

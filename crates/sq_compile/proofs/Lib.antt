@@ -9,3 +9,4 @@ mod Ending
 mod Doubled
 mod Rooms
 pub mod Compiles
+mod Passing

@@ -59,7 +59,9 @@ pub fn move_from(
 
 /// The shape of a parameter.
 pub fn shape_at(shapes: &[Shape], i: usize) -> Option<&Shape>
-    ensures { (shape : SpecShape) → option_copied result ≡ Some shape → shape ≡ get_or shapes.now i tables.no_shape }
+    ensures there { option_copied result ≡ slice_get shapes.now i }
+    ensures its { (shape : SpecShape) → option_copied result ≡ Some shape
+        → shape ≡ get_or shapes.now i tables.no_shape }
 {
     at(shapes, i)
 }

@@ -47,7 +47,8 @@ pub struct Holding {
     pub buffers: BufferIds,
 }
 
-/// The call in a loop whose transfers overlap: its rows, the arrays of its callee, the arguments of its first row; and how
+/// The call in a loop whose transfers overlap: its rows, the arrays of its callee, the arguments of its first row; and
+/// how
 /// many iterations began before, each time that the loop is begun.
 #[derive(Clone, Copy)]
 pub struct PipeCall<'a> {

@@ -24,7 +24,8 @@ use sqlite_items::{Boxed as Box, Items};
 use std::alloc::{AllocError, Global};
 
 fn clear_local(alloc: Global, buffer: u32, shape: &Shape) -> Result<Term, AllocError>
-    ensures { IfOk result (λ x. x ≡ terms.clear_term (terms.local_view (record { shape = shape.now; buffer = buffer }))) }
+    ensures { IfOk result (λ x. x ≡ terms.clear_term (terms.local_view
+        (record { shape = shape.now; buffer = buffer }))) }
 {
     let view = buffer_view(buffer, shape)?;
     fill_term(alloc, 0, &view)

@@ -1,5 +1,4 @@
 pub mod Memories
-pub mod EachForm
 pub mod Codes
 pub mod Dimensions
 pub mod FormDims

@@ -56,7 +56,7 @@ use Rattle.sq_homes_laws.specs.Programs.{BodiesAreTables}
 use Rattle.sq_homes_laws.specs.Choosing.{Walked}
 use Rattle.sq_draft_laws.specs.Short.{round_by, round_of, LeavesAreShort}
 use Rattle.sq_draft_laws.proofs.Dimensions.{map_many}
-use Rattle.sq_draft_laws.proofs.EachForm.{each_good}
+use Rattle.sq_forms_fit.proofs.EachForm.{each_good}
 use Rattle.sq_draft_laws.proofs.LeavesHold.{leaf_form, shapes_same}
 use Rattle.sq_draft_laws.proofs.Loops.{loops_of, AreCounted, calls_are_counted, long_joined}
 use Rattle.sq_draft_laws.proofs.NestedCalls.{has_table, IsKeyed, row_at}

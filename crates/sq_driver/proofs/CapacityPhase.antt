@@ -13,9 +13,9 @@ use Rattle.sq_race.specs.Race.{IsFirstRace}
 use Rattle.sq_compile.specs.Capacity.{NoneLacks, LacksAreOne}
 use Rattle.sq_tree.specs.Bank.{BankSeen}
 use Rattle.sq_words.specs.Words.{Command}
-use Rattle.sq_driver.specs.declared.end.End.{End}
-use Rattle.sq_driver.specs.declared.end.End.TheVariants.{Usage, Absent, FileFault, Refused, Trapped, NoMemory}
-use Rattle.sq_driver.specs.declared.end.End.TheVariants.{SinkFault}
+use Rattle.sq_driver.specs.declared.outside.end.End.{End}
+use Rattle.sq_driver.specs.declared.outside.end.End.TheVariants.{Usage, Absent, FileFault, Refused, Trapped, NoMemory}
+use Rattle.sq_driver.specs.declared.outside.end.End.TheVariants.{SinkFault}
 use Rattle.sq_driver.specs.Phases.{phases, inputs_of}
 use Rattle.sq_driver.specs.Sources.{Sources}
 use Rattle.sq_driver.specs.Races.{IsResolved}

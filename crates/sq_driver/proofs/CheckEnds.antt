@@ -9,7 +9,7 @@ use Rattle.sq_text.specs.Answers.{Answers}
 use Rattle.sq_ast.specs.declared.program.Program.{Program as Tree}
 use Rattle.sq_types.specs.Sites.{TypeFault}
 use Rattle.sq_tree.specs.Bank.{BankSeen}
-use Rattle.sq_driver.specs.declared.end.End.TheVariants.{Refused}
+use Rattle.sq_driver.specs.declared.outside.end.End.TheVariants.{Refused}
 use Rattle.sq_words.specs.Words.{check_of}
 use Rattle.sq_driver.specs.Meaning.{done, Means}
 use Rattle.sq_driver.specs.Steps.{Stopped, ReadsTree}

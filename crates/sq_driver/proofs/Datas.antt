@@ -26,8 +26,8 @@ use Rattle.sq_spec.specs.declared.resolved.Resolved.{Resolved}
 use Rattle.sq_flat.specs.Memory as memory
 use Rattle.sq_flat.specs.Held.{Stored, zero_bytes}
 use Rattle.sq_driver.specs.Data.{code_for, args_for, data_fault}
-use Rattle.sq_driver.specs.declared.end.End.{End}
-use Rattle.sq_driver.specs.declared.end.End.TheVariants as end
+use Rattle.sq_driver.specs.declared.outside.end.End.{End}
+use Rattle.sq_driver.specs.declared.outside.end.End.TheVariants as end
 use Rattle.sq_driver.specs.Entry.{params_of, want_of, wants_of, start_of}
 use Rattle.sq_driver.specs.Givens.{Given, Extents, read_wants}
 use Rattle.sq_driver.specs.Picking.{picked, unpicked, KeepsOthers, Unfit, IsFilled, ReadsData, AreGiven, IsUnfit, ReadsGiven}

@@ -13,10 +13,10 @@ use Rattle.sq_adder.specs.Sums.{text_sum}
 use Rattle.sq_report.specs.Demo.{demo_line}
 use Rattle.sq_demo.specs.Texts.{demo_content}
 use Rattle.sq_words.specs.Words.{Role, program, mapping, machine, input, order, seed, demo_of}
-use Rattle.sq_driver.specs.declared.status.Status.{Status}
-use Rattle.sq_driver.specs.declared.status.Status.TheVariants.{Done as DoneStatus, Refused as RefusedStatus, Trapped as TrappedStatus, Usage as UsageStatus, FileFault as FileFaultStatus, SinkFault as SinkFaultStatus, NoMemory as NoMemoryStatus, Absent as AbsentStatus}
-use Rattle.sq_driver.specs.declared.end.End.{End}
-use Rattle.sq_driver.specs.declared.end.End.TheVariants.{Usage, Absent, FileFault, Refused, Trapped, NoMemory, SinkFault}
+use Rattle.sq_driver.specs.declared.outside.status.Status.{Status}
+use Rattle.sq_driver.specs.declared.outside.status.Status.TheVariants.{Done as DoneStatus, Refused as RefusedStatus, Trapped as TrappedStatus, Usage as UsageStatus, FileFault as FileFaultStatus, SinkFault as SinkFaultStatus, NoMemory as NoMemoryStatus, Absent as AbsentStatus}
+use Rattle.sq_driver.specs.declared.outside.end.End.{End}
+use Rattle.sq_driver.specs.declared.outside.end.End.TheVariants.{Usage, Absent, FileFault, Refused, Trapped, NoMemory, SinkFault}
 use Rattle.sq_driver.specs.Phases.{phases, file_of, Inputs, inputs_of}
 use Rattle.sq_driver.specs.DemoRuns.{demo_run}
 use Rattle.sq_driver.specs.Shown.{demo_text}

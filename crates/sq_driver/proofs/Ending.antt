@@ -1,8 +1,8 @@
 -- How a command ends once its text for `out` is put, whole or not.
 use Rattle.std.proofs.Common.{◌≡◌, ◌≤◌, ℕ, List, [], Result, Ok, Err, refl}
 use Rattle.sq_port.specs.Ports.{Gains, GainsPrefix, Rose}
-use Rattle.sq_driver.specs.declared.end.End.{End}
-use Rattle.sq_driver.specs.declared.end.End.TheVariants.{Usage, Absent, FileFault, Refused, Trapped, NoMemory, SinkFault}
+use Rattle.sq_driver.specs.declared.outside.end.End.{End}
+use Rattle.sq_driver.specs.declared.outside.end.End.TheVariants.{Usage, Absent, FileFault, Refused, Trapped, NoMemory, SinkFault}
 use Rattle.sq_words.specs.Words.{Command}
 use Rattle.sq_driver.specs.Meaning.{done, Means}
 use Rattle.sq_driver.specs.Banks.{whole, cut_out, BankAfter}

@@ -15,8 +15,8 @@ use Rattle.sq_tree.specs.Bank.{BankSeen}
 use Rattle.sq_words.specs.declared.words.Kind.TheVariants.{Eval}
 use Rattle.sq_words.specs.Words.{Command, eval_of}
 use Rattle.sq_report.specs.declared.trap.Trap.{Trap}
-use Rattle.sq_driver.specs.declared.end.End.{End}
-use Rattle.sq_driver.specs.declared.end.End.TheVariants.{Trapped, NoMemory}
+use Rattle.sq_driver.specs.declared.outside.end.End.{End}
+use Rattle.sq_driver.specs.declared.outside.end.End.TheVariants.{Trapped, NoMemory}
 use Rattle.sq_driver.specs.Phases.{opens, IsTold}
 use Rattle.sq_driver.specs.Races.{IsResolved}
 use Rattle.sq_driver.specs.Entry.{params_of}

@@ -28,10 +28,10 @@ use Rattle.sq_leaf.specs.declared.trap.Trap.{Trap as LeafTrap}
 use Rattle.sq_tree.specs.Bank.{BankSeen}
 use Rattle.sq_words.specs.declared.words.Kind.TheVariants.{Eval}
 use Rattle.sq_report.specs.declared.trap.Trap.{Trap}
-use Rattle.sq_driver.specs.declared.end.End.{End}
-use Rattle.sq_driver.specs.declared.end.End.TheVariants.{Usage, Absent, FileFault, Refused, Trapped, NoMemory, SinkFault}
-use Rattle.sq_driver.specs.declared.status.Status.{Status}
-use Rattle.sq_driver.specs.declared.status.Status.TheVariants.{Done}
+use Rattle.sq_driver.specs.declared.outside.end.End.{End}
+use Rattle.sq_driver.specs.declared.outside.end.End.TheVariants.{Usage, Absent, FileFault, Refused, Trapped, NoMemory, SinkFault}
+use Rattle.sq_driver.specs.declared.outside.status.Status.{Status}
+use Rattle.sq_driver.specs.declared.outside.status.Status.TheVariants.{Done}
 use Rattle.sq_driver.specs.Ends.{FileCauses}
 use Rattle.sq_words.specs.Words.{eval_of}
 use Rattle.sq_driver.specs.Programs.{IsFirstTypeFault}

@@ -5,10 +5,10 @@ use Rattle.std.proofs.lemmas.List.{append-nil}
 use Rattle.sq_port.proofs.Gained.{gains_both}
 use Rattle.sq_tree.specs.Bank.{BankSeen}
 use Rattle.sq_report.specs.declared.trap.Trap.{Trap}
-use Rattle.sq_driver.specs.declared.status.Status.{Status}
-use Rattle.sq_driver.specs.declared.status.Status.TheVariants.{Done, SinkFault}
-use Rattle.sq_driver.specs.declared.end.End.{End}
-use Rattle.sq_driver.specs.declared.end.End.TheVariants.{Usage as UsageEnd, Absent as AbsentEnd, FileFault as FileFaultEnd, Refused as RefusedEnd, Trapped as TrappedEnd, NoMemory as NoMemoryEnd, SinkFault as SinkFaultEnd}
+use Rattle.sq_driver.specs.declared.outside.status.Status.{Status}
+use Rattle.sq_driver.specs.declared.outside.status.Status.TheVariants.{Done, SinkFault}
+use Rattle.sq_driver.specs.declared.outside.end.End.{End}
+use Rattle.sq_driver.specs.declared.outside.end.End.TheVariants.{Usage as UsageEnd, Absent as AbsentEnd, FileFault as FileFaultEnd, Refused as RefusedEnd, Trapped as TrappedEnd, NoMemory as NoMemoryEnd, SinkFault as SinkFaultEnd}
 use Rattle.sq_words.specs.Words.{Command}
 use Rattle.sq_driver.specs.Phases.{opens}
 use Rattle.sq_driver.specs.Ends.{status_of, end_text}

@@ -28,8 +28,8 @@ use Rattle.sq_orders.specs.declared.order.Chosen.{Chosen}
 use Rattle.sq_meant.specs.Places.{shapes_of, places_of}
 use Rattle.sq_meant.specs.Ends.{stored_in, EndsOnBank}
 use Rattle.sq_words.specs.Words.{Order}
-use Rattle.sq_driver.specs.declared.end.End.{End}
-use Rattle.sq_driver.specs.declared.launch.Launch.{Launch}
+use Rattle.sq_driver.specs.declared.outside.end.End.{End}
+use Rattle.sq_driver.specs.declared.phases.launch.Launch.{Launch}
 use Rattle.sq_driver.specs.Entry.{params_of}
 use Rattle.sq_driver.specs.Outputs.{stored_texts}
 use Rattle.sq_driver.specs.Roots.{places_for, read_flags, read_places, stored_root, read_parts, IsStart}

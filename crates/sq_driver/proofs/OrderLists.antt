@@ -7,7 +7,7 @@ use Rattle.sq_text.specs.declared.fault.Fault.{Fault}
 use Rattle.sq_text.specs.declared.fault.Stop.{Stop}
 use Rattle.sq_text.specs.declared.fault.Stop.TheVariants.{Refused as Refusal}
 use Rattle.sq_picks.specs.OrderList.{order_list, picks_of, words_from, too_long, Gives}
-use Rattle.sq_driver.specs.declared.end.End.TheVariants.{Refused}
+use Rattle.sq_driver.specs.declared.outside.end.End.TheVariants.{Refused}
 use Rattle.sq_driver.specs.Holding.{Holds}
 use Rattle.sq_driver.specs.Ordering.{ReadsList}
 

@@ -13,8 +13,8 @@ use Rattle.sq_report.specs.Figures.{figures, IsSummed}
 use Rattle.sq_report.specs.Reports.{report}
 use Rattle.sq_words.specs.declared.words.Kind.TheVariants as kind
 use Rattle.sq_words.specs.Words.{plan_of}
-use Rattle.sq_driver.specs.declared.end.End.{End}
-use Rattle.sq_driver.specs.declared.end.End.TheVariants.{Usage, Absent, FileFault, Refused, Trapped, NoMemory, SinkFault}
+use Rattle.sq_driver.specs.declared.outside.end.End.{End}
+use Rattle.sq_driver.specs.declared.outside.end.End.TheVariants.{Usage, Absent, FileFault, Refused, Trapped, NoMemory, SinkFault}
 use Rattle.sq_driver.specs.Races.{IsResolved}
 use Rattle.sq_driver.specs.Capacity.{IsFirstCapacityFault}
 use Rattle.sq_driver.specs.Meaning.{done, IsCause}

@@ -23,7 +23,7 @@ use Rattle.sq_root.specs.Flagged.{flagged}
 use Rattle.sq_compile.specs.Compiled.{IsPlanOf}
 use Rattle.sq_meant.specs.Laws.{HasPlaces, PlacesFit}
 use Rattle.sq_meant.specs.Places.{shapes_of, places_of}
-use Rattle.sq_driver.specs.declared.launch.Launch.{Launch}
+use Rattle.sq_driver.specs.declared.phases.launch.Launch.{Launch}
 use Rattle.sq_driver.specs.Entry.{params_of, wants_of}
 use Rattle.sq_driver.specs.Launching.{fault_args, IsLaunch}
 use Rattle.sq_driver.specs.Givens.{Extents}

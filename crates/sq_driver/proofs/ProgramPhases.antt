@@ -7,7 +7,7 @@ use Rattle.sq_text.specs.declared.fault.Fault.{Fault}
 use Rattle.sq_ast.specs.declared.program.Program.{Program as Tree}
 use Rattle.sq_types.specs.Sites.{TypeFault}
 use Rattle.sq_tree.specs.Bank.{BankSeen}
-use Rattle.sq_driver.specs.declared.end.End.{End}
+use Rattle.sq_driver.specs.declared.outside.end.End.{End}
 use Rattle.sq_words.specs.Words.{program, Command}
 use Rattle.sq_driver.specs.Phases.{phases, Inputs, own_inputs, text_or, inputs_of, IsTold}
 use Rattle.sq_driver.specs.Holding.{Holds}

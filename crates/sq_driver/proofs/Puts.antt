@@ -1,10 +1,9 @@
 -- The texts of arrays, put one after another.
-use Rattle.std.proofs.Common.{◌≡◌, ℕ, zero, suc, ◌+◌, ◌*◌, ◌<◌, ◌≤◌, Bool, true, List, [], ◌∷◌, ◌++◌, append_assoc, drop, length, map, get_or, slice_get, Option, Some, Result, Ok, Err, OnOk, OnErr, refl, sym, ◌∙◌, ap, subst, arith}
+use Rattle.std.proofs.Common.{◌≡◌, ℕ, zero, suc, ◌+◌, ◌*◌, ◌<◌, true, List, [], ◌∷◌, ◌++◌, append_assoc, drop, length, map, get_or, slice_get, Option, Some, Result, refl, sym, ◌∙◌, ap, subst, arith}
 use Rattle.std.proofs.lemmas.Option.{slice_get_read, get_or_from_slice_get}
 use Rattle.sq_num.specs.Elements.{width}
-use Rattle.sq_port.specs.Ports.{Gains, GainsPrefix, Rose, Wrote}
+use Rattle.sq_port.specs.Ports.{Wrote}
 use Rattle.sq_port.specs.declared.sink.Failed.{Failed}
-use Rattle.sq_port.proofs.Gained.{gains_nothing, gains_both, prefix_behind, wrote_no_more}
 use Rattle.sq_rect.specs.Extents.{product}
 use Rattle.sq_ast.specs.declared.program.Mode.{Mode}
 use Rattle.sq_ast.specs.declared.program.Param.{Param}
@@ -17,28 +16,6 @@ use Rattle.sq_flat.specs.Held.{Stored, AreWhole}
 use Rattle.sq_driver.specs.Outputs.{stored_output, stored_text, stored_texts}
 use Rattle.sq_driver.proofs.OutTexts.{shape_there, long_at}
 use Rattle.sq_driver.proofs.Wants.{rest_of}
-
--- a text behind one that was put whole
-pub wrote_behind : (start mid now : Option (List ℕ)) (faults mid_faults now_faults : ℕ) (text piece : List ℕ)
-    (so_far result : Result (Unit {0}) Failed) → so_far ≡ Ok tt → Wrote start mid faults mid_faults text so_far
-    → Wrote mid now mid_faults now_faults piece result → Wrote start now faults now_faults (text ++ piece) result
-wrote_behind start mid now faults mid_faults now_faults text piece so_far (Ok tt) is first second =
-    let before = subst (λ (r : Result (Unit {0}) Failed). Wrote start mid faults mid_faults text r) is first in
-    record { ok = (gains_both before.ok.0 second.ok.0, second.ok.1 ∙ before.ok.1); failed = tt }
-wrote_behind start mid now faults mid_faults now_faults text piece so_far (Err failed) is first second =
-    let before = subst (λ (r : Result (Unit {0}) Failed). Wrote start mid faults mid_faults text r) is first in
-    record {
-      ok = tt;
-      failed =
-          (prefix_behind before.ok.0 second.failed.0, subst (λ (f : ℕ). Rose f now_faults) before.ok.1 second.failed.1);
-    }
-
--- and behind one that failed
-pub wrote_none : (start now : Option (List ℕ)) (faults now_faults : ℕ) (text piece : List ℕ)
-    (so_far : Result (Unit {0}) Failed) (failed : Failed) → so_far ≡ Err failed
-    → Wrote start now faults now_faults text so_far → Wrote start now faults now_faults (text ++ piece) (Err failed)
-wrote_none start now faults now_faults text piece so_far failed is first = wrote_no_more start now faults now_faults
-    text piece failed (subst (λ (r : Result (Unit {0}) Failed). Wrote start now faults now_faults text r) is first)
 
 -- the array that is written has this name, element type and extents
 pub wrote_want : (start now : Option (List ℕ)) (faults now_faults : ℕ) (w v : Wanted) (bytes : List ℕ)

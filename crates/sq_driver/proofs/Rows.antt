@@ -1,8 +1,8 @@
 -- Each row of the table of answers, from the answer of the call.
 use Rattle.std.proofs.Common.{◌≡◌, ◌≤◌, arith, ◌≢◌, ◌⊎◌, inl, inr, ℕ, Option, Some, None, refl, sym, ◌∙◌, ap, subst}
 use Rattle.sq_port.specs.Ports.{Content, Rose}
-use Rattle.sq_driver.specs.declared.status.Status.{Status}
-use Rattle.sq_driver.specs.declared.status.Status.TheVariants.{Done, Refused, Trapped, Usage, FileFault, SinkFault, NoMemory, Absent}
+use Rattle.sq_driver.specs.declared.outside.status.Status.{Status}
+use Rattle.sq_driver.specs.declared.outside.status.Status.TheVariants.{Done, Refused, Trapped, Usage, FileFault, SinkFault, NoMemory, Absent}
 use Rattle.sq_tree.specs.Bank.{BankSeen}
 use Rattle.sq_words.specs.Words.{Command}
 use Rattle.sq_driver.specs.Meaning.{Answer, done, refused, trapped, usage, file_fault, no_memory, absent, IsCause, Means}

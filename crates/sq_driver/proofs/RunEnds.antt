@@ -21,9 +21,9 @@ use Rattle.sq_orders.specs.declared.order.Chosen.{Chosen}
 use Rattle.sq_orders.specs.Chosen.{chosen_held, chosen_answer, chosen_next}
 use Rattle.sq_words.specs.Words.{Order, run_of}
 use Rattle.sq_report.specs.declared.trap.Trap.{Trap}
-use Rattle.sq_driver.specs.declared.end.End.{End}
-use Rattle.sq_driver.specs.declared.end.End.TheVariants.{Trapped, SinkFault}
-use Rattle.sq_driver.specs.declared.launch.Launch.{Launch}
+use Rattle.sq_driver.specs.declared.outside.end.End.{End}
+use Rattle.sq_driver.specs.declared.outside.end.End.TheVariants.{Trapped, SinkFault}
+use Rattle.sq_driver.specs.declared.phases.launch.Launch.{Launch}
 use Rattle.sq_driver.specs.Entry.{params_of}
 use Rattle.sq_driver.specs.Givens.{read_wants}
 use Rattle.sq_driver.specs.Outputs.{stored_texts}

@@ -15,10 +15,10 @@ use Rattle.sq_orders.specs.Chosen.{chosen_held}
 use Rattle.sq_tree.specs.Bank.{BankSeen}
 use Rattle.sq_words.specs.declared.options.Way.{Way}
 use Rattle.sq_words.specs.Words.{asked, run_of}
-use Rattle.sq_driver.specs.declared.status.Status.TheVariants.{NoMemory, Absent, FileFault}
-use Rattle.sq_driver.specs.declared.end.End.{End}
+use Rattle.sq_driver.specs.declared.outside.status.Status.TheVariants.{NoMemory, Absent, FileFault}
+use Rattle.sq_driver.specs.declared.outside.end.End.{End}
 use Rattle.sq_driver.specs.Ends.{FileCauses}
-use Rattle.sq_driver.specs.declared.launch.Launch.{Launch}
+use Rattle.sq_driver.specs.declared.phases.launch.Launch.{Launch}
 use Rattle.sq_driver.specs.Phases.{text_of, IsTold}
 use Rattle.sq_driver.specs.Races.{IsResolved}
 use Rattle.sq_driver.specs.Capacity.{IsFirstCapacityFault}

@@ -30,9 +30,9 @@ use Rattle.sq_words.specs.declared.words.Kind.TheVariants.{Run}
 use Rattle.sq_words.specs.Words as words
 use Rattle.sq_words.specs.Words.{Way, Order, run_of}
 use Rattle.sq_report.specs.declared.trap.Trap.{Trap}
-use Rattle.sq_driver.specs.declared.end.End.{End}
-use Rattle.sq_driver.specs.declared.end.End.TheVariants.{Usage, Absent, FileFault, Refused, Trapped, NoMemory, SinkFault}
-use Rattle.sq_driver.specs.declared.launch.Launch.{Launch}
+use Rattle.sq_driver.specs.declared.outside.end.End.{End}
+use Rattle.sq_driver.specs.declared.outside.end.End.TheVariants.{Usage, Absent, FileFault, Refused, Trapped, NoMemory, SinkFault}
+use Rattle.sq_driver.specs.declared.phases.launch.Launch.{Launch}
 use Rattle.sq_driver.specs.Phases.{text_of, inputs_of, IsTold}
 use Rattle.sq_driver.specs.Entry.{params_of, start_of, outputs_from, GivesFlat, TrapsFlat}
 use Rattle.sq_driver.specs.Outputs.{stored_texts}

@@ -15,8 +15,8 @@ use Rattle.sq_spec.specs.declared.resolved.Resolved.{Resolved}
 use Rattle.sq_race.specs.declared.forms.Found.{Found}
 use Rattle.sq_race.specs.Race.{variant_by, maps_by, HoldsIn, HoldsAt, IsFirstRace}
 use Rattle.sq_tree.specs.Bank.{BankSeen}
-use Rattle.sq_driver.specs.declared.end.End.{End}
-use Rattle.sq_driver.specs.declared.end.End.TheVariants.{Usage, Absent, FileFault, Refused, Trapped, NoMemory, SinkFault}
+use Rattle.sq_driver.specs.declared.outside.end.End.{End}
+use Rattle.sq_driver.specs.declared.outside.end.End.TheVariants.{Usage, Absent, FileFault, Refused, Trapped, NoMemory, SinkFault}
 use Rattle.sq_words.specs.Words.{Command}
 use Rattle.sq_driver.specs.Phases.{phases, Inputs, inputs_of, IsTold}
 use Rattle.sq_driver.specs.Holding.{Holds, HoldsOnly}

@@ -5,8 +5,8 @@ use Rattle.sq_port.proofs.Gained.{gains_nothing}
 use Rattle.sq_text.specs.declared.code.Phase.{Phase}
 use Rattle.sq_text.specs.declared.fault.Fault.{Fault}
 use Rattle.sq_tree.specs.Bank.{BankSeen}
-use Rattle.sq_driver.specs.declared.end.End.{End}
-use Rattle.sq_driver.specs.declared.end.End.TheVariants.{Usage, Absent, FileFault, Refused, Trapped, NoMemory, SinkFault}
+use Rattle.sq_driver.specs.declared.outside.end.End.{End}
+use Rattle.sq_driver.specs.declared.outside.end.End.TheVariants.{Usage, Absent, FileFault, Refused, Trapped, NoMemory, SinkFault}
 use Rattle.sq_words.specs.Words.{Files, Command}
 use Rattle.sq_driver.specs.Phases.{file_of, is_open_at, inputs_of, IsTold}
 use Rattle.sq_driver.specs.Faults.{IsFirstOf}

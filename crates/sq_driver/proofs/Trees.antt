@@ -12,7 +12,7 @@ use Rattle.sq_lexer.specs.Faults as lexing
 use Rattle.sq_parser.specs.Programs as parsing
 use Rattle.sq_ast.specs.declared.program.Program.{Program as Tree}
 use Rattle.sq_ast.specs.Given.{IsGiven}
-use Rattle.sq_driver.specs.declared.end.End.TheVariants as end
+use Rattle.sq_driver.specs.declared.outside.end.End.TheVariants as end
 use Rattle.sq_driver.specs.Programs.{IsProgramText, ProgramFault, too_long_fault}
 use Rattle.sq_driver.specs.Holding.{Holds}
 use Rattle.sq_driver.specs.Steps.{ReadsTree}

@@ -10,8 +10,8 @@ use Rattle.sq_text.specs.Answers.{Answers}
 use Rattle.sq_text.specs.First.{InTurn, AtOrBefore}
 use Rattle.sq_text.specs.Faults.{IsFirst, fault_place, fault_number}
 use Rattle.sq_lexer.specs.Faults.{FitsFile, IsTooLong, HasFault, too_long, breaks}
-use Rattle.sq_driver.specs.declared.end.End.{End}
-use Rattle.sq_driver.specs.declared.end.End.TheVariants.{Usage, Absent, FileFault, Refused, Trapped, NoMemory, SinkFault}
+use Rattle.sq_driver.specs.declared.outside.end.End.{End}
+use Rattle.sq_driver.specs.declared.outside.end.End.TheVariants.{Usage, Absent, FileFault, Refused, Trapped, NoMemory, SinkFault}
 use Rattle.sq_driver.specs.Holding.{Holds}
 use Rattle.sq_driver.specs.Programs.{too_long_fault}
 use Rattle.sq_driver.specs.Steps.{HoldsRight, ReadsFitting, ReadsRight}

@@ -13,8 +13,8 @@ use Rattle.sq_leaf.specs.declared.shape.Shape.{Shape}
 use Rattle.sq_work.specs.Meaning.{Outcome}
 use Rattle.sq_flat.specs.Held.{Stored}
 use Rattle.sq_flat.specs.Ends.{HoldsEnd}
-use Rattle.sq_driver.specs.declared.end.End.{End}
-use Rattle.sq_driver.specs.declared.end.End.TheVariants.{Refused, Trapped, NoMemory, SinkFault}
+use Rattle.sq_driver.specs.declared.outside.end.End.{End}
+use Rattle.sq_driver.specs.declared.outside.end.End.TheVariants.{Refused, Trapped, NoMemory, SinkFault}
 use Rattle.sq_words.specs.Words.{Command}
 use Rattle.sq_driver.specs.Sources.{IsMachineText, IsFirstMachineFault, IsMappingText, IsFirstMappingFault}
 use Rattle.sq_driver.specs.Meaning.{done, IsCause}

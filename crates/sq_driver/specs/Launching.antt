@@ -15,8 +15,8 @@ use Rattle.sq_root.specs.Places.{parts}
 use Rattle.sq_orders.specs.declared.order.Chosen.{Chosen}
 use Rattle.sq_orders.specs.Chosen.{chosen_held}
 use Rattle.sq_words.specs.Words.{Order, run_of}
-use Rattle.sq_driver.specs.declared.end.End.{End}
-use Rattle.sq_driver.specs.declared.launch.Launch.{Launch}
+use Rattle.sq_driver.specs.declared.outside.end.End.{End}
+use Rattle.sq_driver.specs.declared.phases.launch.Launch.{Launch}
 use Rattle.sq_driver.specs.Phases.{text_of}
 use Rattle.sq_driver.specs.Races.{IsResolved}
 use Rattle.sq_compile.specs.Compiled.{IsPlanOf}

@@ -6,7 +6,7 @@ use Rattle.sq_text.specs.declared.fault.Fault.{Fault}
 use Rattle.sq_orders.specs.declared.order.Chosen.{Chosen}
 use Rattle.sq_orders.specs.Chosen.{chosen_held}
 use Rattle.sq_words.specs.Words.{Order}
-use Rattle.sq_driver.specs.declared.end.End.{End}
+use Rattle.sq_driver.specs.declared.outside.end.End.{End}
 use Rattle.sq_driver.specs.Phases.{text_of}
 use Rattle.sq_driver.specs.Holding.{Holds}
 use Rattle.sq_driver.specs.Orders.{IsOrderList, ListFault, ListHolds, HeldBy}

@@ -3,10 +3,10 @@ use Rattle.std.specs.Prelude.{◌≡◌, ◌≤◌, ℕ, List, [], ◌++◌, tak
 use Rattle.sq_port.specs.Ports.{Content, Rose, Gains, GainsPrefix}
 use Rattle.sq_text.specs.declared.code.Phase.{Phase}
 use Rattle.sq_tree.specs.Bank.{BankSeen}
-use Rattle.sq_driver.specs.declared.status.Status.{Status}
-use Rattle.sq_driver.specs.declared.status.Status.TheVariants.{Done as DoneStatus, Refused as RefusedStatus, Trapped as TrappedStatus, Usage as UsageStatus, FileFault as FileFaultStatus, NoMemory as NoMemoryStatus, Absent as AbsentStatus}
-use Rattle.sq_driver.specs.declared.end.End.{End}
-use Rattle.sq_driver.specs.declared.end.End.TheVariants.{Usage, Absent, FileFault, Refused, Trapped, NoMemory, SinkFault}
+use Rattle.sq_driver.specs.declared.outside.status.Status.{Status}
+use Rattle.sq_driver.specs.declared.outside.status.Status.TheVariants.{Done as DoneStatus, Refused as RefusedStatus, Trapped as TrappedStatus, Usage as UsageStatus, FileFault as FileFaultStatus, NoMemory as NoMemoryStatus, Absent as AbsentStatus}
+use Rattle.sq_driver.specs.declared.outside.end.End.{End}
+use Rattle.sq_driver.specs.declared.outside.end.End.TheVariants.{Usage, Absent, FileFault, Refused, Trapped, NoMemory, SinkFault}
 use Rattle.sq_report.specs.Answers.{named_line, fault_line, trap_line}
 use Rattle.sq_driver.specs.Texts.{usage_line}
 use Rattle.sq_words.specs.Words.{Command}

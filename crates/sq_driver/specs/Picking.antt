@@ -11,7 +11,7 @@ use Rattle.sq_ast.specs.Modes.{is_read}
 use Rattle.sq_forms.specs.Resolving.{entry_extents}
 use Rattle.sq_spec.specs.declared.resolved.Resolved.{Resolved}
 use Rattle.sq_flat.specs.Held.{Stored, Holds}
-use Rattle.sq_driver.specs.declared.end.End.{End}
+use Rattle.sq_driver.specs.declared.outside.end.End.{End}
 use Rattle.sq_driver.specs.Data.{data_fault}
 use Rattle.sq_driver.specs.Entry.{params_of, wants_of, start_of}
 use Rattle.sq_driver.specs.Givens.{Extents, read_wants, Given}

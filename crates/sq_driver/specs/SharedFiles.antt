@@ -6,7 +6,7 @@ use Rattle.sq_text.specs.declared.code.Phase.TheVariants.{Program, Types, Machin
 use Rattle.sq_tree.specs.Bank.{BankSeen}
 use Rattle.sq_words.specs.declared.words.Kind.{Kind}
 use Rattle.sq_words.specs.Words.{program, mapping, machine, with_file, Command}
-use Rattle.sq_driver.specs.declared.end.End.{End}
+use Rattle.sq_driver.specs.declared.outside.end.End.{End}
 use Rattle.sq_driver.specs.Phases.{phases}
 use Rattle.sq_driver.specs.Steps.{Stopped}
 

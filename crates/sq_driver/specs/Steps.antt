@@ -7,8 +7,8 @@ use Rattle.sq_text.specs.declared.code.Phase.TheVariants.{Program}
 use Rattle.sq_text.specs.declared.fault.Fault.{Fault}
 use Rattle.sq_tree.specs.Bank.{BankSeen}
 use Rattle.sq_ast.specs.declared.program.Program.{Program as Tree}
-use Rattle.sq_driver.specs.declared.end.End.{End}
-use Rattle.sq_driver.specs.declared.end.End.TheVariants.{Usage, Absent, FileFault, Refused, Trapped, NoMemory, SinkFault}
+use Rattle.sq_driver.specs.declared.outside.end.End.{End}
+use Rattle.sq_driver.specs.declared.outside.end.End.TheVariants.{Usage, Absent, FileFault, Refused, Trapped, NoMemory, SinkFault}
 use Rattle.sq_words.specs.Words.{Command}
 use Rattle.sq_driver.specs.Holding.{Holds, HoldsOnly}
 use Rattle.sq_driver.specs.Programs.{IsProgramText, ProgramFault, too_long_fault}

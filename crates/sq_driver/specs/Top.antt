@@ -1,9 +1,9 @@
 -- The answer to some words: its cause, its texts, its counts and its bank.
 use Rattle.std.specs.Prelude.{◌≡◌, ◌⊎◌, ℕ, Option, Some, None, Result}
 use Rattle.sq_port.specs.Ports.{Content, Rose}
-use Rattle.sq_driver.specs.declared.status.Status.{Status}
-use Rattle.sq_driver.specs.declared.status.Status.TheVariants.{Usage, FileFault, SinkFault, NoMemory, Absent}
-use Rattle.sq_driver.specs.declared.end.End.{End}
+use Rattle.sq_driver.specs.declared.outside.status.Status.{Status}
+use Rattle.sq_driver.specs.declared.outside.status.Status.TheVariants.{Usage, FileFault, SinkFault, NoMemory, Absent}
+use Rattle.sq_driver.specs.declared.outside.end.End.{End}
 use Rattle.sq_tree.specs.Bank.{BankSeen}
 use Rattle.sq_words.specs.Words.{Command}
 use Rattle.sq_driver.specs.Phases.{IsTold}

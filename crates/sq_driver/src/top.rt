@@ -8,9 +8,9 @@ ghost use Rattle.sq_driver.specs.Banks.{Writing};
 ghost use Rattle.sq_driver.specs.Outcome.{Outside, Puts, ResultFor, trace_for};
 ghost use Rattle.sq_driver.specs.Top.{Answered, Executed, Finished, IsExplained, IsOnly, IsUndisturbed};
 
-use crate::end::{End, put_end};
-use crate::status::Status;
-use crate::world::{Perform, World};
+use crate::outside::end::{End, put_end};
+use crate::outside::status::Status;
+use crate::outside::world::{Perform, World};
 use sq_port::{Failed, Files, Sink};
 use sq_tree::Bank;
 use sq_words::{Command, parse};

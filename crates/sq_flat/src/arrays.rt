@@ -43,7 +43,11 @@ impl Model for Arrays {
 
 // Zeros in the arrays that these views show.
 fn zeros_in(alloc: Global, views: Views) -> Result<Arrays, AllocError>
-    ensures { IfOk result (λ a. a ≡ record { shapes = map shape_of views; bytes = spec.zero_bytes (map shape_of views) }) }
+    ensures { IfOk result (λ a. a ≡ record {
+      shapes = map shape_of views;
+      bytes = spec.zero_bytes
+          (map shape_of views);
+    }) }
 {
     if !are_lined(views.as_slice()) {
         return Err(AllocError);
@@ -75,7 +79,8 @@ fn put_in(views: &[View], array: usize, at: usize, part: &[u8], bytes: &mut [u8]
     requires there { array < length views.now }
     requires stored { spec.AreStored views.now bytes.old }
     requires part { spec.HasPart (spec.split (map shape_of views.now) bytes.old) array at (length part.now) }
-    ensures { spec.split (map shape_of views.now) bytes.new ≡ spec.put_part array at part.now (spec.split (map shape_of views.now) bytes.old) }
+    ensures { spec.split (map shape_of views.now) bytes.new ≡ spec.put_part array at part.now
+        (spec.split (map shape_of views.now) bytes.old) }
 {
     put_part(&views[array], at, part, bytes);
 }
@@ -84,7 +89,8 @@ impl Arrays {
     /// Zeros, in the shapes of the parameters of a program's entry. Also without memory where the arrays are more than
     /// 32, or where one of them would begin 2^32 bytes or more behind the first.
     pub fn new(alloc: Global, r: &Resolved<'_>) -> Result<Arrays, AllocError>
-        ensures shapes { IfOk result (λ a. a.shapes ≡ spec.entry_shapes r.now.typed.now.tasks r.now.mapping.now r.now.found.entries) }
+        ensures shapes { IfOk result (λ a. a.shapes ≡ spec.entry_shapes r.now.typed.now.tasks r.now.mapping.now
+            r.now.found.entries) }
         ensures zeros { IfOk result (λ a. a.bytes ≡ spec.zero_bytes a.shapes) }
         ensures whole { IfOk result (λ a. spec.AreWhole a) }
     {
@@ -106,7 +112,11 @@ impl Arrays {
     /// Makes the bytes of an array from that place on those of `bytes`.
     pub fn put(&mut self, array: usize, at: usize, bytes: &[u8])
         requires { spec.HasPart self.old.bytes array at (length bytes.now) }
-        ensures { self.new ≡ record { shapes = self.old.shapes; bytes = spec.put_part array at bytes.now self.old.bytes } }
+        ensures { self.new ≡ record {
+          shapes = self.old.shapes;
+          bytes = spec.put_part array at bytes.now
+              self.old.bytes;
+        } }
     {
         put_in(
             self.views.as_slice(),
@@ -133,7 +143,9 @@ impl Arrays {
         forms: &[FormCode],
         entry: &CallInstance,
     ) -> Result<(), End>
-        ensures { (s : SpecArrays) → spec.Holds self.old.shapes self.old.bytes s → HoldsInside self.old.shapes self.new result (serial (Call entry.now.form false entry.now.args (form_work forms.now (length forms.now) entry.now.form)) s) }
+        ensures { (s : SpecArrays) → spec.Holds self.old.shapes self.old.bytes s
+            → HoldsInside self.old.shapes self.new result (serial (Call entry.now.form false entry.now.args
+            (form_work forms.now (length forms.now) entry.now.form)) s) }
     {
         run_call(alloc, forms, entry, &self.views, self.bytes.as_mut_slice())
     }

@@ -53,7 +53,8 @@ fn push_pieces(
     requires size { size ≡ width * product extents.now }
     requires inside { span.now.hi * size ≤ length array.now }
     requires within { Fits spans.now extents.now }
-    ensures { OnOk result (into.new.items ≡ into.old.items ++ pieces_bytes width spans.now extents.now size array.now span.now) }
+    ensures { OnOk result (into.new.items ≡ into.old.items ++ pieces_bytes width spans.now extents.now size array.now
+        span.now) }
 {
     for x in span.lo..span.hi {
         let at = x as usize * size;

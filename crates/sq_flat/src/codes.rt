@@ -46,7 +46,8 @@ fn code_of(body: FormBody) -> Option<FormCode>
 
 /// The codes of all forms, by their numbers.
 pub fn codes_of(alloc: Global, r: &Resolved<'_>) -> Result<Items<FormCode>, AllocError>
-    ensures { IfOk result (λ codes. spec.AreCodes r.now.typed.now.tasks r.now.mapping.now.instances r.now.found.entries codes) }
+    ensures { IfOk result (λ codes. spec.AreCodes r.now.typed.now.tasks r.now.mapping.now.instances r.now.found.entries
+        codes) }
 {
     forms_are_those_found();
     let Ok(count) = u32::try_from(r.forms().len()) else {

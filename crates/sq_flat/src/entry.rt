@@ -41,7 +41,8 @@ fn shapes_of(alloc: Global, params: &[Param], extents: &[Dims]) -> Result<Items<
 
 /// The shapes of the entry's parameters.
 pub fn entry_shapes(alloc: Global, r: &Resolved<'_>) -> Result<Items<Shape>, AllocError>
-    ensures { IfOk result (λ shapes. shapes ≡ spec.entry_shapes r.now.typed.now.tasks r.now.mapping.now r.now.found.entries) }
+    ensures { IfOk result (λ shapes. shapes ≡ spec.entry_shapes r.now.typed.now.tasks r.now.mapping.now
+        r.now.found.entries) }
 {
     let Some(extents) = entry_extents(r) else {
         return Err(AllocError);
@@ -52,7 +53,13 @@ pub fn entry_shapes(alloc: Global, r: &Resolved<'_>) -> Result<Items<Shape>, All
 
 // All of the i-th array.
 fn argument(i: usize, p: &Param, extents: &Dims) -> Option<Argument>
-    ensures { IfSome result (λ a. a ≡ record { mode = p.now.mode; is_reduced = false; array = i; rect = all_of extents.now }) }
+    ensures { IfSome result (λ a. a ≡ record {
+      mode = p.now.mode;
+      is_reduced = false;
+      array = i;
+      rect = all_of
+          extents.now;
+    }) }
 {
     let rect = whole(extents)?;
     let Ok(array) = u32::try_from(i) else {
@@ -89,7 +96,11 @@ fn arguments(
 
 /// The call of the entry with the arrays of its parameters.
 pub fn entry_call(alloc: Global, r: &Resolved<'_>) -> Result<CallInstance, AllocError>
-    ensures { IfOk result (λ call. call ≡ record { form = 0; args = spec.entry_args r.now.typed.now.tasks r.now.mapping.now r.now.found.entries }) }
+    ensures { IfOk result (λ call. call ≡ record {
+      form = 0;
+      args = spec.entry_args r.now.typed.now.tasks
+          r.now.mapping.now r.now.found.entries;
+    }) }
 {
     let Some(extents) = entry_extents(r) else {
         return Err(AllocError);

@@ -18,8 +18,8 @@ ghost use Rattle.sq_flat.specs.Works as spec;
 use crate::form::{End, FormCode, Unwound};
 use crate::memory::{clear, combine, enter, leave, saved};
 use crate::ready::{are_ready, reaches};
-use sq_leaf::laws::arrays_in_line_can_be_run_over;
 use sq_leaf::LeafCode;
+use sq_leaf::laws::arrays_in_line_can_be_run_over;
 use sq_leaf_run::run_leaf;
 use sq_rect::Views;
 use sq_spec::{Body, CallInstance, LoopKind, Statement};
@@ -36,7 +36,8 @@ struct Setting<'a> {
 
 fn leaf(code: &LeafCode, views: &Views, bytes: &mut [u8], alloc: Global) -> Result<(), End>
     requires line { are_in_line 0 (length bytes.old) views.now ≡ true }
-    ensures { (s : Arrays) → Shows views.now bytes.old s → spec.Follows views.now bytes.new result (leaf_outcome (leaf_value code.now (map shape_of views.now) s)) }
+    ensures { (s : Arrays) → Shows views.now bytes.old s → spec.Follows views.now bytes.new result
+        (leaf_outcome (leaf_value code.now (map shape_of views.now) s)) }
 {
     arrays_in_line_can_be_run_over();
     match run_leaf(code, bytes, views) {
@@ -50,7 +51,8 @@ fn leaf(code: &LeafCode, views: &Views, bytes: &mut [u8], alloc: Global) -> Resu
 
 // The trap's path begins with the number of the iteration.
 fn in_iteration(end: End, t: u32) -> End
-    ensures { (vs : List View) (bytes : List ℕ) (outcome : Outcome) → spec.Follows vs bytes (Err end) outcome → spec.Follows vs bytes (Err result) (with_turn t outcome) }
+    ensures { (vs : List View) (bytes : List ℕ) (outcome : Outcome) → spec.Follows vs bytes (Err end) outcome
+        → spec.Follows vs bytes (Err result) (with_turn t outcome) }
 {
     match end {
         End::NoMemory => End::NoMemory,
@@ -90,7 +92,8 @@ fn statements(
     requires placed { memory.ArePlaced views.now bytes.old }
     requires forms { ready.AreForms setting.now.forms.now }
     requires rows { ready.AreReady setting.now.forms.now views.now list.now }
-    ensures { (s : Arrays) → Shows views.now bytes.old s → spec.Follows views.now bytes.new result (serial (spec.list_work (spec.form_work setting.now.forms.now calls) list.now k) s) }
+    ensures { (s : Arrays) → Shows views.now bytes.old s → spec.Follows views.now bytes.new result
+        (serial (spec.list_work (spec.form_work setting.now.forms.now calls) list.now k) s) }
 {
     for s in list {
         match statement(s, k, setting, calls, left, views, bytes) {
@@ -115,7 +118,8 @@ fn statement(
     requires placed { memory.ArePlaced views.now bytes.old }
     requires forms { ready.AreForms setting.now.forms.now }
     requires rows { ready.AreReady setting.now.forms.now views.now (s.now ∷ []) }
-    ensures { (a : Arrays) → Shows views.now bytes.old a → spec.Follows views.now bytes.new result (serial (statement_work (spec.form_work setting.now.forms.now calls) s.now k) a) }
+    ensures { (a : Arrays) → Shows views.now bytes.old a → spec.Follows views.now bytes.new result
+        (serial (statement_work (spec.form_work setting.now.forms.now calls) s.now k) a) }
 {
     match s {
         Statement::Call {
@@ -157,7 +161,9 @@ fn turns(
     requires placed { memory.ArePlaced views.now bytes.old }
     requires forms { ready.AreForms setting.now.forms.now }
     requires rows { ready.AreReady setting.now.forms.now views.now body.now }
-    ensures { (s : Arrays) → Shows views.now bytes.old s → spec.Follows views.now bytes.new result (in_turn count (λ t. spec.turn_of kind.now (serial (spec.list_work (spec.form_work setting.now.forms.now calls) body.now (from + t)))) s) }
+    ensures { (s : Arrays) → Shows views.now bytes.old s → spec.Follows views.now bytes.new result
+        (in_turn count (λ t. spec.turn_of kind.now (serial (spec.list_work (spec.form_work setting.now.forms.now calls)
+        body.now (from + t)))) s) }
 {
     if left == 0 {
         return Err(End::NoMemory);
@@ -190,7 +196,8 @@ fn turn(
     requires placed { memory.ArePlaced views.now bytes.old }
     requires forms { ready.AreForms setting.now.forms.now }
     requires rows { ready.AreReady setting.now.forms.now views.now body.now }
-    ensures { (s : Arrays) → Shows views.now bytes.old s → spec.Follows views.now bytes.new result (spec.turn_of kind.now (serial (spec.list_work (spec.form_work setting.now.forms.now calls) body.now k)) s) }
+    ensures { (s : Arrays) → Shows views.now bytes.old s → spec.Follows views.now bytes.new result
+        (spec.turn_of kind.now (serial (spec.list_work (spec.form_work setting.now.forms.now calls) body.now k)) s) }
 {
     match kind {
         LoopKind::Sequential | LoopKind::Parallel => {
@@ -216,7 +223,8 @@ fn gather(
     requires placed { memory.ArePlaced views.now bytes.old }
     requires forms { ready.AreForms setting.now.forms.now }
     requires rows { ready.AreReady setting.now.forms.now views.now body.now }
-    ensures { (s : Arrays) → Shows views.now bytes.old s → spec.Follows views.now bytes.new result (gathering r.now (serial (spec.list_work (spec.form_work setting.now.forms.now calls) body.now k)) s) }
+    ensures { (s : Arrays) → Shows views.now bytes.old s → spec.Follows views.now bytes.new result
+        (gathering r.now (serial (spec.list_work (spec.form_work setting.now.forms.now calls) body.now k)) s) }
 {
     let Some(view) = at(views.as_slice(), r.array as usize) else {
         return Err(End::NoMemory);
@@ -250,7 +258,9 @@ fn call(
     requires placed { memory.ArePlaced views.now bytes.old }
     requires forms { ready.AreForms setting.now.forms.now }
     requires row { ready.RowFits setting.now.forms.now views.now r.now }
-    ensures { (lower : Bool) (s : Arrays) → Shows views.now bytes.old s → spec.Follows views.now bytes.new result (serial (Call r.now.form lower r.now.args (spec.form_work setting.now.forms.now calls r.now.form)) s) }
+    ensures { (lower : Bool) (s : Arrays) → Shows views.now bytes.old s
+        → spec.Follows views.now bytes.new result (serial (Call r.now.form lower r.now.args
+        (spec.form_work setting.now.forms.now calls r.now.form)) s) }
 {
     if left == 0 || calls == 0 {
         return Err(End::NoMemory);
@@ -285,7 +295,8 @@ fn run(
     requires form { ready.IsForm setting.now.forms.now f.now }
     requires forms { ready.AreForms setting.now.forms.now }
     requires size { length bytes.old ≡ memory.total (map shape_of f.now.views) }
-    ensures { (s : Arrays) → Shows f.now.views bytes.old s → spec.Follows f.now.views bytes.new result (serial (running (spec.form_work setting.now.forms.now calls) (map shape_of f.now.views) f.now.body) s) }
+    ensures { (s : Arrays) → Shows f.now.views bytes.old s → spec.Follows f.now.views bytes.new result
+        (serial (running (spec.form_work setting.now.forms.now calls) (map shape_of f.now.views) f.now.body) s) }
 {
     match &f.body {
         Body::Leaf(code) => leaf(code, &f.views, bytes, setting.alloc),
@@ -308,7 +319,8 @@ pub fn run_call(
 ) -> Result<(), End>
     requires line { ready.IsLine views.now }
     requires placed { memory.ArePlaced views.now bytes.old }
-    ensures { (s : Arrays) → Shows views.now bytes.old s → spec.Follows views.now bytes.new result (serial (Call r.now.form false r.now.args (spec.form_work forms.now (length forms.now) r.now.form)) s) }
+    ensures { (s : Arrays) → Shows views.now bytes.old s → spec.Follows views.now bytes.new result
+        (serial (Call r.now.form false r.now.args (spec.form_work forms.now (length forms.now) r.now.form)) s) }
 {
     if !are_ready(forms) || !reaches(views.as_slice(), r, at(forms, r.form)) {
         return Err(End::NoMemory);

@@ -74,7 +74,8 @@ fn flat_end(end: End) -> FlatEnd
 pub fn eval_flat(alloc: Global, r: &Resolved<'_>, arrays: Arrays) -> Result<Arrays, FlatEnd>
     requires race_free { IsRaceFree (work_of r.now.typed.now.tasks r.now.mapping.now r.now.found.entries) }
     requires shapes { arrays.shapes ≡ entry_shapes r.now.typed.now.tasks r.now.mapping.now r.now.found.entries }
-    ensures { (s : SpecArrays) → Holds arrays.shapes arrays.bytes s → Evaluates arrays.shapes result (flat r.now.typed.now r.now.mapping.now s) }
+    ensures { (s : SpecArrays) → Holds arrays.shapes arrays.bytes s → Evaluates arrays.shapes result
+        (flat r.now.typed.now r.now.mapping.now s) }
 {
     tables_mean_the_program();
     let Ok(codes) = codes_of(alloc, r) else {

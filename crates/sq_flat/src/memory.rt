@@ -1,6 +1,7 @@
 //! The arrays of a form in one memory.
 
-ghost use Rattle.std.specs.Prelude.{◌≡◌, ◌*◌, ◌+◌, ◌^◌, ◌<◌, ◌≤◌, ◌++◌, Option, Some, ℕ, length, replicate, slice_get, OnOk, IfOk};
+ghost use Rattle.std.specs.Prelude.{◌≡◌, ◌*◌, ◌+◌, ◌^◌, ◌<◌, ◌≤◌, ◌++◌, Option, Some, ℕ, length, replicate, slice_get};
+ghost use Rattle.std.specs.Prelude.{OnOk, IfOk};
 ghost use Rattle.std.specs.Option.{option_copied};
 ghost use Rattle.sq_rect.specs.declared.view.View.{View as SpecView};
 ghost use Rattle.sq_blocks.specs.declared.argument.Argument.{Argument as SpecArgument};
@@ -59,7 +60,8 @@ fn push_argument(
 ) -> Result<(), AllocError>
     requires placed { spec.ArePlaced outer.now bytes.now }
     requires fits { (v : SpecView) → slice_get outer.now a.now.array ≡ Some v → Fits a.now.rect v.extents }
-    ensures { OnOk result (into.new.items ≡ into.old.items ++ spec.block_in bytes.now a.now (slice_get outer.now a.now.array)) }
+    ensures { OnOk result (into.new.items ≡ into.old.items ++ spec.block_in bytes.now a.now
+        (slice_get outer.now a.now.array)) }
 {
     match at(outer, a.array as usize) {
         None => Ok(()),
@@ -91,9 +93,11 @@ fn push_array(
     into: &mut Vec<u8>,
 ) -> Result<(), AllocError>
     requires placed { spec.ArePlaced outer.now bytes.now }
-    requires fits { (x : SpecArgument) (v : SpecView) → option_copied a ≡ Some x → slice_get outer.now x.array ≡ Some v → Fits x.rect v.extents }
+    requires fits { (x : SpecArgument) (v : SpecView) → option_copied a ≡ Some x → slice_get outer.now x.array ≡ Some v
+        → Fits x.rect v.extents }
     requires small { spec.size view.now < 2 ^ 32 }
-    ensures { OnOk result (into.new.items ≡ into.old.items ++ spec.param_bytes outer.now bytes.now (option_copied a.entry) view.now) }
+    ensures { OnOk result (into.new.items ≡ into.old.items ++ spec.param_bytes outer.now bytes.now
+        (option_copied a.entry) view.now) }
 {
     match a {
         Some(a) if is_read(a.mode) => push_argument(a, outer, bytes, into),

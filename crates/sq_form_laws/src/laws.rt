@@ -1,9 +1,12 @@
 //! What follows from the definitions of the walk.
 
-ghost use Rattle.sq_form_laws.specs.Laws.{FirstFault, AllPassed, KeyIsForm, PassedIsUnaliased, AliasIsExact, InPlaceIsApart, FlagsAreExact, ShapeIsExact, LimitIsExact, EachWalked, FewForms, CallersFirst};
+ghost use Rattle.sq_form_laws.specs.Laws.{FirstFault, AllPassed, KeyIsForm, PassedIsUnaliased, AliasIsExact};
+ghost use Rattle.sq_form_laws.specs.Laws.{InPlaceIsApart, FlagsAreExact, ShapeIsExact, LimitIsExact, EachWalked};
+ghost use Rattle.sq_form_laws.specs.Laws.{FewForms, CallersFirst};
 ghost use Rattle.sq_form_laws.specs.Insides.{ArgumentsLieInside, AccessesLieInside};
 ghost use Rattle.sq_form_laws.specs.Served.{CallsAreServed, FormsFit, FormsRun};
-ghost use Rattle.sq_form_laws.specs.Reached.{CallsAreReached, UsesAreInOrder, AsManyForms, FormsAreFound, FormsCallersFirst, FormsRan};
+ghost use Rattle.sq_form_laws.specs.Reached.{CallsAreReached, UsesAreInOrder, AsManyForms, FormsAreFound};
+ghost use Rattle.sq_form_laws.specs.Reached.{FormsCallersFirst, FormsRan};
 
 /// The walk stops at the first of its steps that is at fault.
 pub fn first_fault_is_first()

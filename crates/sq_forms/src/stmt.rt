@@ -1,6 +1,7 @@
 //! Statements, as they would run.
 
-ghost use Rattle.std.specs.Prelude.{◌≡◌, ◌≤◌, ◌<◌, ◌+◌, ◌∷◌, ◌++◌, List, [], Some, Ok, true, is_some, map, take, IfOk, OnOk};
+ghost use Rattle.std.specs.Prelude.{◌≡◌, ◌≤◌, ◌<◌, ◌+◌, ◌∷◌, ◌++◌, List, [], Some, Ok, true, is_some, map, take, IfOk};
+ghost use Rattle.std.specs.Prelude.{OnOk};
 ghost use Rattle.sq_forms.specs.Faults.{fault_in};
 ghost use Rattle.sq_forms.specs.Steps.{Tests};
 ghost use Rattle.std.specs.Option.{option_copied};

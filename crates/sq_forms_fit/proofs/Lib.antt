@@ -1,4 +1,5 @@
 pub mod Shapes
+pub mod EachForm
 pub mod Sized
 pub mod RowsHold
 pub mod Whole

@@ -171,16 +171,16 @@ not_lower n m h = grind (arith, nat_tests)
 
 -- ---- arguments, their blocks left aside
 
-abbrev blocks_number : Option Blocks → ℕ
+abbrev pub blocks_number : Option Blocks → ℕ
 blocks_number None = 0
 blocks_number (Some x) = x.array
 
 -- the array of an argument with these indices
-abbrev array_of : Names → ArgUse → List Expr → ℕ
+abbrev pub array_of : Names → ArgUse → List Expr → ℕ
 array_of names a [] = array_number (lookup (same_name (out-ArgUse a).name) names.arrays)
 array_of names a (e ∷ es) = blocks_number (lookup (same_name (out-ArgUse a).name) names.blocks)
 
-abbrev found_block : Block → Value Block
+abbrev pub found_block : Block → Value Block
 found_block x = Ok x
 
 block_same : (x y : Block) → found_block x ≡ found_block y → x ≡ y
@@ -204,7 +204,7 @@ block_array_of a index (Some y) x e = go (block_spans y.chop index) e
     go (Err f) g = absurd (cc g)
     go (Ok rect) g = ap (λ (z : Block). z.array) (sym (block_same (record { array = y.array; rect = rect }) x g))
 
-array_by : (names : Names) (numbers : Numbers) (a : ArgUse) (es : List Expr) (x : Block)
+pub array_by : (names : Names) (numbers : Numbers) (a : ArgUse) (es : List Expr) (x : Block)
     → block_by names numbers a es ≡ found_block x → x.array ≡ array_of names a es
 array_by names numbers a [] x e = whole_array_of a (lookup (same_name (out-ArgUse a).name) names.arrays) x e
 array_by names numbers a (i ∷ es) x e = go (worths (i ∷ es) numbers names.lists) e

@@ -1,6 +1,6 @@
 -- Each array of a program's forms has one to three dimensions, none of which is empty, and not too many elements.
 use Rattle.std.proofs.Common.{◌≡◌, ℕ, zero, suc, ◌+◌, ◌-◌, ◌*◌, ◌<◌, ◌≤◌, ℤ, pos, negsuc, Bool, true, false, List, []}
-use Rattle.std.proofs.Common.{◌∷◌, ◌++◌, length, map, Option, Some, None, is_some, option_map, Ok, Err, refl, sym, ap}
+use Rattle.std.proofs.Common.{◌∷◌, ◌++◌, length, map, Option, Some, None, option_map, Ok, Err, refl, sym, ap}
 use Rattle.std.proofs.Common.{◌∙◌, subst, arith}
 use Rattle.std.specs.Prelude.{slice_get, nat_lt, nat_le, ◌&&◌, if◌then◌else◌, is_err}
 use Rattle.std.specs.Option.{option_and_then}
@@ -43,18 +43,14 @@ use Rattle.sq_forms.specs.Calls.{extents_of, bind_from}
 use Rattle.sq_forms.specs.Decls.{Scope, empty_scope, param_at, params_from, all_declared, after_decl, local_at}
 use Rattle.sq_forms.specs.Decls.{with_chop, with_blocks, with_array, array_of, dims_of, dims_from, most_extent}
 use Rattle.sq_forms.specs.Decls.{most_elements}
-use Rattle.sq_forms.specs.Resolving.{Outcome, Resolving, resolution, more}
-use Rattle.sq_forms.specs.Resolving.{next_walked, walk_of, walk_from, with_locals, with_entry, entry_extents}
+use Rattle.sq_forms.specs.Resolving.{Resolving, resolution, entry_extents}
 use Rattle.sq_forms.specs.Resolving.{entry_params, dims_or_fault, extent_of, before}
-use Rattle.sq_forms.specs.Steps.{Step, State, Called, Forms, Key, Opens, Counts, Tests, Calls, run, after_count}
-use Rattle.sq_forms.specs.Steps.{after_test, after_entry, number_of, with_form, key_number, most_forms}
+use Rattle.sq_forms.specs.Steps.{Called, Key}
 use Rattle.sq_form_laws.specs.Insides.{arrays_of}
 use Rattle.sq_form_laws.specs.Reached.{calls_in, steps_of}
 use Rattle.sq_form_laws.specs.Served.{FormRuns}
-use Rattle.sq_form_laws.proofs.FitHold.{some_same, forms_run}
-use Rattle.sq_form_laws.proofs.FormsHold.{went}
-use Rattle.sq_form_laws.proofs.Passing.{Everywhere, of_each}
-use Rattle.sq_form_laws.proofs.RanHold.{begun_state, walk_opened}
+use Rattle.sq_form_laws.proofs.FitHold.{some_same}
+use Rattle.sq_forms_fit.proofs.EachForm.{each_good}
 use Rattle.sq_spec.specs.Works.{shapes_of}
 use Rattle.sq_spec_laws.proofs.ReachedFactsHold.{reached_lie_inside}
 use Rattle.sq_plan_laws.specs.Seated.{HasDims}
@@ -346,9 +342,6 @@ module _ (program : Program) (levels : List Level) (mapping : Mapping) (sound : 
   abbrev FoundSized : Found → Type 0
   FoundSized f = AreSized f.extents
 
-  abbrev AllFound : Forms → Type 0
-  AllFound forms = (i : ℕ) (e : Key × Found) → slice_get forms i ≡ Some e → FoundSized e.1
-
   abbrev Reaches : Called → Type 0
   Reaches c = FoundSized c.form
 
@@ -383,136 +376,6 @@ module _ (program : Program) (levels : List Level) (mapping : Mapping) (sound : 
         run.fits.binds run.fits.many run.ran c h j m.of m.there in
         subst IsSized m.is (block_sized l.extents m.of.rect (arrays_sized m.of.array l.extents l.there) l.inside)
 
-    calls_sized : Everywhere Reaches
-        (steps_of tasks instances run.fits.instance run.fits.variant k form.1 run.ran.scope)
-    calls_sized = of_each Reaches (steps_of tasks instances run.fits.instance run.fits.variant k form.1 run.ran.scope)
-        call_sized
-
-  -- ---- the walk over them
-
-  added : (forms : Forms) (key : Key) (f : Found) → AllFound forms → FoundSized f → AllFound (forms ++ (key, f) ∷ [])
-  added [] key f all h zero e g = subst (λ (d : Key × Found). FoundSized d.1) (some_same (key, f) e g) h
-  added [] key f all h (suc i) e g = absurd (cc g)
-  added (x ∷ forms) key f all h zero e g = all 0 e g
-  added (x ∷ forms) key f all h (suc i) e g = added forms key f (λ j d k. all (suc j) d k) h i e g
-
-  with_one : (forms : Forms) (c : Called) → AllFound forms → Reaches c → AllFound (with_form forms c.key c.form)
-  with_one forms c all h = go (is_some (key_number forms c.key))
-    where
-      go : (b : Bool) → AllFound (if b then forms else forms ++ (c.key, c.form) ∷ [])
-      go true = all
-      go false = added forms c.key c.form all h
-
-  -- what is left to be shown of the steps behind
-  abbrev Behind : State → List Step → Type 0
-  Behind t rest = (u : State) → AllFound u.forms → run u rest ≡ Ok t → AllFound t.forms
-
-  counted : (s t : State) (place : Place) (rest : List Step) → Behind t rest → AllFound s.forms → (n : ℕ)
-      → and_then (after_count s place n) (λ u. run u rest) ≡ Ok t → AllFound t.forms
-  counted s t place rest next all zero g = absurd (cc g)
-  counted s t place rest next all (suc n) g = next (record { left = n; forms = s.forms; uses = s.uses }) all g
-
-  tested : (s t : State) (rest : List Step) → Behind t rest → AllFound s.forms → (o : Option Fault)
-      → and_then (after_test s o) (λ u. run u rest) ≡ Ok t → AllFound t.forms
-  tested s t rest next all None g = next s all g
-  tested s t rest next all (Some f) g = absurd (cc g)
-
-  entered : (s t : State) (c : Called) (rest : List Step) → Behind t rest → AllFound s.forms → Reaches c
-      → (o : Option ℕ) → and_then (after_entry s c o) (λ u. run u rest) ≡ Ok t → AllFound t.forms
-  entered s t c rest next all h None g = absurd (cc g)
-  entered s t c rest next all h (Some n) g =
-      next (record { left = s.left; forms = with_form s.forms c.key c.form; uses = s.uses ++ c.uses n })
-      (with_one s.forms c all h) g
-
-  run_sized : (steps : List Step) (s t : State) → Everywhere Reaches steps → AllFound s.forms → run s steps ≡ Ok t
-      → AllFound t.forms
-  run_sized [] s t of all h = let e : s ≡ t = cc h in subst (λ (u : State). AllFound u.forms) e all
-  run_sized (Opens ∷ rest) s t of all h = run_sized rest _ t of all h
-  run_sized (Counts place ∷ rest) s t of all h
-      = counted s t place rest (λ u a g. run_sized rest u t of a g) all s.left h
-  run_sized (Tests o ∷ rest) s t of all h = tested s t rest (λ u a g. run_sized rest u t of a g) all o h
-  run_sized (Calls c ∷ rest) s t of all h
-      = entered s t c rest (λ u a g. run_sized rest u t of.1 a g) all of.0 (number_of s.forms c.key) h
-
-  front_at : (front later : Forms) (i : ℕ) (e : Key × Found) → slice_get front i ≡ Some e → slice_get (front ++ later) i
-      ≡ Some e
-  front_at [] later i e h = absurd (cc h)
-  front_at (x ∷ front) later zero e h = h
-  front_at (x ∷ front) later (suc i) e h = front_at front later i e h
-
-  -- one form more: its calls reach sized forms
-  form_sized : (k : ℕ) (form : Key × Found) → slice_get r.found k ≡ Some form → (forms : Forms) (o : Outcome)
-      → FoundSized form.1 → AllFound forms → walk_of tasks instances k form.1 forms ≡ Ok o → AllFound o.forms
-  form_sized k form there forms o here all h =
-      let ran = forms_run program levels mapping sound read r through k form there in
-      let w = walk_opened tasks instances k form.1 forms ran.fits.instance ran.fits.variant ran.fits.begun o
-      ran.fits.there ran.fits.runs ran.fits.binds h in
-      let scope : ran.ran.scope ≡ w.scope = same_ok (sym ran.ran.declared ∙ w.declared) in
-      let calls = subst (λ (s : Scope). Everywhere Reaches
-      (steps_of tasks instances ran.fits.instance ran.fits.variant k form.1 s)) scope
-      (calls_sized k form there ran here) in
-      subst (λ (d : Outcome). AllFound d.forms) (sym w.is)
-      (run_sized (steps_of tasks instances ran.fits.instance ran.fits.variant k form.1 w.scope) (begun_state forms)
-      w.state calls all w.ran)
-    where
-      same_ok : {x y : Scope} → okay x ≡ Ok y → x ≡ y
-      same_ok e = cc e
-
-  beyond : {A : Type 0} (xs : List A) (k : ℕ) → length xs ≤ k → slice_get xs k ≡ None
-  beyond [] k h = refl
-  beyond (x ∷ xs) zero h = absurd (omega (arith, h))
-  beyond (x ∷ xs) (suc k) h = beyond xs k (omega (arith, h))
-
-  behind : {A : Type 0} (xs : List A) (k : ℕ) → slice_get xs k ≡ None → length xs ≤ k
-  behind [] k h = omega arith
-  behind (x ∷ xs) zero h = absurd (cc h)
-  behind (x ∷ xs) (suc k) h = let e = behind xs k h in omega (arith, e)
-
-  past_sized : (n k : ℕ) (s : Resolving) → length s.found ≤ k → AllFound s.found → walk_from tasks instances n k s
-      ≡ Ok r → AllFound r.found
-  past_sized zero k s far all h = let e : s ≡ r = cc h in subst (λ (q : Resolving). AllFound q.found) e all
-  past_sized (suc n) k s far all h =
-      past_sized n (k + 1) s (omega (arith, far)) all
-      (sym (ap (λ (o : Option (Key × Found)). and_then (next_walked tasks instances k s o)
-      (λ q. walk_from tasks instances n (k + 1) q)) (beyond s.found k far)) ∙ h)
-
-  more_long : {A : Type 0} (xs : List A) (x : A) → length (xs ++ x ∷ []) ≡ length xs + 1
-  more_long [] x = refl
-  more_long (y ∷ xs) x = let e = more_long xs x in omega (arith, e)
-
-  -- what is left to be shown of the forms behind
-  abbrev Walked : (n k : ℕ) → Type 0
-  Walked n k = (s : Resolving) → length s.uses ≡ k → length s.forms ≡ k → AllFound s.found
-      → walk_from tasks instances n k s ≡ Ok r → AllFound r.found
-
-  form_walked : (n k : ℕ) (s : Resolving) → Walked n (k + 1) → length s.uses ≡ k → length s.forms ≡ k → AllFound s.found
-      → (form : Key × Found) → slice_get s.found k ≡ Some form → slice_get r.found k ≡ Some form
-      → (v : Value Outcome) → walk_of tasks instances k form.1 s.found ≡ v
-      → and_then (and_then v (λ o. Ok (more s form.1 o))) (λ q. walk_from tasks instances n (k + 1) q) ≡ Ok r
-      → AllFound r.found
-  form_walked n k s rest lu lf all form here there (Err x) w g = absurd (cc g)
-  form_walked n k s rest lu lf all form here there (Ok o) w g =
-      rest (more s form.1 o) (more_long s.uses o.uses ∙ ap (λ m. m + 1) lu)
-      (more_long s.forms (with_locals form.1 o.locals) ∙ ap (λ m. m + 1) lf)
-      (form_sized k form there s.found o (all k form here) all w) g
-
-  next_walked_sized : (n k : ℕ) (s : Resolving) → Walked n (k + 1) → length s.uses ≡ k → length s.forms ≡ k
-      → AllFound s.found → walk_from tasks instances (suc n) k s ≡ Ok r
-      → (o : Option (Key × Found)) → slice_get s.found k ≡ o
-      → and_then (next_walked tasks instances k s o) (λ q. walk_from tasks instances n (k + 1) q) ≡ Ok r
-      → AllFound r.found
-  next_walked_sized n k s rest lu lf all h None e g = past_sized (suc n) k s (behind s.found k e) all h
-  next_walked_sized n k s rest lu lf all h (Some form) e g =
-      let w = went tasks instances (suc n) k s r lu lf h in
-      form_walked n k s rest lu lf all form e
-      (ap (λ l. slice_get l k) w.found.same ∙ front_at s.found w.found.rest k form e)
-      (walk_of tasks instances k form.1 s.found) refl g
-
-  walk_sized : (n k : ℕ) → Walked n k
-  walk_sized zero k s lu lf all h = let e : s ≡ r = cc h in subst (λ (q : Resolving). AllFound q.found) e all
-  walk_sized (suc n) k s lu lf all h
-      = next_walked_sized n k s (λ q a b c g. walk_sized n (k + 1) q a b c g) lu lf all h (slice_get s.found k) refl h
-
   -- ---- the entry
 
   cons_sized : (x : List ℕ) (xs : List (List ℕ)) → IsSized x → AreSized xs → AreSized (x ∷ xs)
@@ -540,21 +403,10 @@ module _ (program : Program) (levels : List Level) (mapping : Mapping) (sound : 
       first_sized sizes p extents (entry_extents sizes ps) (λ ys k. entry_sized sizes ps ys k)
       (dims_of (map (extent_of sizes) p.extents)) refl h
 
-  found_sized : AllFound r.found
-  found_sized = go (entry_extents mapping.sizes (entry_params tasks (slice_get instances mapping.entry))) refl through
-    where
-      alone : (extents : List (List ℕ)) → AreSized extents → AllFound (with_entry mapping.entry extents).found
-      alone extents s zero e g = subst (λ (d : Key × Found). FoundSized d.1) (some_same _ e g) s
-      alone extents s (suc i) e g = absurd (cc g)
-
-      go : (v : Value (List (List ℕ)))
-          → entry_extents mapping.sizes (entry_params tasks (slice_get instances mapping.entry)) ≡ v
-          → and_then v (λ extents. walk_from tasks instances most_forms 0 (with_entry mapping.entry extents)) ≡ Ok r
-          → AllFound r.found
-      go (Err x) e h = absurd (cc h)
-      go (Ok extents) e h = walk_sized most_forms 0 (with_entry mapping.entry extents) refl refl
-          (alone extents (entry_sized mapping.sizes (entry_params tasks (slice_get instances mapping.entry)) extents e))
-          h
+  found_sized : (k : ℕ) (form : Key × Found) → slice_get r.found k ≡ Some form → FoundSized form.1
+  found_sized = each_good program levels mapping sound read r through FoundSized
+      (λ k form there run here i c g. call_sized k form there run here i c g)
+      (λ extents e. entry_sized mapping.sizes (entry_params tasks (slice_get instances mapping.entry)) extents e)
 
   pub form_shapes_sized : (k : ℕ) (form : Key × Found) (there : slice_get r.found k ≡ Some form)
       (run : FormRuns program mapping r k form.1) (n : ℕ) (sh : Shape)

@@ -26,8 +26,6 @@ use Rattle.sq_spec.specs.Statements.{over}
 use Rattle.sq_placed.specs.declared.home.Home.TheVariants.{InPlace, Held}
 use Rattle.sq_placed.specs.declared.home.Homes.{Homes}
 use Rattle.sq_placed.specs.Tables.{Chain, chain_of, call_chain, first_of, row_rect}
-use Rattle.sq_cells.specs.Lowered.{held}
-use Rattle.sq_placed_bytes.specs.Calling.{place_of}
 use Rattle.sq_rooms.specs.Orders.{EachOf, params_of}
 use Rattle.sq_rooms.specs.Held.{AreHeldInside}
 
@@ -123,4 +121,4 @@ pub record HoldsFit (bodies : ℕ → FormBody) (homes : ℕ → Homes) : Type 0
 -- Where no argument leaves a loop, nothing is asked.
 abbrev pub UnheldFits : Type 0
 UnheldFits = (bodies : ℕ → FormBody) (homes : ℕ → Homes)
-    → ((f i : ℕ) → held (place_of (get_or (homes f).params i InPlace)) ≡ false) → HoldsFit bodies homes
+    → ((f i b n : ℕ) → get_or (homes f).params i InPlace ≡ Held b n → ⊥) → HoldsFit bodies homes

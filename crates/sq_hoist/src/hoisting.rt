@@ -8,7 +8,7 @@ ghost use Rattle.sq_hoist.specs.Notes as notes;
 use crate::choices::choices_of;
 use crate::notes::notes_of;
 use crate::sites::{Site, push_sites};
-use sq_homes::{Choice, draft_of};
+use sq_homes::{Choice, draft_of, form_number};
 use sq_ir::{Draft, Notes};
 use sq_spec::{Body, Resolved};
 use sqlite_items::Items;
@@ -31,15 +31,6 @@ fn push_body_sites(
     }
 }
 
-fn form_number(form: usize) -> Result<u32, AllocError>
-    ensures { IfOk result (λ n. n ≡ form) }
-{
-    match u32::try_from(form) {
-        Ok(n) => Ok(n),
-        Err(_) => Err(AllocError),
-    }
-}
-
 fn push_form_sites(
     alloc: Global,
     out: &mut Items<Site>,
@@ -53,7 +44,8 @@ fn push_form_sites(
     Ok(())
 }
 
-/// The calls in plain loops of all forms, by the number of the form in which they stand. The tables of one form are there
+/// The calls in plain loops of all forms, by the number of the form in which they stand. The tables of one form are
+/// there
 /// at a time.
 pub fn sites_of(alloc: Global, r: &Resolved<'_>) -> Result<Items<Site>, AllocError>
     ensures { IfOk result (λ ss. ss ≡ spec.sites_of r.now) }

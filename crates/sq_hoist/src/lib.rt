@@ -12,6 +12,5 @@ mod sites;
 pub use blocks::{behind, front, shares};
 pub use choices::choices_of;
 pub use hoisting::{hoist, sites_of};
-pub use names::name_at;
 pub use notes::push_site;
 pub use sites::Site;

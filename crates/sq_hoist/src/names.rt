@@ -8,30 +8,12 @@ ghost use Rattle.sq_forms.specs.Tables as tables;
 ghost use Rattle.sq_hoist.specs.Notes as spec;
 
 use sq_ast::{Param, Variant};
+use sq_homes::instance_at;
 use sq_mapfile::Instance;
 use sq_spec::Resolved;
 use sq_text::Name;
 use sqlite_items::at;
 use std::alloc::{AllocError, Global};
-
-fn instance_at<'a>(r: &Resolved<'a>, form: usize) -> Option<&'a Instance>
-    ensures { option_copied result ≡ drafts.instance_at r.now form }
-{
-    match at(r.forms(), form) {
-        None => None,
-        Some(f) => at(r.mapping().instances.as_slice(), f.instance as usize),
-    }
-}
-
-/// The name of a form's instance.
-pub fn name_at(alloc: Global, r: &Resolved<'_>, form: usize) -> Result<Name, AllocError>
-    ensures { IfOk result (λ n. n ≡ drafts.name_by (drafts.instance_at r.now form)) }
-{
-    match instance_at(r, form) {
-        None => Name::new(alloc, &[]),
-        Some(x) => x.name.copy(alloc),
-    }
-}
 
 fn variant_of<'a>(r: &Resolved<'a>, x: &Instance) -> Option<&'a Variant>
     ensures { option_copied result ≡ tables.variant_of r.now.typed.now.tasks x.now.task x.now.kind }

@@ -5,8 +5,9 @@ ghost use Rattle.sq_ir.specs.declared.plan.Note.TheVariants as note;
 ghost use Rattle.sq_homes.specs.Drafts as drafts;
 ghost use Rattle.sq_hoist.specs.Notes as spec;
 
-use crate::names::{name_at, param_at};
+use crate::names::param_at;
 use crate::sites::Site;
+use sq_homes::name_at;
 use sq_ir::{Note, Notes};
 use sq_spec::Resolved;
 use sq_text::Place;

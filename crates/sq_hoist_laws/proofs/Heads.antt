@@ -1,73 +1,22 @@
 -- The arguments of a call differ in their blocks alone, whatever the numbers are with which it is reached.
-use Rattle.std.proofs.Common.{◌≡◌, ℕ, ◌+◌, List, [], ◌∷◌, map, slice_get, Option, Some, None, Ok, Err, Result, refl}
+use Rattle.std.proofs.Common.{◌≡◌, ℕ, ◌+◌, List, [], ◌∷◌, map, slice_get, Option, Ok, Err, refl}
 use Rattle.std.proofs.Common.{sym}
-use Rattle.std.proofs.Common.{◌∙◌, ap, ap₂, ℤ}
-use Rattle.std.specs.Map.{lookup}
-use Rattle.sq_text.specs.declared.place.Span.{Span}
-use Rattle.sq_text.specs.Names.{Bytes, same_name}
-use Rattle.sq_ast.specs.declared.expr.Expr.{Expr}
+use Rattle.std.proofs.Common.{◌∙◌, ap, ap₂}
+use Rattle.sq_text.specs.Names.{Bytes}
 use Rattle.sq_ast.specs.declared.expr.ArgUse.{ArgUse, out-ArgUse}
 use Rattle.sq_ast.specs.declared.program.Param.{Param}
 use Rattle.sq_blocks.specs.Names.{Numbers}
-use Rattle.sq_blocks.specs.Spans.{wholes, block as block_spans}
-use Rattle.sq_blocks.specs.declared.fault.ConstFault.{ConstFault}
 use Rattle.sq_blocks.specs.declared.argument.Argument.{Argument}
-use Rattle.sq_forms.specs.declared.known.Array.{Array}
-use Rattle.sq_forms.specs.declared.known.Blocks.{Blocks}
 use Rattle.sq_forms.specs.declared.args.Block.{Block}
 use Rattle.sq_forms.specs.Faults.{Value, and_then}
-use Rattle.sq_forms.specs.Args.{Names, worths, of_array, of_block, all_of_array, block_of, block_in, block_or_fault}
-use Rattle.sq_forms.specs.Args.{block_by, block, mode_of, is_reduced}
-use Rattle.sq_spec.specs.Statements.{array_number}
+use Rattle.sq_forms.specs.Args.{Names}
+use Rattle.sq_forms.specs.Args.{block, mode_of, is_reduced}
 use Rattle.sq_form_laws.specs.Reached.{AreExamined}
+use Rattle.sq_forms_fit.proofs.RowsHold.{array_of, array_by}
 use Rattle.sq_hoist_laws.proofs.Staying.{word}
-
-abbrev found_block : Block → Value Block
-found_block x = Ok x
 
 abbrev found_argument : Argument → Value Argument
 found_argument x = Ok x
-
-abbrev blocks_number : Option Blocks → ℕ
-blocks_number None = 0
-blocks_number (Some x) = x.array
-
--- the array of an argument with these indices
-abbrev array_of : Names → ArgUse → List Expr → ℕ
-array_of names a [] = array_number (lookup (same_name (out-ArgUse a).name) names.arrays)
-array_of names a (e ∷ es) = blocks_number (lookup (same_name (out-ArgUse a).name) names.blocks)
-
-block_same : (x y : Block) → found_block x ≡ found_block y → x ≡ y
-block_same x y e = cc e
-
-whole_array_of : (a : ArgUse) (o : Option Array) (x : Block) → block_or_fault a (all_of_array o) ≡ found_block x
-    → x.array ≡ array_number o
-whole_array_of a None x e = absurd (cc e)
-whole_array_of a (Some y) x e = go (wholes y.extents) e
-  where
-    go : (r : Option (List Span)) → block_or_fault a (of_array y.number r) ≡ found_block x → x.array ≡ y.number
-    go None f = absurd (cc f)
-    go (Some rect) f = ap (λ (z : Block). z.array) (sym (block_same (record { array = y.number; rect = rect }) x f))
-
-block_array_of : (a : ArgUse) (index : List ℤ) (o : Option Blocks) (x : Block)
-    → block_or_fault a (block_of index o) ≡ found_block x → x.array ≡ blocks_number o
-block_array_of a index None x e = absurd (cc e)
-block_array_of a index (Some y) x e = go (block_spans y.chop index) e
-  where
-    go : (r : Result (List Span) ConstFault) → block_or_fault a (of_block y.array r) ≡ found_block x → x.array ≡ y.array
-    go (Err f) g = absurd (cc g)
-    go (Ok rect) g = ap (λ (z : Block). z.array) (sym (block_same (record { array = y.array; rect = rect }) x g))
-
-array_by : (names : Names) (numbers : Numbers) (a : ArgUse) (es : List Expr) (x : Block)
-    → block_by names numbers a es ≡ found_block x → x.array ≡ array_of names a es
-array_by names numbers a [] x e = whole_array_of a (lookup (same_name (out-ArgUse a).name) names.arrays) x e
-array_by names numbers a (i ∷ es) x e = go (worths (i ∷ es) numbers names.lists) e
-  where
-    go : (v : Value (List ℤ))
-        → and_then v (λ index. block_or_fault a (block_in names (out-ArgUse a).name index)) ≡ found_block x
-        → x.array ≡ blocks_number (lookup (same_name (out-ArgUse a).name) names.blocks)
-    go (Ok index) f = block_array_of a index (lookup (same_name (out-ArgUse a).name) names.blocks) x f
-    go (Err f) g = absurd (cc g)
 
 -- what is the same of an argument each time
 abbrev word_of : Names → Option Bytes → Option Param → ArgUse → Argument

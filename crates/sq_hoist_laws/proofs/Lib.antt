@@ -11,3 +11,4 @@ pub mod Keyed
 pub mod Heads
 pub mod Tables
 pub mod Programs
+pub mod Kept

@@ -199,7 +199,7 @@ params_held f P h a (suc m) (suc i) b n e =
 
 module _ (r : Resolved) (choices : List Choice) where
   -- a parameter leaves as many loops as are chosen
-  held_chosen : (f i b n : ℕ) → HeldAt (homes_in (homes_of r choices)) f i b n
+  pub held_chosen : (f i b n : ℕ) → HeldAt (homes_in (homes_of r choices)) f i b n
       → (0 < n) × (n ≡ left_by (choice_in choices f) i)
   held_chosen f i b n e = by (slice_get (bodies_of r) f) refl
     where
@@ -242,7 +242,7 @@ each_suited base c none [] = tt
 each_suited base c none (i ∷ is) = (suited_home base c none i, each_suited base c none is)
 
 -- where no loop was chosen to overlap its transfers
-params_suited : (r : Resolved) (choices : List Choice) → NoneOverlaps choices → (k : ℕ)
+pub params_suited : (r : Resolved) (choices : List Choice) → NoneOverlaps choices → (k : ℕ)
     → EachOf (IsSuited false) (homes_in (homes_of r choices) k).params
 params_suited r choices none k = by (slice_get (bodies_of r) k) refl
   where

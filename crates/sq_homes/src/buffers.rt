@@ -53,7 +53,9 @@ fn size_of(elem: Elem, extents: &Dims) -> Result<u64, AllocError>
     }
 }
 
-fn array_size(shapes: &[Shape], i: usize) -> Result<u64, AllocError>
+/// The bytes of the buffer of a form's array, a multiple of 8. Those that have no room in 64 bits are answered as want of
+/// memory.
+pub fn array_size(shapes: &[Shape], i: usize) -> Result<u64, AllocError>
     ensures { IfOk result (λ n. n ≡ numbering.shape_size (get_or shapes.now i no_shape)) }
 {
     let Some(shape) = at(shapes, i) else {
@@ -99,8 +101,8 @@ fn push_buffers(
     Ok(())
 }
 
-// What is chosen for a form.
-fn choice_at(choices: &[Choice], form: usize) -> Result<&Choice, AllocError>
+/// What is chosen for a form.
+pub fn choice_at(choices: &[Choice], form: usize) -> Result<&Choice, AllocError>
     ensures { IfOk result (λ c. c.now ≡ spec.choice_in choices.now form) }
 {
     match at(choices, form) {

@@ -7,7 +7,7 @@ ghost use Rattle.sq_homes.specs.Drafts as spec;
 use crate::buffers::{buffers_of, homes_of};
 use crate::choice::Choice;
 use crate::entry::args_of;
-use crate::names::name_at;
+use crate::names::{form_number, name_at};
 use sq_blocks::Argument;
 use sq_draft::draft_term;
 use sq_ir::{BufferIds, Buffers, Draft, Leaf, Leaves, Term};
@@ -15,15 +15,6 @@ use sq_placed::{Home, Homes};
 use sq_spec::{Body, FormBody, Resolved};
 use sqlite_items::{Boxed as Box, Items, at};
 use std::alloc::{AllocError, Global};
-
-fn form_number(form: usize) -> Result<u32, AllocError>
-    ensures { IfOk result (λ n. n ≡ form) }
-{
-    match u32::try_from(form) {
-        Ok(n) => Ok(n),
-        Err(_) => Err(AllocError),
-    }
-}
 
 fn bodies_of(alloc: Global, r: &Resolved<'_>) -> Result<Vec<FormBody>, AllocError>
     ensures { IfOk result (λ bs. bs.items ≡ spec.bodies_of r.now) }

@@ -1,6 +1,6 @@
 //! The arguments of the entry: all of its arrays.
 
-ghost use Rattle.std.specs.Prelude.{◌≡◌, false, IfOk, IfSome};
+ghost use Rattle.std.specs.Prelude.{◌≡◌, false, IfOk};
 ghost use Rattle.sq_spec.specs.Works.{entry_arguments, whole as all_of};
 ghost use Rattle.sq_homes.specs.Drafts as spec;
 
@@ -12,15 +12,17 @@ use sqlite_items::{Items, at};
 use std::alloc::{AllocError, Global};
 
 // All of the i-th array.
-fn argument(i: usize, p: &Param, extents: &Dims) -> Option<Argument>
-    ensures { IfSome result (λ a. a ≡
+fn argument(i: usize, p: &Param, extents: &Dims) -> Result<Argument, AllocError>
+    ensures { IfOk result (λ a. a ≡
         record { mode = p.now.mode; is_reduced = false; array = i; rect = all_of extents.now }) }
 {
-    let rect = whole(extents)?;
-    let Ok(array) = u32::try_from(i) else {
-        return None;
+    let Some(rect) = whole(extents) else {
+        return Err(AllocError);
     };
-    Some(Argument {
+    let Ok(array) = u32::try_from(i) else {
+        return Err(AllocError);
+    };
+    Ok(Argument {
         mode: p.mode,
         is_reduced: false,
         array,
@@ -40,10 +42,7 @@ fn arguments(
         let Some(dims) = at(extents, i) else {
             return Err(AllocError);
         };
-        let Some(a) = argument(i, p, dims) else {
-            return Err(AllocError);
-        };
-        args.push(a)?;
+        args.push(argument(i, p, dims)?)?;
     }
     Ok(args)
 }

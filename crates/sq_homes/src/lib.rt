@@ -10,5 +10,8 @@ pub mod laws;
 mod names;
 mod order;
 
+pub use buffers::{array_size, choice_at};
 pub use choice::Choice;
 pub use draft::draft_of;
+pub use names::{form_number, instance_at, level_at, name_at, rule_at};
+pub use order::{flag_at, is_moved, number_at};

@@ -15,6 +15,16 @@ use sq_text::{Name, SpreadRule};
 use sqlite_items::at;
 use std::alloc::{AllocError, Global};
 
+/// The number of a form in 32 bits.
+pub fn form_number(form: usize) -> Result<u32, AllocError>
+    ensures { IfOk result (λ n. n ≡ form) }
+{
+    match u32::try_from(form) {
+        Ok(n) => Ok(n),
+        Err(_) => Err(AllocError),
+    }
+}
+
 /// The instance of a form.
 pub fn instance_at<'a>(r: &Resolved<'a>, form: usize) -> Option<&'a Instance>
     ensures { option_copied result ≡ spec.instance_at r.now form }

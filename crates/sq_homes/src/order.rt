@@ -39,7 +39,8 @@ fn deepest(numbers: &[u32]) -> u32
     if *n < m { m } else { *n }
 }
 
-fn is_moved(c: &Choice, i: usize) -> bool
+/// Whether a parameter is neither in place nor leaves a loop.
+pub fn is_moved(c: &Choice, i: usize) -> bool
     ensures { result ≡ spec.is_moved c.now i }
 {
     !flag_at(c.in_place.as_slice(), i) && number_at(c.leaves.as_slice(), i) == 0

@@ -23,7 +23,7 @@ use Rattle.sq_term_fit.proofs.Meeting.{entry_is_fine}
 use Rattle.sq_nests.specs.Drafts.{Nothing, IsPlaceable}
 use Rattle.sq_rooms.specs.Callers.{home_buffers, Numbering, AreNumbered}
 use Rattle.sq_rooms.specs.Lowered.{IsLowered, HasNumbers}
-use Rattle.sq_rooms.proofs.Lowered.{lowered_is_placeable}
+use Rattle.sq_rooms.proofs.Lowered.{are_stacked, lowered_is_placeable}
 use Rattle.sq_homes.specs.declared.choice.Choice.{Choice}
 use Rattle.sq_homes.specs.Drafts.{bodies_of, homes_of, args_of, IsDraftOf}
 use Rattle.sq_homes_laws.specs.Given.{level_at}
@@ -36,7 +36,7 @@ use Rattle.sq_homes_fit.specs.Drafts.{limits}
 use Rattle.sq_homes_fit.specs.Levels.{BeginsAtRoot}
 use Rattle.sq_homes_fit.proofs.Levels.{levels_are_there, drafts_begin_at_root}
 use Rattle.sq_homes_fit.proofs.Tabled.{drafts_are_tabled}
-use Rattle.sq_homes_fit.specs.Placeable.{DraftsArePlaceable}
+use Rattle.sq_homes_fit.specs.Placeable.{DraftsArePlaceable, IsStackedByForms, DraftsAreStackedByForms}
 use Rattle.sq_homes_fit.specs.Homes.{HasOwn}
 use Rattle.sq_homes_fit.proofs.Entry.{entries_have_buffers}
 use Rattle.sq_homes_fit.proofs.Ordered.{numbering, are_numbered}
@@ -133,5 +133,14 @@ module _ (r : Resolved) (w : Walked r) (choices : List Choice) (hoisted : MayBeC
       lowered_is_placeable d nodes fb fh count (args_of r) (level_at r) own lowered
       (have_numbers (length r.machine.now.levels - 1) long)
 
+  stacked : IsStackedByForms r choices d
+  stacked = record {
+    numbers = record { numbering = own; are = are_numbered r w choices hoisted };
+    stacks = are_stacked d nodes fb fh count (args_of r) (level_at r) own lowered;
+  }
+
 pub drafts_are_placeable : DraftsArePlaceable
 drafts_are_placeable r w choices hoisted d is nodes are = placeable r w choices hoisted d is nodes are
+
+pub drafts_are_stacked_by_forms : DraftsAreStackedByForms
+drafts_are_stacked_by_forms r w choices hoisted d is nodes are = stacked r w choices hoisted d is nodes are

@@ -8,7 +8,7 @@ ghost use Rattle.sq_homes_fit.specs.Drafts.{DraftsAreTabled, DraftsAreRoomy};
 ghost use Rattle.sq_homes_fit.specs.Numbers.{BuffersAreNumbered};
 ghost use Rattle.sq_homes_fit.specs.Owned.{DraftsOwn};
 ghost use Rattle.sq_homes_fit.specs.Lanes.{MachinesAreMachines, LanesAreThere};
-ghost use Rattle.sq_homes_fit.specs.Placeable.{DraftsArePlaceable};
+ghost use Rattle.sq_homes_fit.specs.Placeable.{DraftsArePlaceable, DraftsAreStackedByForms};
 
 /// Each form has a home for each of its parameters, in place only where it was found so, and a buffer for each local.
 pub fn homes_fit_forms()
@@ -74,4 +74,10 @@ pub fn lanes_are_there()
 /// A draft can be placed.
 pub fn drafts_can_be_placed()
     ensures { DraftsArePlaceable }
+{}
+
+/// Its buffers stand behind one another by forms: at each level those of the form that is called behind those of the
+/// forms round it.
+pub fn drafts_are_stacked_by_forms()
+    ensures { DraftsAreStackedByForms }
 {}

@@ -13,7 +13,8 @@ ghost use Rattle.sq_ir.specs.Plans.{IsGood};
 ghost use Rattle.sq_ir.specs.Examples.{doubling, CallsALeaf, OnlyClashes, OnlyTooLong, OnlyOverlaps, OnlyDivides};
 ghost use Rattle.sq_ir.specs.Orders.{EndsByForm, EndsAsFirst, EachOnce, HasFirst, HoldsInRuns, ApartCommute};
 ghost use Rattle.sq_ir.specs.EventOrders.{AreLocal, AreReorderable, EndAlike};
-ghost use Rattle.sq_ir.specs.PlanLaws.{HaveOneResult, EndByForm, HaveRuns, PerformOnce, StayInside, KeepRoom, HaveRoomAlways};
+ghost use Rattle.sq_ir.specs.PlanLaws.{HaveOneResult, EndByForm, HaveRuns, PerformOnce, StayInside, KeepRoom};
+ghost use Rattle.sq_ir.specs.PlanLaws.{HaveRoomAlways};
 
 /// The events of a tree that have a number are those that wait while no event that isn't finished is before them; each
 /// has one number, and they are numbered from left to right.
@@ -79,7 +80,8 @@ pub fn lifted_numbers_keep_their_values()
     ensures { LiftedHaveValues }
 {}
 
-/// A number has one value wherever the same loops stand round it. Where it names the children of the node in force, this
+/// A number has one value wherever the same loops stand round it. Where it names the children of the node in force,
+/// this
 /// node has to have as many; a number that doesn't keeps its value in the body of a scope. Offsets of buffers change no
 /// number.
 pub fn numbers_depend_on_loops()
@@ -89,7 +91,8 @@ pub fn numbers_depend_on_loops()
 {}
 
 /// A leaf call of a well formed plan names a leaf of its draft, whose code can run over the node's bytes; and what that
-/// run does to them is what the event does. Whether it traps or not, it changes no byte outside the views that it writes.
+/// run does to them is what the event does. Whether it traps or not, it changes no byte outside the views that it
+/// writes.
 pub fn runs_of_leaves_are_their_events()
     ensures can { CallsCanBeRun }
     ensures alike { RunsAreEvents }
@@ -103,7 +106,8 @@ pub fn an_event_ends_alone<Event, Scope>()
     ensures traps { TrapOne Event Scope }
 {}
 
-/// A run may go on by one event at its end, and after each event one event less waits. A run that is over without a trap
+/// A run may go on by one event at its end, and after each event one event less waits. A run that is over without a
+/// trap
 /// has performed all events, each once.
 pub fn runs_go_on<Event, Scope, Address, Cause>()
     ensures end { GrowAtTheEnd Event Scope Address Cause }

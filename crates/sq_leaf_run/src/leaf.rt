@@ -13,7 +13,8 @@ use sq_rect::Views;
 /// Runs the leaf over the bytes of one memory. It keeps its loop counters by itself.
 pub fn run_leaf(code: &LeafCode, bytes: &mut [u8], views: &Views) -> Result<(), Trap>
     requires { CanRun (length bytes.old) views.now (written_of code.now.variant) }
-    ensures meant { (a : Arrays) → Shows views.now bytes.old a → IsMeant views.now bytes.new result (leaf_value code.now (map shape_of views.now) a) }
+    ensures meant { (a : Arrays) → Shows views.now bytes.old a → IsMeant views.now bytes.new result
+        (leaf_value code.now (map shape_of views.now) a) }
     ensures kept { Keeps views.now (written_of code.now.variant) bytes.old bytes.new }
 {
     let mut frame = Frame::new(views.as_slice());

@@ -36,7 +36,8 @@ fn push_call<'a>(
     caller: usize,
     name: &'a Word,
 ) -> Result<(), AllocError>
-    ensures { OnOk result (Adds calls.old.items calls.new.items (call_to caller (index_of table.now.instances.now name.now.name) name.now)) }
+    ensures { OnOk result (Adds calls.old.items calls.new.items (call_to caller
+        (index_of table.now.instances.now name.now.name) name.now)) }
 {
     match table.index(&name.name) {
         None => Ok(()),
@@ -60,7 +61,8 @@ fn item_calls<'a>(
     k: usize,
     item: &'a ItemText,
 ) -> Result<(), AllocError>
-    ensures { OnOk result (Adds calls.old.items calls.new.items (item_calls table.now.instances.now caller items.now.items.now k item.now)) }
+    ensures { OnOk result (Adds calls.old.items calls.new.items (item_calls table.now.instances.now caller
+        items.now.items.now k item.now)) }
 {
     match item {
         ItemText::Call { task, instance } => {
@@ -81,7 +83,8 @@ fn items_calls<'a>(
     caller: usize,
     items: &ItemTable<'a>,
 ) -> Result<(), AllocError>
-    ensures { OnOk result (Adds calls.old.items calls.new.items (items_calls table.now.instances.now caller items.now.items.now 0 items.now.items.now)) }
+    ensures { OnOk result (Adds calls.old.items calls.new.items (items_calls table.now.instances.now caller
+        items.now.items.now 0 items.now.items.now)) }
 {
     for (k, item) in items.items.iter().enumerate() {
         item_calls(table, calls, caller, items, k, item)?;
@@ -97,7 +100,8 @@ fn instance_calls<'a>(
     i: usize,
     instance: &'a InstanceText,
 ) -> Result<(), AllocError>
-    ensures { OnOk result (Adds calls.old.items calls.new.items (instance_calls table.now.instances.now i instance.now)) }
+    ensures { OnOk result (Adds calls.old.items calls.new.items (instance_calls table.now.instances.now i
+        instance.now)) }
 {
     if stands_before(table.index(&instance.name.name), i) {
         return Ok(());

@@ -33,7 +33,8 @@ pub fn note_cycle(
     table: &InstanceTable<'_>,
 ) -> Result<(), AllocError>
     requires { found.old.phase ≡ Phase.Mapping }
-    ensures { OnOk result (Joins (HoldsIn (IsOnCycle (calls_among table.now.instances.now)) (calls_among table.now.instances.now)) found.old found.new) }
+    ensures { OnOk result (Joins (HoldsIn (IsOnCycle (calls_among table.now.instances.now))
+        (calls_among table.now.instances.now)) found.old found.new) }
 {
     let list = CallList::new(alloc, table)?;
     let graph = Graph::new(alloc, &list)?;

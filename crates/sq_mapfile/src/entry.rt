@@ -24,7 +24,8 @@ fn size(
     i: usize,
     size: &SizeText,
 ) -> Result<(), AllocError>
-    ensures { OnOk result (Finds breach_of found.old found.new (spec.size_rules (option_copied required.entry) sizes.now.sizes.now i size.now)) }
+    ensures { OnOk result (Finds breach_of found.old found.new (spec.size_rules (option_copied required.entry)
+        sizes.now.sizes.now i size.now)) }
 {
     let is_again = stands_before(sizes.get(&size.name.name), i);
     let is_unknown = is_no_size(required, &size.name.name);
@@ -38,7 +39,8 @@ fn sizes(
     required: Option<&Required>,
     table: &SizeTable<'_>,
 ) -> Result<(), AllocError>
-    ensures { OnOk result (Finds breach_of found.old found.new (spec.sizes_rules (option_copied required.entry) table.now.sizes.now 0 table.now.sizes.now)) }
+    ensures { OnOk result (Finds breach_of found.old found.new (spec.sizes_rules (option_copied required.entry)
+        table.now.sizes.now 0 table.now.sizes.now)) }
 {
     for (i, x) in table.sizes.iter().enumerate() {
         size(found, required, table, i, x)?;
@@ -54,8 +56,10 @@ fn entered(
     name: &Word,
     sizes: &SizeTable<'_>,
 ) -> Result<(), AllocError>
-    requires { option_copied required ≡ required_at (scope_of scope.now) (instance_of (scope_of scope.now).instances name.now.name) }
-    ensures { OnOk result (Finds breach_of found.old found.new (spec.entered_rules (scope_of scope.now) (instance_of (scope_of scope.now).instances name.now.name) name.now sizes.now.sizes.now)) }
+    requires { option_copied required ≡ required_at (scope_of scope.now)
+        (instance_of (scope_of scope.now).instances name.now.name) }
+    ensures { OnOk result (Finds breach_of found.old found.new (spec.entered_rules (scope_of scope.now)
+        (instance_of (scope_of scope.now).instances name.now.name) name.now sizes.now.sizes.now)) }
 {
     let is_unknown = scope.index(&name.name).is_none();
     let is_below = is_below_root(scope.level_of_instance(&name.name));
@@ -74,7 +78,8 @@ pub fn entry(
     name: &Word,
     list: &[SizeText],
 ) -> Result<(), AllocError>
-    ensures { OnOk result (Finds breach_of found.old found.new (spec.entry_rules (scope_of scope.now) (instance_of (scope_of scope.now).instances name.now.name) name.now list.now)) }
+    ensures { OnOk result (Finds breach_of found.old found.new (spec.entry_rules (scope_of scope.now)
+        (instance_of (scope_of scope.now).instances name.now.name) name.now list.now)) }
 {
     let required = scope.required_at(scope.instance(&name.name));
     let table = SizeTable::new(alloc, list)?;

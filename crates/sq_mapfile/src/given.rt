@@ -32,7 +32,8 @@ impl Names {
 
     fn add(&mut self, alloc: Global, name: &Name, item: usize) -> Result<(), AllocError>
         requires { AreWithin self.old.first self.old.longest }
-        ensures first { OnOk result ((n : Bytes) → item_of self.new.first n ≡ kept (item_of self.old.first n) (only_at name.now item n)) }
+        ensures first { OnOk result ((n : Bytes) → item_of self.new.first n ≡ kept (item_of self.old.first n)
+            (only_at name.now item n)) }
         ensures within { OnOk result (AreWithin self.new.first self.new.longest) }
     {
         self.first.enter(alloc, name, item)?;
@@ -42,7 +43,8 @@ impl Names {
 
     fn add_tunable(&mut self, alloc: Global, text: &ItemText, item: usize) -> Result<(), AllocError>
         requires { AreWithin self.old.first self.old.longest }
-        ensures first { OnOk result ((n : Bytes) → item_of self.new.first n ≡ kept (item_of self.old.first n) (if names.is_tunable n text.now then Some item else None)) }
+        ensures first { OnOk result ((n : Bytes) → item_of self.new.first n ≡ kept (item_of self.old.first n)
+            (if names.is_tunable n text.now then Some item else None)) }
         ensures within { OnOk result (AreWithin self.new.first self.new.longest) }
     {
         match text {
@@ -56,7 +58,8 @@ impl Names {
 
     fn add_call(&mut self, alloc: Global, text: &ItemText, item: usize) -> Result<(), AllocError>
         requires { AreWithin self.old.first self.old.longest }
-        ensures first { OnOk result ((n : Bytes) → item_of self.new.first n ≡ kept (item_of self.old.first n) (if names.is_call n text.now then Some item else None)) }
+        ensures first { OnOk result ((n : Bytes) → item_of self.new.first n ≡ kept (item_of self.old.first n)
+            (if names.is_call n text.now then Some item else None)) }
         ensures within { OnOk result (AreWithin self.new.first self.new.longest) }
     {
         match text {
@@ -204,7 +207,8 @@ impl<'a> ItemTable<'a> {
 
     /// The first of these tunables for which there is no item.
     pub fn missing_tunable<'r>(&self, tunables: &'r IndexMap<Name, bool>) -> Option<&'r Name>
-        ensures { option_copied result ≡ spec.first_missing (spec.has_tunable self.now.items.now) (map (λ t. t.0) tunables.now.entries) }
+        ensures { option_copied result ≡ spec.first_missing (spec.has_tunable self.now.items.now)
+            (map (λ t. t.0) tunables.now.entries) }
     {
         for name in tunables.keys() {
             if self.tunable(name).is_none() {

@@ -27,7 +27,8 @@ fn name(
     items: &ItemTable<'_>,
 ) -> Result<(), AllocError>
     requires { items.now.items.now ≡ x.now.items }
-    ensures { OnOk result (Finds breach_of found.old found.new (name_of_rules (scope_of scope.now) (option_copied required.entry) i x.now)) }
+    ensures { OnOk result (Finds breach_of found.old found.new (name_of_rules (scope_of scope.now)
+        (option_copied required.entry) i x.now)) }
 {
     let is_again = stands_before(scope.index(&x.name.name), i);
     let call = missing_call(required, items);
@@ -83,7 +84,8 @@ pub fn instances(
     scope: &Scope<'_>,
     list: &[InstanceText],
 ) -> Result<(), AllocError>
-    ensures { OnOk result (found.new ≡ firsts breach_of found.old (spec.instances_rules (scope_of scope.now) 0 list.now)) }
+    ensures { OnOk result (found.new ≡ firsts breach_of found.old (spec.instances_rules (scope_of scope.now) 0
+        list.now)) }
 {
     for (i, x) in list.iter().enumerate() {
         instance(alloc, found, scope, i, x)?;

@@ -38,7 +38,8 @@ impl<'a> Inside<'a> {
         name: &Word,
         setting: &Setting,
     ) -> Result<(), AllocError>
-        ensures { OnOk result (Finds breach_of found.old found.new (tunable_rules (inside_of self.now) i name.now setting.now)) }
+        ensures { OnOk result (Finds breach_of found.old found.new (tunable_rules (inside_of self.now) i name.now
+            setting.now)) }
     {
         let is_again = stands_before(self.items.tunable(&name.name), i);
         let is_unknown = is_no_tunable(self.required, &name.name);
@@ -62,7 +63,8 @@ impl<'a> Inside<'a> {
 
     // The instance that is named for a task.
     fn callee(&self, found: &mut FirstFault, task: &Word, name: &Word) -> Result<(), AllocError>
-        ensures { OnOk result (Finds breach_of found.old found.new (callee_rules (inside_of self.now) task.now name.now)) }
+        ensures { OnOk result (Finds breach_of found.old found.new (callee_rules (inside_of self.now) task.now
+            name.now)) }
     {
         let is_unknown = self.scope.index(&name.name).is_none();
         let is_other = is_of_other_task(self.scope.instance(&name.name), &task.name);
@@ -105,7 +107,8 @@ impl<'a> Inside<'a> {
 
     /// All items.
     pub fn items(&self, found: &mut FirstFault) -> Result<(), AllocError>
-        ensures { OnOk result (Finds breach_of found.old found.new (spec.items_rules (inside_of self.now) 0 self.now.items.now.items.now)) }
+        ensures { OnOk result (Finds breach_of found.old found.new (spec.items_rules (inside_of self.now) 0
+            self.now.items.now.items.now)) }
     {
         for (i, item) in self.items.items.iter().enumerate() {
             self.item(found, i, item)?;

@@ -84,7 +84,8 @@ impl<'c, 'a> Ranked<'c, 'a> {
         call: &Call<'_>,
     ) -> Result<bool, AllocError>
         requires { call.now.callee < length self.now.graph.lists.items }
-        ensures { IfOk result (λ r. IsTrue r ↔ ((is_behind (option_copied found.entry) call.now ≡ false) × Leads self.now.graph.calls.now call.now.callee call.now.caller)) }
+        ensures { IfOk result (λ r. IsTrue r ↔ ((is_behind (option_copied found.entry) call.now ≡ false)
+            × Leads self.now.graph.calls.now call.now.callee call.now.caller)) }
     {
         if is_behind(found, call) {
             return Ok(false);
@@ -95,7 +96,8 @@ impl<'c, 'a> Ranked<'c, 'a> {
     /// The first call on a cycle. Calls that fall are on none, and calls behind what is found are passed over: so
     /// between components and in the order of the text one search is made.
     pub fn first_on_cycle(&self, alloc: Global) -> Result<Option<&'c Call<'a>>, AllocError>
-        ensures { IfOk result (λ found. IsFirstOnCycle self.now.graph.calls.now self.now.graph.calls.now (option_copied found)) }
+        ensures { IfOk result (λ found. IsFirstOnCycle self.now.graph.calls.now self.now.graph.calls.now
+            (option_copied found)) }
     {
         let mut found = None;
         for call in self.graph.calls {

@@ -72,10 +72,12 @@ pub fn read_mapping(
     // lead back.
     ensures sound { IfOk result (λ mapping. Sound typed.now machine.now.levels mapping) }
     // A text stands for at most one mapping, which is found where no fault holds.
-    ensures only { (mapping : Mapping) → StandsFor machine.now.levels text.now mapping → ((f : Fault) → MappingFault typed.now machine.now.levels text.now f → ⊥) → Gives result mapping }
+    ensures only { (mapping : Mapping) → StandsFor machine.now.levels text.now mapping
+        → ((f : Fault) → MappingFault typed.now machine.now.levels text.now f → ⊥) → Gives result mapping }
     // A text is read where what it stands for is sound, and no instance chooses twice how to spread or chooses as a
     // leaf.
-    ensures given { (m : MappingText) (mapping : Mapping) → Writes text.now m → SpreadsOnce m → Resolves machine.now.levels m mapping → Sound typed.now machine.now.levels mapping → Gives result mapping }
+    ensures given { (m : MappingText) (mapping : Mapping) → Writes text.now m → SpreadsOnce m
+        → Resolves machine.now.levels m mapping → Sound typed.now machine.now.levels mapping → Gives result mapping }
 {
     let tokens = match tokens(alloc, Phase::Mapping, text) {
         Ok(tokens) => tokens,

@@ -198,7 +198,8 @@ impl Required {
 
     /// The first tunable for which there is no item.
     pub fn missing_tunable(&self, items: &ItemTable<'_>) -> Option<&Name>
-        ensures { option_copied result ≡ first_missing (has_tunable items.now.items.now) (map (λ t. t.0) self.now.tunables) }
+        ensures { option_copied result ≡ first_missing (has_tunable items.now.items.now)
+            (map (λ t. t.0) self.now.tunables) }
     {
         items.missing_tunable(&self.tunables)
     }

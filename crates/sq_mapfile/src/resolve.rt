@@ -99,7 +99,8 @@ fn instance(
 }
 
 fn instances(alloc: Global, table: &InstanceTable<'_>) -> Result<Instances, AllocError>
-    ensures { IfOk result (λ found. found ≡ map (spec.instance_with table.now.levels.now table.now.instances.now) table.now.instances.now) }
+    ensures { IfOk result (λ found. found ≡ map (spec.instance_with table.now.levels.now table.now.instances.now)
+        table.now.instances.now) }
 {
     let mut found = Items::new(alloc);
     for text in table.instances {

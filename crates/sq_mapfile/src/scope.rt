@@ -22,7 +22,12 @@ pub struct Scope<'a> {
 
 impl<'a> Scope<'a> {
     pub fn new(tasks: &'a Tasks<'a>, table: &'a InstanceTable<'a>) -> Scope<'a>
-        ensures { scope_of result ≡ record { variants = tasks.now.variants.now; levels = table.now.levels.now; instances = table.now.instances.now } }
+        ensures { scope_of result ≡ record {
+          variants = tasks.now.variants.now;
+          levels = table.now.levels.now;
+          instances
+              = table.now.instances.now;
+        } }
     {
         Scope { tasks, table }
     }
@@ -36,7 +41,8 @@ impl<'a> Scope<'a> {
 
     /// Whether the program has this task without this variant.
     pub fn lacks_variant(&self, task: &Name, kind: VariantKind) -> bool
-        ensures { result ≡ (spec.has_task (scope_of self.now).variants task.now && is_none (spec.variant_of (scope_of self.now).variants task.now kind)) }
+        ensures { result ≡ (spec.has_task (scope_of self.now).variants task.now && is_none
+            (spec.variant_of (scope_of self.now).variants task.now kind)) }
     {
         self.tasks.has(task) && self.tasks.lacks(task, kind)
     }

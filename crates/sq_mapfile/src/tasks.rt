@@ -22,7 +22,8 @@ fn enter_variant(
     variant: &Variant,
     i: usize,
 ) -> Result<(), AllocError>
-    ensures { OnOk result ((n : Bytes) → item_of first.new n ≡ kept (item_of first.old n) (if is_variant n kind variant.now then Some i else None)) }
+    ensures { OnOk result ((n : Bytes) → item_of first.new n ≡ kept (item_of first.old n)
+        (if is_variant n kind variant.now then Some i else None)) }
 {
     match (kind, variant.kind) {
         (VariantKind::Inner, VariantKind::Inner) | (VariantKind::Leaf, VariantKind::Leaf) => {

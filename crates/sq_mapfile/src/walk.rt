@@ -24,7 +24,8 @@ pub fn note_names(
     mapping: &MappingText,
 ) -> Result<(), AllocError>
     requires { table.now.instances.now ≡ mapping.now.instances }
-    ensures { OnOk result (found.new ≡ firsts breach_of found.old (name_rules program.now table.now.levels.now mapping.now)) }
+    ensures { OnOk result (found.new ≡ firsts breach_of found.old (name_rules program.now table.now.levels.now
+        mapping.now)) }
 {
     let tasks = Tasks::new(alloc, program.tasks.as_slice())?;
     let scope = Scope::new(&tasks, table);

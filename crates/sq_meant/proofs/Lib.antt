@@ -4,3 +4,4 @@ pub mod Holding
 pub mod Ends
 pub mod Shapes
 pub mod Given
+mod Traffic

@@ -2,11 +2,13 @@
 #![tactic(auto)]
 
 ghost use Rattle.sq_meant.specs.Laws.{PlacesFit, BanksHavePlaces, InputsAreHeld, RunsEndAsMeant};
+ghost use Rattle.sq_meant.specs.Traffic.{RunsCarryTheTraffic};
 
 use sq_draft_laws::laws::resolved_programs_were_walked;
 use sq_homes_fit::{drafts_own_their_buffers, entries_are_whole};
 use sq_ir::laws::good_plans_have_one_result;
 use sq_leaf::Trap;
+use sq_tree::laws::runs_carry_what_the_plan_does;
 
 /// The plan of a program has a place in the root for each of the entry's arrays, and no two share a byte.
 pub fn places_fit()
@@ -34,4 +36,11 @@ pub fn runs_end_as_meant()
     entries_are_whole();
     drafts_own_their_buffers();
     good_plans_have_one_result::<Trap>();
+}
+
+/// A run that is done has carried over each edge, and performed of each kind of event, what the sums over its plan say.
+pub fn runs_carry_the_traffic()
+    ensures { RunsCarryTheTraffic }
+{
+    runs_carry_what_the_plan_does();
 }

@@ -3,8 +3,7 @@
 ghost use Rattle.std.specs.Prelude.{◌≡◌, IfOk};
 ghost use Rattle.sq_pipe.specs.Greedy as spec;
 
-use crate::sizes::flag_at;
-use sq_homes::Choice;
+use sq_homes::{Choice, flag_at};
 use sqlite_items::Items;
 use std::alloc::{AllocError, Global};
 

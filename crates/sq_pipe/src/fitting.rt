@@ -8,8 +8,9 @@ ghost use Rattle.sq_pipe.specs.Greedy as spec;
 use crate::candidate::Candidate;
 use crate::reach::set_flag;
 use crate::room::Room;
-use crate::sizes::{flag_at, plus};
+use crate::sizes::plus;
 use sq_forms::{Caller, Form};
+use sq_homes::flag_at;
 use sqlite_items::{Items, at};
 use std::alloc::{AllocError, Global};
 

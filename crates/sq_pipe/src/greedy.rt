@@ -12,7 +12,7 @@ use crate::loops::{Caller, push_all};
 use crate::marks::{least_room, marks_of, most_children};
 use crate::room::Room;
 use crate::sizes::{moved_bytes, own_bytes};
-use sq_homes::Choice;
+use sq_homes::{Choice, choice_at, form_number};
 use sq_spec::{Body, FormBody, Resolved};
 use sqlite_items::{Items, at};
 use std::alloc::{AllocError, Global};
@@ -31,15 +31,6 @@ fn room_of(
     let own = own_bytes(body, c, more)?;
     let room = least_room(marks, r.machine().tree(), NO_BOUND);
     Ok(Room { own, more, room })
-}
-
-fn choice_at(choices: &[Choice], form: usize) -> Result<&Choice, AllocError>
-    ensures { IfOk result (λ c. c.now ≡ drafts.choice_in choices.now form) }
-{
-    match at(choices, form) {
-        Some(c) => Ok(c),
-        None => Err(AllocError),
-    }
 }
 
 #[tactic(auto, using(crate::proofs::Gets::got))]
@@ -78,15 +69,6 @@ fn push_body(out: &mut Items<Candidate>, caller: Caller<'_>, body: &Body) -> Res
 struct Chosen<'a> {
     choices: &'a [Choice],
     marks: &'a [Items<bool>],
-}
-
-fn form_number(form: usize) -> Result<u32, AllocError>
-    ensures { IfOk result (λ n. n ≡ form) }
-{
-    match u32::try_from(form) {
-        Ok(n) => Ok(n),
-        Err(_) => Err(AllocError),
-    }
 }
 
 // Of a form whose body is there.

@@ -3,15 +3,13 @@
 ghost use Rattle.std.specs.Prelude.{◌≡◌, ◌+◌, ℕ, Bool, List, slice_set, get_or, replicate, length, min, max};
 ghost use Rattle.std.specs.Prelude.{[], true, false, if◌then◌else◌, IfOk, OnOk};
 ghost use Rattle.std.specs.Option.{option_copied};
-ghost use Rattle.sq_homes.specs.Drafts as drafts;
 ghost use Rattle.sq_pipe.specs.Runs as spec;
 
 use crate::reach::{flag_number, flags_of, no_flags, set_flag};
 use sq_forms::Form;
+use sq_homes::{form_number, level_at, rule_at};
 use sq_machfile::Node;
-use sq_mapfile::Instance;
 use sq_spec::Resolved;
-use sq_text::SpreadRule;
 use sqlite_items::{Items, at};
 use std::alloc::{AllocError, Global};
 
@@ -81,44 +79,6 @@ pub fn most_children(marks: &[bool], nodes: &[Node]) -> u32
         least = more_children(marks, n, node, least);
     }
     least
-}
-
-// ---- what is known of a form
-
-fn level_at(r: &Resolved<'_>, form: usize) -> u32
-    ensures { result ≡ spec.level_at r.now form }
-{
-    match at(r.forms(), form) {
-        None => 0,
-        Some(f) => f.level,
-    }
-}
-
-fn instance_at<'a>(r: &Resolved<'a>, form: usize) -> Option<&'a Instance>
-    ensures { option_copied result ≡ drafts.instance_at r.now form }
-{
-    match at(r.forms(), form) {
-        None => None,
-        Some(f) => at(r.mapping().instances.as_slice(), f.instance as usize),
-    }
-}
-
-fn rule_at(r: &Resolved<'_>, form: usize) -> SpreadRule
-    ensures { result ≡ drafts.rule_by (drafts.instance_at r.now form) }
-{
-    match instance_at(r, form) {
-        None => SpreadRule::Cyclic,
-        Some(x) => x.spread,
-    }
-}
-
-fn form_number(form: usize) -> Result<u32, AllocError>
-    ensures { IfOk result (λ n. n ≡ form) }
-{
-    match u32::try_from(form) {
-        Ok(n) => Ok(n),
-        Err(_) => Err(AllocError),
-    }
 }
 
 // The tables of one form are there at a time.

@@ -19,7 +19,7 @@ use Rattle.sq_spec_laws.proofs.TableRowsHold.{tables_call, tables_map}
 use Rattle.sq_placed.specs.declared.home.Home.TheVariants.{InPlace}
 use Rattle.sq_placed.specs.declared.home.Homes.{Homes}
 use Rattle.sq_placed.specs.Tables.{row_form}
-use Rattle.sq_placed.specs.Pipes.{CallLoop, CallLoops, AreHeads, IsPiped, loop_round, call_loops}
+use Rattle.sq_placed.specs.Pipes.{CallLoop, CallLoops, AreHeads, call_loops}
 use Rattle.sq_placed.specs.Pipes as loops_of
 use Rattle.sq_placed.proofs.Pipes as pipes
 use Rattle.sq_cells.specs.Work.{Buffer}

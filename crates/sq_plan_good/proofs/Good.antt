@@ -59,9 +59,9 @@ use Rattle.sq_forms_fit.specs.Entry.{EntryFacts, ReadCodes, AreWhole, IsWhole}
 use Rattle.sq_forms_fit.specs.Entry.{entry_shapes, anything}
 use Rattle.sq_draft_laws.specs.AtLevels.{IsAtLevel}
 use Rattle.sq_draft_laws.specs.Laws.{HasPath}
+use Rattle.sq_draft_laws.specs.Opened.{WalkedIsThere}
 use Rattle.sq_draft_laws.specs.Scope.{HomesAreNear}
-use Rattle.sq_store.specs.Place.{IsPlaced}
-use Rattle.sq_store.specs.Walk.{offsets_of}
+use Rattle.sq_store.specs.Laws.{OffsetsAre, OffsetsAreAsMany}
 use Rattle.sq_homes.specs.declared.choice.Choice.{Choice}
 use Rattle.sq_homes.specs.Drafts.{bodies_of, homes_of, args_of, buffers_of, leaves_of, entry_of, program_term, IsDraftOf}
 use Rattle.sq_homes_laws.specs.Given.{level_at}
@@ -71,11 +71,12 @@ use Rattle.sq_homes_laws.specs.Choosing.{Walked, MayBeChosen, AreMemories, setti
 use Rattle.sq_homes_fit.specs.Levels.{BeginsAtRoot}
 use Rattle.sq_homes_fit.specs.Drafts.{limits, IsRoomyDraft}
 use Rattle.sq_homes_fit.specs.Owned.{OwnsItsBuffers}
+use Rattle.sq_homes_fit.specs.Placeable.{DraftsAreStackedByForms}
 use Rattle.sq_homes_fit.specs.Lanes.{IsDraftMachine}
 use Rattle.sq_draft_laws.specs.Short.{AreShort, round_of}
 use Rattle.sq_plan_good.specs.Parts.{Placing, Laws}
 use Rattle.sq_plan_good.specs.Good.{HasNoRace, IsInput, EndsAsMeant, HasLeafCalls, LeavesAreAtHome}
-use Rattle.sq_plan_good.specs.Good.{IsGoodFor}
+use Rattle.sq_plan_good.specs.Good.{IsGoodFor, WithRoomAreGood, StandsByForms, PlacedStandByForms}
 use Rattle.sq_plan_good.specs.Good.{MayLeave, MayOverlap, DraftsCanBePlaced, PlacedAreGood}
 
 -- ---- the last level
@@ -157,7 +158,8 @@ module _ (placing : Placing) (r : Resolved) (choices : List Choice) (may : MayBe
   placeable = placing.placeable r w choices may d is_draft nodes memories
 
   module _ (laws : Laws) (race_free : HasNoRace r) (leave : MayLeave r choices) (overlap : MayOverlap r choices)
-      (placed : IsPlaced d nodes (record { draft = d; offsets = offsets_of d; nodes = nodes }))
+      (offsets : List ℕ) (many : length offsets ≡ length d.buffers)
+      (room : KeepsRoom (record { draft = d; offsets = offsets; nodes = nodes }))
     where
       last : Last r.machine.now.levels
       last = last_of r.machine.now.levels nodes memories
@@ -196,10 +198,10 @@ module _ (placing : Placing) (r : Resolved) (choices : List Choice) (may : MayBe
       mays = mays_of r.typed.now.tasks r.mapping.now.instances r.found.entries
 
       abbrev p : Plan
-      p = record { draft = d; offsets = offsets_of d; nodes = nodes }
+      p = record { draft = d; offsets = offsets; nodes = nodes }
 
       abbrev offset : ℕ → ℕ
-      offset = λ b. get_or (offsets_of d) b 0
+      offset = λ b. get_or offsets b 0
 
       abbrev s : Setting
       s = setting_of r choices nodes offset
@@ -261,8 +263,8 @@ module _ (placing : Placing) (r : Resolved) (choices : List Choice) (may : MayBe
 
       keeps : rooms.KeepsRoom s outer entry x
       keeps = record {
-        states = subst (InEachState (HaveRoom s)) tree_is placed.room.states;
-        entry = placed.room.entry;
+        states = subst (InEachState (HaveRoom s)) tree_is room.states;
+        entry = room.entry;
       }
 
       stowed : EntryStowed (at_node s 0) (form_at s entry) outer (work (codes_of leaves) s.offset x outer)
@@ -326,7 +328,7 @@ module _ (placing : Placing) (r : Resolved) (choices : List Choice) (may : MayBe
       well_formed : IsWellFormed leaves p
       well_formed = record {
         nodes = memories.are;
-        offsets = laws.many d;
+        offsets = many;
         entry = entry_there;
         term = subst (λ (t : Term). Meets s (IsAllowed leaves s) t at_root entry) (sym term_is) formed;
       }
@@ -335,8 +337,8 @@ module _ (placing : Placing) (r : Resolved) (choices : List Choice) (may : MayBe
       good = record {
         well_formed = well_formed;
         independent = subst (EachUnordered (AreIndependent leaves)) (sym tree_is) safe.0;
-        room = placed.room.states;
-        entry = placed.room.entry;
+        room = room.states;
+        entry = room.entry;
       }
 
       -- ---- how it ends
@@ -414,20 +416,39 @@ drafts_can_be_placed placing r choices may d of nodes memories =
     subst (λ (x : Draft). IsPlaceable x nodes) (sym (drawn_is r choices d of))
     (placeable placing r choices may d.notes nodes memories)
 
--- with its offsets
-abbrev plan_with : List PlanNode → Draft → Plan
-plan_with nodes d = record { draft = d; offsets = offsets_of d; nodes = nodes }
-
+-- with offsets at which it has room
 good_with : Placing → Laws → (r : Resolved) → HasNoRace r → (choices : List Choice) → MayBeChosen r choices
-    → MayLeave r choices → MayOverlap r choices → (notes : List Note) (nodes : List PlanNode) → AreMemories r.machine.now.levels nodes
-    → (d : Draft) → drawn r choices notes ≡ d
-    → IsPlaced d nodes (plan_with nodes d) → IsGoodFor r choices nodes (plan_with nodes d)
-good_with placing laws r race_free choices may leave overlap notes nodes memories d is =
-    subst (λ (x : Draft). IsPlaced x nodes (plan_with nodes x) → IsGoodFor r choices nodes (plan_with nodes x)) is
-    (λ placed. all_good placing r choices may notes nodes memories laws race_free leave overlap placed)
+    → MayLeave r choices → MayOverlap r choices → (notes : List Note) (nodes : List PlanNode)
+    → AreMemories r.machine.now.levels nodes → (d : Draft) → drawn r choices notes ≡ d → (offsets : List ℕ)
+    → length offsets ≡ length d.buffers → KeepsRoom (record { draft = d; offsets = offsets; nodes = nodes })
+    → IsGoodFor r choices nodes (record { draft = d; offsets = offsets; nodes = nodes })
+good_with placing laws r race_free choices may leave overlap notes nodes memories d is offsets =
+    subst (λ (x : Draft). length offsets ≡ length x.buffers
+    → KeepsRoom (record { draft = x; offsets = offsets; nodes = nodes })
+    → IsGoodFor r choices nodes (record { draft = x; offsets = offsets; nodes = nodes })) is
+    (λ many room. all_good placing r choices may notes nodes memories laws race_free leave overlap offsets many room)
 
-pub placed_are_good : Placing → Laws → PlacedAreGood
-placed_are_good placing laws r race_free choices may leave overlap d of nodes memories p placed =
-    subst (IsGoodFor r choices nodes) (sym placed.is)
+pub with_room_are_good : Placing → Laws → WithRoomAreGood
+with_room_are_good placing laws r race_free choices may leave overlap d of nodes memories p has =
+    let is : p ≡ record { draft = d; offsets = p.offsets; nodes = nodes } = λ i. record {
+      draft = has.draft_ i;
+      offsets = p.offsets;
+      nodes = has.nodes_ i;
+    } in
+    subst (IsGoodFor r choices nodes) (sym is)
     (good_with placing laws r race_free choices may leave overlap d.notes nodes memories d (sym (drawn_is r choices d of))
-    (subst (IsPlaced d nodes) placed.is placed))
+    p.offsets has.many (subst KeepsRoom is has.room))
+
+pub placed_are_good : WithRoomAreGood → OffsetsAreAsMany → PlacedAreGood
+placed_are_good good many r race_free choices may leave overlap d of nodes memories p placed =
+    good r race_free choices may leave overlap d of nodes memories p (record {
+      draft_ = ap (λ (q : Plan). q.draft) placed.is;
+      many = ap (λ (q : Plan). length q.offsets) placed.is ∙ many d;
+      nodes_ = ap (λ (q : Plan). q.nodes) placed.is;
+      room = placed.room;
+    })
+
+pub placed_stand_by_forms : WalkedIsThere → DraftsAreStackedByForms → OffsetsAre → PlacedStandByForms
+placed_stand_by_forms walked stacked offsets r choices may d of nodes memories p placed =
+    let s = stacked r (walked r) choices may d of nodes memories in
+    subst (StandsByForms r choices) (sym placed.is) (record { numbers = s.numbers; each = offsets d _ s.stacks })

@@ -1,5 +1,5 @@
 -- Which plans are good for a program.
-use Rattle.std.specs.Prelude.{◌≡◌, ℕ, true, List, length, slice_get, Some, []}
+use Rattle.std.specs.Prelude.{◌≡◌, ◌<◌, ℕ, true, List, length, get_or, slice_get, Some, []}
 use Rattle.sq_rect.specs.Placing.{IsIn}
 use Rattle.sq_ast.specs.Modes.{is_read}
 use Rattle.sq_leaf.specs.declared.shape.Shape.{Shape}
@@ -27,12 +27,17 @@ use Rattle.sq_forms_fit.specs.Entry.{entry_shapes}
 use Rattle.sq_forms_fit.specs.Held.{HoldsFit}
 use Rattle.sq_forms_fit.specs.Piped.{PipesFit}
 use Rattle.sq_forms_fit.specs.LeafCalls.{form_calls}
-use Rattle.sq_nests.specs.Drafts.{IsPlaceable}
+use Rattle.sq_nests.specs.Nests.{named_in}
+use Rattle.sq_nests.specs.Stacks.{capped, total, of_level}
+use Rattle.sq_nests.specs.Drafts.{whole, size_in, IsPlaceable, KeepsRoom}
+use Rattle.sq_rooms.specs.Callers.{before}
+use Rattle.sq_store.specs.Named.{EachNamed}
 use Rattle.sq_store.specs.Place.{IsPlaced}
 use Rattle.sq_homes.specs.declared.choice.Choice.{Choice}
 use Rattle.sq_homes.specs.Drafts.{bodies_of, homes_of, args_of, IsDraftOf}
 use Rattle.sq_homes_laws.specs.Given.{level_at}
 use Rattle.sq_homes_laws.specs.Choosing.{MayBeChosen, AreMemories}
+use Rattle.sq_homes_fit.specs.Numbers.{HaveNumbers}
 use Rattle.sq_draft_laws.specs.AtLevels.{IsAtLevel}
 
 -- no two iterations of its maps race
@@ -102,8 +107,37 @@ DraftsCanBePlaced = (r : Resolved) (choices : List Choice) → MayBeChosen r cho
     → (d : Draft) → IsDraftOf r choices d → (nodes : List PlanNode) → AreMemories r.machine.now.levels nodes
     → IsPlaceable d nodes
 
--- And where the program has no race, a plan of it is good.
+-- A plan of the draft in these memories, wherever its buffers stand: its live buffers have room in each state.
+pub record IsPlanWithRoom (d : Draft) (nodes : List PlanNode) (p : Plan) : Type 0 where
+  pub draft_ : p.draft ≡ d
+  pub many : length p.offsets ≡ length d.buffers
+  pub nodes_ : p.nodes ≡ nodes
+  pub room : KeepsRoom p
+
+-- And where the program has no race, such a plan is good,
+abbrev pub WithRoomAreGood : Type 0
+WithRoomAreGood = (r : Resolved) → HasNoRace r → (choices : List Choice) → MayBeChosen r choices → MayLeave r choices
+    → MayOverlap r choices → (d : Draft) → IsDraftOf r choices d → (nodes : List PlanNode)
+    → AreMemories r.machine.now.levels nodes → (p : Plan) → IsPlanWithRoom d nodes p → IsGoodFor r choices nodes p
+
+-- and so is the one whose buffers are stacked.
 abbrev pub PlacedAreGood : Type 0
 PlacedAreGood = (r : Resolved) → HasNoRace r → (choices : List Choice) → MayBeChosen r choices → MayLeave r choices
-    → MayOverlap r choices → (d : Draft) → IsDraftOf r choices d → (nodes : List PlanNode) → AreMemories r.machine.now.levels nodes
-    → (p : Plan) → IsPlaced d nodes p → IsGoodFor r choices nodes p
+    → MayOverlap r choices → (d : Draft) → IsDraftOf r choices d → (nodes : List PlanNode)
+    → AreMemories r.machine.now.levels nodes → (p : Plan) → IsPlaced d nodes p → IsGoodFor r choices nodes p
+
+-- ---- where its buffers stand
+
+-- The offset of a buffer: the bytes of the buffers of its level that the forms round its form have, and of those that
+-- stand in front of it in its form.
+pub record StandsByForms (r : Resolved) (choices : List Choice) (p : Plan) : Type 0 where
+  pub numbers : HaveNumbers r choices
+  pub each : (level : ℕ) → level < 8 → EachNamed (of_level p.draft.buffers level)
+      (λ b. get_or p.offsets b 0 ≡ capped (total (size_in p.draft.buffers) (before p.draft.buffers
+      (body_in (bodies_of r)) (homes_in (homes_of r choices)) numbers.numbering b)))
+      (named_in (whole p.draft))
+
+abbrev pub PlacedStandByForms : Type 0
+PlacedStandByForms = (r : Resolved) → (choices : List Choice) → MayBeChosen r choices → (d : Draft)
+    → IsDraftOf r choices d → (nodes : List PlanNode) → AreMemories r.machine.now.levels nodes → (p : Plan)
+    → IsPlaced d nodes p → StandsByForms r choices p

@@ -11,7 +11,6 @@ use Rattle.sq_forms_fit.specs.LeafCalls.{CallsAreOfTables}
 use Rattle.sq_forms_fit.specs.Written.{PlansAreWritten}
 use Rattle.sq_draft_laws.specs.AtLevels.{LeavesAreAtLevels}
 use Rattle.sq_draft_laws.specs.Laws.{FormsAreNear, PathsAreShort, PlansAreWellFormed}
-use Rattle.sq_store.specs.Laws.{OffsetsAreAsMany}
 use Rattle.sq_homes_laws.specs.Given.{HomesAreLeveled}
 use Rattle.sq_placed.specs.SameWorks.{SameWorksMean, SameWorksRace}
 use Rattle.sq_homes_laws.specs.Choosing.{ChosenStand}
@@ -64,7 +63,6 @@ pub record Laws : Type 0 where
   pub paths : PathsAreShort
   pub formed : PlansAreWellFormed
   pub at_levels : LeavesAreAtLevels
-  pub many : OffsetsAreAsMany
   pub serial : RaceFreeIsSerial
   pub means : TablesMeanProgram
   pub race_free : TablesAreRaceFree

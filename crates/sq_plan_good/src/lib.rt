@@ -1,7 +1,7 @@
 //! The plan of a program's draft is good for the program.
 #![tactic(auto)]
 
-ghost use Rattle.sq_plan_good.specs.Good.{DraftsCanBePlaced, PlacedAreGood};
+ghost use Rattle.sq_plan_good.specs.Good.{DraftsCanBePlaced, WithRoomAreGood, PlacedAreGood, PlacedStandByForms};
 
 use sq_draft_laws::laws::{
     leaves_are_short, leaves_of_drafts_stand, resolved_programs_were_walked,
@@ -12,9 +12,9 @@ use sq_forms_fit::{
     programs_fit,
 };
 use sq_homes_fit::{
-    drafts_are_roomy, drafts_are_tabled, drafts_begin_at_root, drafts_can_be_placed,
-    drafts_own_their_buffers, entries_are_whole, homes_fit_forms, lanes_are_there,
-    memories_are_machines,
+    drafts_are_roomy, drafts_are_stacked_by_forms, drafts_are_tabled, drafts_begin_at_root,
+    drafts_can_be_placed, drafts_own_their_buffers, entries_are_whole, homes_fit_forms,
+    lanes_are_there, memories_are_machines,
 };
 use sq_homes_laws::laws::{
     bodies_are_tables, buffers_have_their_levels, chosen_forms_stand, placed_is_program,
@@ -35,9 +35,10 @@ pub fn placing_succeeds()
     drafts_can_be_placed();
 }
 
-/// Where the program has no race, the plan of such a draft is good for it.
-pub fn placed_plans_are_good()
-    ensures { PlacedAreGood }
+/// Where the program has no race, a plan of such a draft that has room for its live buffers is good for it, wherever
+/// they stand.
+pub fn plans_with_room_are_good()
+    ensures { WithRoomAreGood }
 {
     resolved_programs_were_walked();
     drafts_begin_at_root();
@@ -72,8 +73,24 @@ pub fn placed_plans_are_good()
     paths_are_short();
     plans_are_well_formed();
     leaves_are_at_levels();
-    the_walk_lays_buffers();
     race_free_maps_are_serial();
     tables_mean_the_program();
     tables_are_free_of_races();
+}
+
+/// So the one whose buffers are stacked is.
+pub fn placed_plans_are_good()
+    ensures { PlacedAreGood }
+{
+    plans_with_room_are_good();
+    the_walk_lays_buffers();
+}
+
+/// Its buffers stand by forms: at each level those of the form that is called behind those of the forms round it.
+pub fn placed_plans_stand_by_forms()
+    ensures { PlacedStandByForms }
+{
+    resolved_programs_were_walked();
+    drafts_are_stacked_by_forms();
+    the_walk_lays_buffers();
 }

@@ -91,7 +91,8 @@ fn links(
     depth: usize,
     level: usize,
 ) -> Result<Links, ParseError>
-    ensures { Reads (spec.many_after (spec.is_operator level) (spec.link level (spec.level (spec.operand constant depth) level)) [] (symbols tokens.old)) result tokens.new }
+    ensures { Reads (spec.many_after (spec.is_operator level) (spec.link level
+        (spec.level (spec.operand constant depth) level)) [] (symbols tokens.old)) result tokens.new }
 {
     let mut found = Items::new(alloc);
     for _turn in 0..tokens.left() {
@@ -114,7 +115,8 @@ fn link(
     depth: usize,
     level: usize,
 ) -> Result<Link, ParseError>
-    ensures { Reads (spec.link level (spec.level (spec.operand constant depth) level) (symbols tokens.old)) result tokens.new }
+    ensures { Reads (spec.link level (spec.level (spec.operand constant depth) level) (symbols tokens.old)) result
+        tokens.new }
 {
     let place = tokens.place();
     let Some(op) = operator(level, tokens.peek()) else {
@@ -167,7 +169,8 @@ fn primary(
     constant: bool,
     depth: usize,
 ) -> Result<Expr, ParseError>
-    ensures { Reads (spec.primary constant depth (spec.inner constant depth) (spec.inside constant depth) (symbols tokens.old)) result tokens.new }
+    ensures { Reads (spec.primary constant depth (spec.inner constant depth) (spec.inside constant depth)
+        (symbols tokens.old)) result tokens.new }
 {
     match start_of(constant, tokens.peek()) {
         Start::Number => {
@@ -267,7 +270,8 @@ pub fn between(
     opening: Sign,
     closing: Sign,
 ) -> Result<Expr, ParseError>
-    ensures { Reads (spec.between (spec.inner constant depth) (Class.Sign opening) (Class.Sign closing) (symbols tokens.old)) result tokens.new }
+    ensures { Reads (spec.between (spec.inner constant depth) (Class.Sign opening) (Class.Sign closing)
+        (symbols tokens.old)) result tokens.new }
 {
     if !tokens.sees(Class::Sign(opening)) {
         return Err(tokens.refuse());
@@ -338,7 +342,8 @@ fn least(
     constant: bool,
     depth: usize,
 ) -> Result<Expr, ParseError>
-    ensures { Reads (spec.least (spec.inner constant depth) (spec.inside constant depth) (symbols tokens.old)) result tokens.new }
+    ensures { Reads (spec.least (spec.inner constant depth) (spec.inside constant depth) (symbols tokens.old)) result
+        tokens.new }
 {
     let (first, second) = pair(alloc, tokens, constant, depth)?;
     Ok(Expr::Least(Box::new(alloc, first)?, Box::new(alloc, second)?))
@@ -352,7 +357,8 @@ fn most(
     constant: bool,
     depth: usize,
 ) -> Result<Expr, ParseError>
-    ensures { Reads (spec.most (spec.inner constant depth) (spec.inside constant depth) (symbols tokens.old)) result tokens.new }
+    ensures { Reads (spec.most (spec.inner constant depth) (spec.inside constant depth) (symbols tokens.old)) result
+        tokens.new }
 {
     let (first, second) = pair(alloc, tokens, constant, depth)?;
     Ok(Expr::Most(Box::new(alloc, first)?, Box::new(alloc, second)?))
@@ -367,7 +373,8 @@ fn pair(
     constant: bool,
     depth: usize,
 ) -> Result<(Expr, Expr), ParseError>
-    ensures { Reads (spec.pair (spec.inner constant depth) (spec.inside constant depth) (symbols tokens.old)) result tokens.new }
+    ensures { Reads (spec.pair (spec.inner constant depth) (spec.inside constant depth) (symbols tokens.old)) result
+        tokens.new }
 {
     if !tokens.sees(Class::Sign(Sign::ParenOpen)) {
         return Err(tokens.refuse());

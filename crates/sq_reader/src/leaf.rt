@@ -81,7 +81,8 @@ pub fn leaf_stmts(
     tokens: &mut Tokens<'_>,
     depth: usize,
 ) -> Result<LeafStmts, ParseError>
-    ensures { Reads (spec.many_after spec.begins_leaf_stmt (spec.leaf_stmt depth) [] (symbols tokens.old)) result tokens.new }
+    ensures { Reads (spec.many_after spec.begins_leaf_stmt (spec.leaf_stmt depth) [] (symbols tokens.old)) result
+        tokens.new }
 {
     let mut found = Items::new(alloc);
     for _turn in 0..tokens.left() {

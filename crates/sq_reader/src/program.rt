@@ -413,7 +413,15 @@ fn leaf_task(
 }
 
 fn variant_of(task: Word, kind: VariantKind, params: Params, decls: Decls, body: Body) -> Variant
-    ensures { result ≡ record { place = task.place; task = task.name; kind = kind; params = params; decls = decls; body = body } }
+    ensures { result ≡ record {
+      place = task.place;
+      task = task.name;
+      kind = kind;
+      params = params;
+      decls = decls;
+      body
+          = body;
+    } }
 {
     let Word { place, name } = task;
     Variant {

@@ -106,8 +106,8 @@ module _ (d : Draft) (nodes : List PlanNode) (bodies : ℕ → FormBody) (homes 
       (have_sides s (far levels nodes) forest levels children x 0 0 0 seats [] root
       (λ l. children 0 (omega (arith, l, root))) spread).whole.aside)
 
-  stacks : (at : ℕ) → HaveBefore (of_level d.buffers at) (before d.buffers bodies homes k) [] (named_in (whole d))
-  stacks at =
+  pub are_stacked : (at : ℕ) → HaveBefore (of_level d.buffers at) (before d.buffers bodies homes k) [] (named_in (whole d))
+  are_stacked at =
       let here = of_level d.buffers at in
       let b = before d.buffers bodies homes k in
       let o = outer d.buffers bodies homes k here in
@@ -123,8 +123,7 @@ module _ (d : Draft) (nodes : List PlanNode) (bodies : ℕ → FormBody) (homes 
     term = h;
     aside = aside;
     before = before d.buffers bodies homes k;
-    stacks
-        = stacks;
+    stacks = are_stacked;
   }
 
 pub lowered_is_placeable : LoweredIsPlaceable

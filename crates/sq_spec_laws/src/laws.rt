@@ -1,7 +1,8 @@
 //! What follows for the forms of a program and their tables.
 
 ghost use Rattle.sq_spec_laws.specs.Named.{DeclaredNamesStand, VariablesStand, StandingNamesServe};
-ghost use Rattle.sq_spec_laws.specs.Needs.{NeedIsOne, NoFormNoNeed, EntryIsAtRoot, FormsRunAtTheirLevel, CallsAreThoseReached};
+ghost use Rattle.sq_spec_laws.specs.Needs.{NeedIsOne, NoFormNoNeed, EntryIsAtRoot, FormsRunAtTheirLevel};
+ghost use Rattle.sq_spec_laws.specs.Needs.{CallsAreThoseReached};
 ghost use Rattle.sq_spec_laws.specs.Filled.{ServedAreFull, TablesAreFull};
 ghost use Rattle.sq_spec_laws.specs.Summing.{SumsAreWhole, SumsAreAlone};
 ghost use Rattle.sq_spec_laws.specs.TableRows.{RowsAreReached};
@@ -48,7 +49,8 @@ pub fn rows_are_calls()
     ensures { RowsAreReached }
 {}
 
-/// The call of a `mapreduce` has the array that is reduced into as one argument, whole and for an `inout` parameter, and
+/// The call of a `mapreduce` has the array that is reduced into as one argument, whole and for an `inout` parameter,
+/// and
 /// no other argument is what is reduced into, nor of that array.
 pub fn sums_are_of_whole_arrays()
     ensures whole { SumsAreWhole }

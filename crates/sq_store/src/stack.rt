@@ -40,7 +40,8 @@ fn set_one(buffers: &[Buffer], level: u32, top: u64, offsets: &mut Offsets, b: u
 fn set_all(buffers: &[Buffer], level: u32, top: u64, offsets: &mut Offsets, named: &[u32]) -> u64
     requires { length offsets.old ≡ length buffers.now }
     ensures top { result ≡ top_after (of_level buffers.now level) (size_in buffers.now) named.now top }
-    ensures offsets { offsets.new ≡ set_all (of_level buffers.now level) (size_in buffers.now) named.now top offsets.old }
+    ensures offsets { offsets.new ≡ set_all (of_level buffers.now level) (size_in buffers.now) named.now top
+        offsets.old }
     ensures long { length offsets.new ≡ length buffers.now }
 {
     let mut next = top;

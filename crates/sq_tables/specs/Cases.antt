@@ -1,5 +1,5 @@
 -- The arms of a call, and the tables of its arguments.
-use Rattle.std.specs.Prelude.{◌≡◌, ℕ, suc, ◌==◌, ℤ, nat_eq, List, [], ◌∷◌, slice_get, Option, Some, None}
+use Rattle.std.specs.Prelude.{◌≡◌, ℕ, suc, max, ◌==◌, ℤ, nat_eq, List, [], ◌∷◌, length, slice_get, Option, Some, None}
 use Rattle.std.specs.Prelude.{if◌then◌else◌}
 use Rattle.std.specs.List.{list_any}
 use Rattle.indexmap.specs.IndexMap.{get}
@@ -32,3 +32,8 @@ AreIndexed arms = AreFirsts arms.list (get nat_eq arms.firsts)
 pub record AreTables (views : List LeafView) (instances : List CallInstance)
     (tables : List (Option (List ℤ))) : Type 0 where
   pub each : (i : ℕ) (table : Option (List ℤ)) → slice_get tables i ≡ Some table → table ≡ offsets views instances i
+
+-- as many as the row with most arguments has
+abbrev pub most_args : List CallInstance → ℕ
+most_args [] = 0
+most_args (row ∷ rows) = max (length row.args) (most_args rows)

@@ -1,6 +1,6 @@
 //! The tables of the arguments of a call.
 
-ghost use Rattle.std.specs.Prelude.{◌≡◌, IfOk};
+ghost use Rattle.std.specs.Prelude.{◌≡◌, length, IfOk};
 ghost use Rattle.sq_term.specs.Terms as terms;
 ghost use Rattle.sq_tables.specs.Cases as cases;
 
@@ -20,7 +20,9 @@ pub struct CallTable<'a> {
     pub offsets: &'a [Option<Numbers>],
 }
 
-fn most_args(instances: &[CallInstance]) -> usize {
+fn most_args(instances: &[CallInstance]) -> usize
+    ensures { result ≡ cases.most_args instances.now }
+{
     let mut most = 0;
     for row in instances {
         if row.args.len() > most {
@@ -30,13 +32,14 @@ fn most_args(instances: &[CallInstance]) -> usize {
     most
 }
 
-/// Where the blocks of each argument begin, for all arms of a call.
+/// Where the blocks of each argument begin, for all arms of a call: a table for each that one of its rows has.
 pub fn tables_of(
     alloc: Global,
     views: &[LeafView],
     instances: &[CallInstance],
 ) -> Result<Items<Option<Numbers>>, AllocError>
-    ensures { IfOk result (λ ts. cases.AreTables views.now instances.now ts) }
+    ensures tables { IfOk result (λ ts. cases.AreTables views.now instances.now ts) }
+    ensures many { IfOk result (λ ts. length ts ≡ cases.most_args instances.now) }
 {
     let mut out = Items::new(alloc);
     for i in 0..most_args(instances) {

@@ -75,7 +75,8 @@ pub enum Command<'a> {
 
 /// The command that the words are, if they are one. It takes no memory.
 pub fn parse(words: &[String]) -> Option<Command<'_>>
-    ensures { MatchOption result (command_of (texts words.now) ≡ None) (λ c. command_of (texts words.now) ≡ Some (meant c)) }
+    ensures { MatchOption result (command_of (texts words.now) ≡ None)
+        (λ c. command_of (texts words.now) ≡ Some (meant c)) }
 {
     match words {
         [first, words @ ..] => match kind_for(first.as_str()) {
@@ -109,7 +110,8 @@ fn kind_for(word: &str) -> Option<Kind>
 
 // The command of that kind with these words behind its first, if they are names and options for it.
 fn with_words(kind: Kind, words: &[String]) -> Option<Command<'_>>
-    ensures { MatchOption result (named_command (Some kind) (texts words.now) ≡ None) (λ c. named_command (Some kind) (texts words.now) ≡ Some (meant c)) }
+    ensures { MatchOption result (named_command (Some kind) (texts words.now) ≡ None)
+        (λ c. named_command (Some kind) (texts words.now) ≡ Some (meant c)) }
 {
     match (kind, words) {
         (Kind::Check, [program]) => Some(Command::Check(Check {

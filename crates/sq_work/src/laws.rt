@@ -1,7 +1,8 @@
 //! What is true of the meaning of works.
 
 ghost use Rattle.sq_work.specs.InTurn.{ChangesWritten, DependsOnTouched, RaceFreeIsSerial};
-ghost use Rattle.sq_work.specs.Examples.{MovesDiffer, SumsCombine, TrapsHavePaths, OutBeginsWithZeros, LocalsBeginWithZeros, ArgumentsAreValues, SumsWrap};
+ghost use Rattle.sq_work.specs.Examples.{MovesDiffer, SumsCombine, TrapsHavePaths, OutBeginsWithZeros};
+ghost use Rattle.sq_work.specs.Examples.{LocalsBeginWithZeros, ArgumentsAreValues, SumsWrap};
 
 /// A work changes only what it writes.
 pub fn what_changes_is_written()

@@ -90,6 +90,13 @@ const RUNS: &[Case<'static>] = &[
         out: b"array B int [8]\n2 4 6 8 10 12 14 16\n",
         err: b"",
     },
+    // Blocks that overlap, in just as many bytes as they need.
+    Case {
+        words: &["run", "lists.sq", "lists.map", "56.mach", "6.txt"],
+        status: Status::Done,
+        out: b"array B int [7]\n2 4 6 8 8 10 12\n",
+        err: b"",
+    },
     Case {
         words: &["run", "total.sq", "total.map", "two.mach", "sum.txt"],
         status: Status::Done,
@@ -484,6 +491,13 @@ const PLANNED: &[Case<'static>] = &[
         words: &["plan", "two.sq", "8.map", "two.mach"],
         status: Status::Done,
         out: REPORT,
+        err: b"",
+    },
+    // Room for a second set, and one iteration for each child: nothing overlaps.
+    Case {
+        words: &["plan", "two.sq", "8.map", "more.mach"],
+        status: Status::Done,
+        out: b"level host nodes 1 capacity 64 need 64 used 64\nlevel core nodes 2 capacity 64 need 32 used 32\nbuffer host 0 32 top A\nbuffer host 32 32 top B\nbuffer core 0 16 low A\nbuffer core 16 16 low B\nedge host core down 32 up 32\nleaves 2\n",
         err: b"",
     },
     // Each node has a name.

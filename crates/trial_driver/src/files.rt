@@ -69,6 +69,14 @@ const FILES: &[(&str, &[u8])] = &[
         b"machine 1; level host { capacity 64; } children 2; level core { capacity 32; }",
     ),
     (
+        "more.mach",
+        b"machine 1; level host { capacity 64; } children 2; level core { capacity 64; }",
+    ),
+    (
+        "56.mach",
+        b"machine 1; level host { capacity 56; } children 2; level core { capacity 32; }",
+    ),
+    (
         "less.mach",
         b"machine 1; level host { capacity 64; } children 2; level core { capacity 31; }",
     ),

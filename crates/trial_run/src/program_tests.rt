@@ -1,4 +1,5 @@
-//! Programs as texts, compiled and run: the events of their plans, the bytes that these leave, their traps, and what has
+//! Programs as texts, compiled and run: the events of their plans, the bytes that these leave, their traps, and what
+//! has
 //! no room. All was computed by hand from what the language and the passes say.
 ghost use Rattle.std.specs.Prelude.{◌≡◌, None, IfOk};
 ghost use Rattle.sq_ir.specs.Plans.{IsGood};
@@ -75,7 +76,20 @@ void task twice::leaf(in int A[N], out int B[N]) {
 const BLOCKED: Sources = (
     DOUBLE,
     "mapping 2; entry top(N = 10); instance top = twice::inner @ host { spread = blocked; tunable U = 4; call twice -> low; } instance low = twice::leaf @ core { }",
-    "machine 2; levels host, core; node h { capacity 80; node a { capacity 32; } node b { capacity 32; } }",
+    "machine 2; levels host, core; node h { capacity 80; node a { capacity 32; } node b { capacity 16; } }",
+);
+
+// Four blocks on two children, which have no room for a second set.
+const CYCLIC: Sources = (
+    DOUBLE,
+    "mapping 1; entry top(N = 16); instance top = twice::inner @ host { tunable U = 4; call twice -> low; } instance low = twice::leaf @ core { }",
+    "machine 1; level host { capacity 128; } children 2; level core { capacity 63; }",
+);
+
+const HALVES: Sources = (
+    DOUBLE,
+    "mapping 2; entry top(N = 16); instance top = twice::inner @ host { spread = blocked; tunable U = 4; call twice -> low; } instance low = twice::leaf @ core { }",
+    "machine 1; level host { capacity 128; } children 2; level core { capacity 63; }",
 );
 
 const IN_PLACE: Sources = (
@@ -100,8 +114,7 @@ void task rev::leaf(in int X[N], inout int Y[N]) {
     "machine 1; level host { capacity 48; }",
 );
 
-const SUMMED: Sources = (
-    "void task total::inner(in int A[N], inout int S[1]) {
+const TOTAL: &str = "void task total::inner(in int A[N], inout int S[1]) {
   blkset Ab = rchop(A, 2);
   mapreduce (int i = 0 to N / 2) reduce (+, S) {
     total(Ab[i], S);
@@ -109,9 +122,18 @@ const SUMMED: Sources = (
 }
 void task total::leaf(in int A[N], inout int S[1]) {
   for (int i = 0; i < N; i++) S[0] += A[i];
-}",
+}";
+
+const SUMMED: Sources = (
+    TOTAL,
     "mapping 1; entry top(N = 4); instance top = total::inner @ host { call total -> low; } instance low = total::leaf @ core { }",
     "machine 1; level host { capacity 32; } children 2; level core { capacity 32; }",
+);
+
+const SUMMED_LONG: Sources = (
+    TOTAL,
+    "mapping 1; entry top(N = 8); instance top = total::inner @ host { call total -> low; } instance low = total::leaf @ core { }",
+    "machine 1; level host { capacity 48; } children 2; level core { capacity 32; }",
 );
 
 const TENS: Sources = (
@@ -183,11 +205,31 @@ void task next::leaf(inout int A[N]) {
 );
 
 // Events in order, for one input.
-const TRACES: [(Sources, &'static str, &'static str); 9] = [
+const TRACES: [(Sources, &'static str, &'static str); 13] = [
     (
         DOUBLED,
         "1 2 3 4 5 6 7 8 9 9 9 9 9 9 9 9",
         "fill 0.0:32 32\ncopy 0.0:0 1.0:0 16\nfill 1.0:16 16\nleaf 1.0 low\ncopy 1.0:16 0.0:32 16\ncopy 0.0:16 1.1:0 16\nfill 1.1:16 16\nleaf 1.1 low\ncopy 1.1:16 0.0:48 16\n",
+    ),
+    (
+        RAGGED,
+        "1 2 3 4 5 6 7 8 9 10",
+        "fill 0.0:40 40\ncopy 0.0:0 1.0:0 16\nfill 1.0:16 16\nleaf 1.0 low\ncopy 1.0:16 0.0:40 16\ncopy 0.0:32 1.0:0 8\nfill 1.0:8 8\nleaf 1.0 low\ncopy 1.0:8 0.0:72 8\ncopy 0.0:16 1.1:0 16\nfill 1.1:16 16\nleaf 1.1 low\ncopy 1.1:16 0.0:56 16\n",
+    ),
+    (
+        CYCLIC,
+        "1 2 3 4 5 6 7 8 9 10 11 12 13 14 15 16",
+        "fill 0.0:64 64\ncopy 0.0:0 1.0:0 16\nfill 1.0:16 16\nleaf 1.0 low\ncopy 1.0:16 0.0:64 16\ncopy 0.0:32 1.0:0 16\nfill 1.0:16 16\nleaf 1.0 low\ncopy 1.0:16 0.0:96 16\ncopy 0.0:16 1.1:0 16\nfill 1.1:16 16\nleaf 1.1 low\ncopy 1.1:16 0.0:80 16\ncopy 0.0:48 1.1:0 16\nfill 1.1:16 16\nleaf 1.1 low\ncopy 1.1:16 0.0:112 16\n",
+    ),
+    (
+        HALVES,
+        "1 2 3 4 5 6 7 8 9 10 11 12 13 14 15 16",
+        "fill 0.0:64 64\ncopy 0.0:0 1.0:0 16\nfill 1.0:16 16\nleaf 1.0 low\ncopy 1.0:16 0.0:64 16\ncopy 0.0:16 1.0:0 16\nfill 1.0:16 16\nleaf 1.0 low\ncopy 1.0:16 0.0:80 16\ncopy 0.0:32 1.1:0 16\nfill 1.1:16 16\nleaf 1.1 low\ncopy 1.1:16 0.0:96 16\ncopy 0.0:48 1.1:0 16\nfill 1.1:16 16\nleaf 1.1 low\ncopy 1.1:16 0.0:112 16\n",
+    ),
+    (
+        SUMMED_LONG,
+        "1 2 3 4 5 6 7 8 5",
+        "copy 0.0:0 1.0:0 8\nfill 1.0:8 4\nleaf 1.0 low\nacc + 1.0:8 0.0:32 4\ncopy 0.0:16 1.0:0 8\nfill 1.0:8 4\nleaf 1.0 low\nacc + 1.0:8 0.0:32 4\ncopy 0.0:8 1.1:0 8\nfill 1.1:8 4\nleaf 1.1 low\nacc + 1.1:8 0.0:32 4\ncopy 0.0:24 1.1:0 8\nfill 1.1:8 4\nleaf 1.1 low\nacc + 1.1:8 0.0:32 4\n",
     ),
     (NEVER, "1 2 3", "fill 0.0:16 12\n"),
     (

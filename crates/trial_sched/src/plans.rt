@@ -28,7 +28,11 @@ struct Stored {
 }
 
 fn one_buffer(alloc: Global) -> Result<Stored, AllocError>
-    ensures { IfOk result (λ r. r ≡ record { buffers = record { level = 0; size = 16; instance = []; array = [] } ∷ []; entry = 0 ∷ []; offsets = 0 ∷ [] }) }
+    ensures { IfOk result (λ r. r ≡ record {
+      buffers = record { level = 0; size = 16; instance = []; array = [] } ∷ [];
+      entry = 0 ∷ [];
+      offsets = 0 ∷ [];
+    }) }
 {
     let entry = Items::from_slice(alloc, &[0])?;
     let offsets = Items::from_slice(alloc, &[0])?;
@@ -131,7 +135,8 @@ fn filling_plan(alloc: Global, outer: u32, inner: u64) -> Result<Plan, AllocErro
 
 // The fill 1 for 0, and the fill 2 for 1.
 fn choice(alloc: Global, pick: u32) -> Result<Term, AllocError>
-    ensures { IfOk result (λ t. t ≡ term.Case (num.Const (pos pick)) (spec.fill (num.Const (pos 0)) (pos 1) ∷ spec.fill (num.Const (pos 0)) (pos 2) ∷ [])) }
+    ensures { IfOk result (λ t. t ≡ term.Case (num.Const (pos pick)) (spec.fill (num.Const (pos 0)) (pos 1) ∷ spec.fill
+        (num.Const (pos 0)) (pos 2) ∷ [])) }
 {
     let arms = pair(alloc, fill(Num::Const(0), 1), fill(Num::Const(0), 2))?;
     Ok(Term::Case {
@@ -154,7 +159,8 @@ fn spread(alloc: Global, rule: SpreadRule) -> Result<Term, AllocError>
 
 // Two fills in turn.
 fn turns(alloc: Global) -> Result<Term, AllocError>
-    ensures { IfOk result (λ t. t ≡ term.Loop (num.Const (pos 2)) (term.Seq (term.Skip ∷ spec.fill (num.Index 0) (pos 4) ∷ []))) }
+    ensures { IfOk result (λ t. t ≡ term.Loop (num.Const (pos 2)) (term.Seq
+        (term.Skip ∷ spec.fill (num.Index 0) (pos 4) ∷ []))) }
 {
     let parts = pair(alloc, Term::Skip, fill(Num::Index(0), 4))?;
     let body = looped(alloc, 2, Term::Seq(parts))?;

@@ -14,5 +14,5 @@ returns c =
     c.home_at-home.result (get_or c.args.callee.now.homes.now c.args.i InPlace)
     c.in_ok-table.table (offsets c.args.c.now.views c.args.call.now.instances.now c.args.i)
     c.args.c.now.ordinal c.args.v.now c.in_ok-outside.outside
-    c.reduces.ensures (c.shape_at.ensures c.in-Some.shape.now (ap option_copied c.in-Some.is)) c.home_at-home.ensures
+    c.reduces.ensures (c.shape_at.ensures.its c.in-Some.shape.now (ap option_copied c.in-Some.is)) c.home_at-home.ensures
     (search rules) c.in_ok-outside.ensures

@@ -7,8 +7,8 @@ use Rattle.sq_homes.proofs.entry.argument.Goals as goal
 
 pub returns : goal.returns
 returns c =
-    let spans : wholes c.args.extents.now ≡ Some c.in_ok-rect.rect = search rules in
-    let rect : whole c.args.extents.now ≡ c.in_ok-rect.rect = whole_is c.args.extents.now c.in_ok-rect.rect spans in
+    let spans : wholes c.args.extents.now ≡ Some c.in-Some.rect = search rules in
+    let rect : whole c.args.extents.now ≡ c.in-Some.rect = whole_is c.args.extents.now c.in-Some.rect spans in
     let number : c.in-Ok.array ≡ c.args.i = search rules in
     ap₂ (λ (n : ℕ) (l : List Span). record { mode = c.args.p.now.mode; is_reduced = false; array = n; rect = l }) number
     (sym rect)

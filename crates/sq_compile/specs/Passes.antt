@@ -1,0 +1,28 @@
+-- Each pass gives a draft whose plan is good, wherever its buffers stand with room for those that are live.
+use Rattle.std.specs.Prelude.{List}
+use Rattle.sq_spec.specs.declared.resolved.Resolved.{Resolved}
+use Rattle.sq_ir.specs.declared.plan.Draft.{Draft}
+use Rattle.sq_ir.specs.declared.plan.Plan.{Plan}
+use Rattle.sq_ir.specs.declared.plan.PlanNode.{PlanNode}
+use Rattle.sq_homes.specs.declared.choice.Choice.{Choice}
+use Rattle.sq_homes.specs.Drafts.{IsDraftOf}
+use Rattle.sq_homes_laws.specs.Choosing.{AreMemories}
+use Rattle.sq_lower.specs.Choices.{all_in_buffers}
+use Rattle.sq_elim.specs.Choices.{all_in_place}
+use Rattle.sq_hoist.specs.Choices.{hoisted}
+use Rattle.sq_pipe.specs.Greedy.{overlapped}
+use Rattle.sq_plan_good.specs.Good.{HasNoRace, IsPlanWithRoom, IsGoodFor}
+
+-- what a pass chooses
+pub data IsOfPass (r : Resolved) : List Choice → Type 0 where
+  Lowered : IsOfPass r (all_in_buffers r)
+  Dropped : IsOfPass r (all_in_place r)
+  Hoisted : IsOfPass r (hoisted r)
+  Overlapped : IsOfPass r (overlapped r)
+
+-- Without a race the plan of any pass's draft that has room in each state is good for the program: its run under picks 0
+-- ends as the program means, and its unordered events are independent.
+abbrev pub EachPassIsGood : Type 0
+EachPassIsGood = (r : Resolved) → HasNoRace r → (choices : List Choice) → IsOfPass r choices → (d : Draft)
+    → IsDraftOf r choices d → (nodes : List PlanNode) → AreMemories r.machine.now.levels nodes → (p : Plan)
+    → IsPlanWithRoom d nodes p → IsGoodFor r choices nodes p

@@ -1,4 +1,0 @@
-use Rattle.sq_driver.proofs.capacity.planned.Goals as goal
-
-pub returns-in-Ok-clause-its : goal.returns-in-Ok-clause-its
-returns-in-Ok-clause-its c = c.in-Ok.ensures.good (c.without_a_race.ensures c.args.resolved.now c.requires)

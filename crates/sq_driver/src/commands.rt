@@ -1,0 +1,8 @@
+//! The commands, one file each.
+
+pub mod check;
+pub mod demo;
+pub mod eval;
+pub mod fmt;
+pub mod plan;
+pub mod run;
