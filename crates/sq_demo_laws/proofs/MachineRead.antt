@@ -18,7 +18,7 @@ use Rattle.sq_machfile.specs.Grammar.{IsText, Derives, AMachine, of_levels, a_le
 use Rattle.sq_machfile.specs.Faults.{rules_of, LimitFault}
 use Rattle.sq_machfile.specs.Machines.{Hierarchy, machine_of, Writes, StandsFor, SyntaxFault, BrokenLimit, MachineFault}
 use Rattle.sq_machfile.proofs.Texts.{machine_format}
-use Rattle.sq_demo_laws.specs.Demo.{demo_machine}
+use Rattle.sq_report.specs.Demo.{demo_machine}
 use Rattle.sq_demo_laws.specs.Texts.{at, machine_tokens}
 use Rattle.sq_demo_laws.specs.Machine.{machine_text, demo_hierarchy}
 use Rattle.sq_demo_laws.specs.Laws.{OneList, NeverBoth}

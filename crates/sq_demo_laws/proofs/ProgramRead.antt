@@ -10,7 +10,7 @@ use Rattle.sq_ast.specs.declared.program.Program.{Program}
 use Rattle.sq_ast.specs.Symbols.{symbols}
 use Rattle.sq_ast.specs.Grammar.{Leveled, Within, most_levels}
 use Rattle.sq_parser.specs.Programs as parsing
-use Rattle.sq_demo_laws.specs.Demo.{demo_program}
+use Rattle.sq_report.specs.Demo.{demo_program}
 use Rattle.sq_demo_laws.specs.Texts.{program_tokens}
 use Rattle.sq_demo_laws.specs.Tree.{demo_tree}
 use Rattle.sq_demo_laws.specs.Laws.{OneList, NeverBoth, OneProgram, NeverMisread}

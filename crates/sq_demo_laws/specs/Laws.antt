@@ -33,7 +33,8 @@ use Rattle.sq_spec_laws.specs.Needs.{Needs}
 use Rattle.sq_machfile.specs.declared.node.Node.{Node}
 use Rattle.sq_machfile.specs.Machines.{WithinLimits}
 use Rattle.sq_demo_laws.specs.Tree.{demo_tree}
-use Rattle.sq_demo_laws.specs.Demo.{demo_program, demo_mapping, demo_machine, demo_data, demo_first, demo_second, demo_elements, matrix_of}
+use Rattle.sq_report.specs.Demo.{demo_program, demo_mapping, demo_machine, demo_first, demo_second, demo_elements}
+use Rattle.sq_demo.specs.Data.{demo_data, matrix_of}
 use Rattle.sq_demo_laws.specs.Texts.{program_tokens, mapping_tokens, machine_tokens}
 use Rattle.sq_demo_laws.specs.Machine.{demo_hierarchy, demo_mapped}
 use Rattle.sq_demo_laws.specs.FormsFound.{demo_forms, demo_uses, demo_resolving}
@@ -132,3 +133,21 @@ WrittenReadBack = (ws : List Wanted) (vss : List (List ℤ)) → All HasHead ws 
 -- the data of a number is read as its arrays
 abbrev pub DataIsRead : Type 0
 DataIsRead = (seed : ℕ) → arrays_of demo_wants (demo_data seed) ≡ Ok (demo_values seed)
+
+-- ---- all of it
+
+-- no phase of the demo has a fault, and its program doesn't trap
+pub record DemoLaws : Type 0 where
+  pub one_tree : OneTree
+  pub tokens : ProgramHasNoFault
+  pub read : ProgramIsRead
+  pub faultless : ProgramIsFaultless
+  pub one_machine : OneMachine
+  pub machine : MachineIsFaultless
+  pub one_mapping : OneMapping
+  pub mapping : MappingIsFaultless
+  pub resolves : ProgramResolves
+  pub free : FormsAreFree
+  pub enough : WithinLimits demo_hierarchy → NodesHaveEnough
+  pub input : DataIsRead
+  pub trapless : ProgramIsTrapless

@@ -1,4 +1,3 @@
-pub mod Demo
 pub mod Texts
 pub mod Tree
 pub mod Machine

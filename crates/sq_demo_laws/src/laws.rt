@@ -2,7 +2,7 @@
 
 ghost use Rattle.sq_machfile.specs.Machines.{WithinLimits};
 ghost use Rattle.sq_demo_laws.specs.Machine.{demo_hierarchy};
-ghost use Rattle.sq_demo_laws.specs.Laws.{OneMachine, MachineIsFaultless, OneMapping, MappingIsFaultless, MappingIsSound, ProgramIsFaultless, ProgramResolves, NodesHaveEnough, ProgramIsTrapless, OneTree, ProgramHasNoFault, ProgramIsRead, FormsAreFree, DataIsRead};
+ghost use Rattle.sq_demo_laws.specs.Laws.{OneMachine, MachineIsFaultless, OneMapping, MappingIsFaultless, MappingIsSound, ProgramIsFaultless, ProgramResolves, NodesHaveEnough, ProgramIsTrapless, OneTree, ProgramHasNoFault, ProgramIsRead, FormsAreFree, DataIsRead, DemoLaws};
 
 use sq_arrays::laws::written_arrays_read_back;
 use sq_lexer::laws::each_text_has_tokens_or_breaks;
@@ -68,4 +68,19 @@ pub fn the_data_is_read()
     ensures { DataIsRead }
 {
     written_arrays_read_back();
+}
+
+/// No phase of the demo has a fault, and its program doesn't trap.
+pub fn the_demo_is_accepted()
+    ensures { DemoLaws }
+{
+    the_program_is_read();
+    the_program_is_faultless();
+    the_machine_is_read();
+    the_mapping_is_read();
+    the_forms_are_found();
+    the_forms_are_free_of_races();
+    nodes_have_enough();
+    the_data_is_read();
+    the_program_is_trapless();
 }
