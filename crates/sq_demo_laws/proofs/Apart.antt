@@ -1,5 +1,5 @@
 -- No two accesses of the demo's forms race.
-use Rattle.std.proofs.Common.{◌≡◌, ◌⊎◌, inl, inr, ℕ, zero, suc, ◌<◌, ◌≤◌, Bool, true, false, not, ◌&&◌, ◌||◌, eqb, ltb, List, [], ◌∷◌, Option, Some, None, refl, sym, ◌∙◌, ap, subst, arith, slice_get}
+use Rattle.std.proofs.Common.{◌≡◌, ◌⊎◌, inl, inr, ℕ, ◌<◌, ◌≤◌, Bool, true, false, not, ◌&&◌, ◌||◌, eqb, ltb, List, [], ◌∷◌, Some, refl, ap, arith, slice_get}
 use Rattle.std.specs.List.{list_all}
 use Rattle.std.proofs.lemmas.Bool.Decides.{Decides-eqb, Decides-ltb}
 use Rattle.sq_text.specs.declared.place.Span.{Span}
@@ -8,7 +8,7 @@ use Rattle.sq_ast.specs.declared.program.Mode.{Mode}
 use Rattle.sq_ast.specs.declared.program.Mode.TheVariants.{Input, Output, Both}
 use Rattle.sq_forms.specs.declared.form.Use.{Use}
 use Rattle.sq_demo_laws.specs.FormsFound.{all_uses_from}
-use Rattle.sq_demo_laws.proofs.Tests.{both, passes}
+use Rattle.sq_demo_laws.proofs.Tests.{passes}
 
 abbrev pub writes : Mode → Bool
 writes Input = false
@@ -29,7 +29,8 @@ same_first _ _ = false
 
 abbrev pub are_clear : Use → Use → Bool
 are_clear a b =
-    not (writes a.mode || writes b.mode) || (not (eqb a.array b.array) || (same_first a.iterations b.iterations || not (meets a.rect b.rect)))
+    not (writes a.mode || writes b.mode) ||
+    (not (eqb a.array b.array) || (same_first a.iterations b.iterations || not (meets a.rect b.rect)))
 
 abbrev pub all_clear : List Use → Bool
 all_clear uses = list_all (λ a. list_all (are_clear a) uses) uses
@@ -37,7 +38,11 @@ all_clear uses = list_all (λ a. list_all (are_clear a) uses) uses
 -- ---- what it is worth
 
 overlap : (s t : Span) (x : ℕ) → s.lo ≤ x → x < s.hi → t.lo ≤ x → x < t.hi → (ltb s.lo t.hi && ltb t.lo s.hi) ≡ true
-overlap s t x a b c d = rw ((Decides-ltb s.lo t.hi).1 (omega (arith, a, d)), (Decides-ltb t.lo s.hi).1 (omega (arith, c, b))) refl
+overlap s t x a b c d = rw (
+  (Decides-ltb s.lo t.hi).1 (omega (arith, a, d)),
+  (Decides-ltb t.lo s.hi).1
+      (omega (arith, c, b)),
+) refl
 
 covered : (a b : List Span) (c : List ℕ) → Covers a c → Covers b c → meets a b ≡ true
 covered [] [] [] h k = refl
@@ -54,7 +59,8 @@ same_turn [] ys h = cc
 same_turn (x ∷ xs) [] h = cc
 same_turn (x ∷ xs) (y ∷ ys) h = ap (λ n. Some n) ((Decides-eqb x y).0 h)
 
-clear_cases : (w e s m : Bool) → (not w || (not e || (s || not m))) ≡ true → w ≡ true → e ≡ true → (s ≡ false) → m ≡ true → ⊥
+clear_cases : (w e s m : Bool) → (not w || (not e || (s || not m))) ≡ true → w ≡ true → e ≡ true → (s ≡ false)
+    → m ≡ true → ⊥
 clear_cases true true false true h a b c d = cc
 clear_cases true true false false h a b c d = cc
 clear_cases true true true m h a b c d = cc
@@ -70,12 +76,15 @@ same_or_not : (b : Bool) → (b ≡ true → ⊥) → b ≡ false
 same_or_not true h = absurd (h refl)
 same_or_not false h = refl
 
-pub no_clash : (uses : List Use) → all_clear uses ≡ true → (i j : ℕ) (a b : Use) → slice_get uses i ≡ Some a → slice_get uses j ≡ Some b
+pub no_clash : (uses : List Use) → all_clear uses ≡ true → (i j : ℕ) (a b : Use) → slice_get uses i ≡ Some a
+    → slice_get uses j ≡ Some b
     → (slice_get a.iterations 0 ≡ slice_get b.iterations 0 → ⊥) → a.array ≡ b.array → Share a.rect b.rect
     → (writes a.mode ≡ true) ⊎ (writes b.mode ≡ true) → ⊥
 no_clash uses clear i j a b at_a at_b apart array share write =
-    let test : are_clear a b ≡ true = passes (are_clear a) uses (passes (λ a. list_all (are_clear a) uses) uses clear i a at_a) j b at_b in
-    clear_cases (writes a.mode || writes b.mode) (eqb a.array b.array) (same_first a.iterations b.iterations) (meets a.rect b.rect) test
+    let test : are_clear a b ≡ true = passes (are_clear a) uses
+    (passes (λ a. list_all (are_clear a) uses) uses clear i a at_a) j b at_b in
+    clear_cases (writes a.mode || writes b.mode) (eqb a.array b.array) (same_first a.iterations b.iterations)
+    (meets a.rect b.rect) test
     (either (writes a.mode) (writes b.mode) write) ((Decides-eqb a.array b.array).1 array)
     (same_or_not (same_first a.iterations b.iterations) (λ h. apart (same_turn a.iterations b.iterations h)))
     (covered a.rect b.rect share.coordinate share.in_one share.in_other)

@@ -1,23 +1,24 @@
 -- The demo's data is the text of its arrays.
-use Rattle.std.proofs.Common.{◌≡◌, ℕ, zero, suc, ◌+◌, ◌*◌, ◌<◌, ◌≤◌, ◌^◌, ℤ, pos, negsuc, Bool, true, false, cond, List, [], ◌∷◌, ◌++◌, codes, length, take, drop, replicate, Ok, refl, sym, ◌∙◌, ap, subst, arith, inl, inr, append_assoc, append-nil, length-append, length-take, length-drop}
+use Rattle.std.proofs.Common.{◌≡◌, ℕ, zero, suc, ◌+◌, ◌*◌, ◌<◌, ◌≤◌, ◌^◌, ℤ, pos, negsuc, Bool, true, false, cond, List, [], ◌∷◌, ◌++◌, codes, length, take, drop, replicate, Ok, refl, sym, ◌∙◌, ap, subst, arith, inl, inr, append_assoc, append-nil, length-append}
 use Rattle.std.proofs.lemmas.Int.{ints}
 use Rattle.std.specs.Fmt.{signed_decimal, digits}
-use Rattle.std.specs.List.{All, AllZip}
+use Rattle.std.specs.List.{All}
 use Rattle.std.proofs.lemmas.List.Elements.{All-cons, All-nil}
 use Rattle.std.proofs.lemmas.List.{take-append-drop}
 use Rattle.std.proofs.lemmas.Fmt.{length_signed_le}
 use Rattle.std.proofs.lemmas.Bool.Decides.{leb_tells}
 use Rattle.sq_num.specs.declared.Elem.TheVariants.{Int}
-use Rattle.sq_num.specs.Elements.{values_in, value, width, IsValue, least, greatest}
+use Rattle.sq_num.specs.Elements.{values_in, value, IsValue, least, greatest}
 use Rattle.sq_num.proofs.Cutting.{value-fits}
 use Rattle.sq_rect.specs.Extents.{product}
-use Rattle.sq_arrays.specs.Arrays.{Wanted, AreValuesOf, arrays_of}
+use Rattle.sq_arrays.specs.Arrays.{AreValuesOf, arrays_of}
 use Rattle.sq_arrays.specs.Window.{AreIn}
 use Rattle.sq_arrays.specs.Words.{is_over}
 use Rattle.sq_arrays.specs.Written.{row_from, rows_text, head_text, array_text, arrays_text, HasHead}
 use Rattle.sq_report.specs.Demo.{demo_first, demo_second, demo_elements}
 use Rattle.sq_demo.specs.Data.{demo_data, matrix_of, matrix_text}
-use Rattle.sq_demo_laws.specs.Laws.{demo_wants, demo_values, matrix_values, WrittenReadBack, DataIsRead}
+use Rattle.sq_demo_laws.specs.Laws.{demo_wants, demo_values, matrix_values, DataIsRead}
+use Rattle.sq_demo_laws.proofs.Given.{WrittenReadBack}
 
 -- ---- values
 
@@ -36,12 +37,14 @@ count (suc n) bytes = ap suc (count n (drop 4 bytes))
 
 short_values : (n : ℕ) (bytes : List ℕ) → AllShort (values_in Int n bytes)
 short_values zero bytes = tt
-short_values (suc n) bytes = (short_number (value Int (take 4 bytes)) (value-fits Int (take 4 bytes)), short_values n (drop 4 bytes))
+short_values (suc n) bytes =
+    (short_number (value Int (take 4 bytes)) (value-fits Int (take 4 bytes)), short_values n (drop 4 bytes))
 
 in_type : (n : ℕ) (bytes : List ℕ) → All (IsValue Int) (values_in Int n bytes)
 in_type zero bytes = All-nil (IsValue Int)
 in_type (suc n) bytes =
-    All-cons (IsValue Int) (value Int (take 4 bytes)) (values_in Int n (drop 4 bytes)) (value-fits Int (take 4 bytes)) (in_type n (drop 4 bytes))
+    All-cons (IsValue Int) (value Int (take 4 bytes)) (values_in Int n (drop 4 bytes)) (value-fits Int (take 4 bytes))
+    (in_type n (drop 4 bytes))
 
 -- ---- the length of the text
 
@@ -67,7 +70,8 @@ row_short first (v ∷ vs) h =
     let one : length (signed_decimal v) ≤ 11 = h.0 in
     let inner = length-append (signed_decimal v) (row_from false vs) in
     let outer = length-append (cond first [] (codes " ")) (signed_decimal v ++ row_from false vs) in
-    let assoc : length ((cond first [] (codes " ") ++ signed_decimal v) ++ row_from false vs) ≡ length (cond first [] (codes " ") ++ (signed_decimal v ++ row_from false vs)) =
+    let assoc : length ((cond first [] (codes " ") ++ signed_decimal v) ++ row_from false vs) ≡ length
+    (cond first [] (codes " ") ++ (signed_decimal v ++ row_from false vs)) =
     ap length (append_assoc (cond first [] (codes " ")) (signed_decimal v) (row_from false vs)) in
     omega (arith, gap, more, one, inner, outer, assoc)
 
@@ -81,7 +85,8 @@ rows_short (suc n) last vs h =
     sym (length-append (take last vs) (drop last vs)) ∙ ap length (take-append-drop last vs) in
     omega (arith, first, more, whole, parts)
 
-short_heads : (length (head_text (matrix_of (codes "A"))) ≡ 23) × (length (head_text (matrix_of (codes "B"))) ≡ 23) × (length (head_text (matrix_of (codes "C"))) ≡ 23)
+short_heads : (length (head_text (matrix_of (codes "A"))) ≡ 23) × (length (head_text (matrix_of (codes "B"))) ≡ 23)
+    × (length (head_text (matrix_of (codes "C"))) ≡ 23)
 unfolding digits
 short_heads = (refl, refl, refl)
 
@@ -100,7 +105,8 @@ joined a b c = append_assoc a b c ∙ ap (λ d. a ++ (b ++ d)) (sym (append-nil 
 
 length_of : (a b c : List ℕ) → length (a ++ (b ++ (c ++ []))) ≡ length a + (length b + length c)
 length_of a b c =
-    length-append a (b ++ (c ++ [])) ∙ ap (λ n. length a + n) (length-append b (c ++ []) ∙ ap (λ d. length b + length d) (append-nil c))
+    length-append a (b ++ (c ++ []))
+    ∙ ap (λ n. length a + n) (length-append b (c ++ []) ∙ ap (λ d. length b + length d) (append-nil c))
 
 not_over : (text : List ℕ) → length text ≤ 600000 → is_over text ≡ false
 unfolding is_over
@@ -111,13 +117,16 @@ has_head name some word = record {
   name_some = some;
   name_word = word;
   extents_some = omega arith;
-  extents_small = All-cons (λ n. n < 2 ^ 32) 128 (128 ∷ []) (omega arith) (All-cons (λ n. n < 2 ^ 32) 128 [] (omega arith) (All-nil (λ n. n < 2 ^ 32)));
+  extents_small = All-cons (λ n. n < 2 ^ 32) 128 (128 ∷ []) (omega arith)
+      (All-cons (λ n. n < 2 ^ 32) 128 [] (omega arith) (All-nil (λ n. n < 2 ^ 32)));
 }
 
 have_heads : All HasHead demo_wants
 have_heads =
-    All-cons HasHead (matrix_of (codes "A")) (matrix_of (codes "B") ∷ matrix_of (codes "C") ∷ []) (has_head (codes "A") (omega arith) (refl, tt))
-    (All-cons HasHead (matrix_of (codes "B")) (matrix_of (codes "C") ∷ []) (has_head (codes "B") (omega arith) (refl, tt))
+    All-cons HasHead (matrix_of (codes "A")) (matrix_of (codes "B") ∷ matrix_of (codes "C") ∷ [])
+    (has_head (codes "A") (omega arith) (refl, tt))
+    (All-cons HasHead (matrix_of (codes "B")) (matrix_of (codes "C") ∷ [])
+    (has_head (codes "B") (omega arith) (refl, tt))
     (All-cons HasHead (matrix_of (codes "C")) [] (has_head (codes "C") (omega arith) (refl, tt)) (All-nil HasHead)))
 
 -- the values of an array of 128 by 128
@@ -142,18 +151,22 @@ read_back back u v w a b c =
     let first = array_short (codes "A") short_heads.0 u a.short a.few in
     let second = array_short (codes "B") short_heads.1 v b.short b.few in
     let third = array_short (codes "C") short_heads.2 w c.short c.few in
-    let whole = length_of (array_text (matrix_of (codes "A")) u) (array_text (matrix_of (codes "B")) v) (array_text (matrix_of (codes "C")) w) in
-    back demo_wants (u ∷ v ∷ w ∷ []) have_heads (are_values (codes "A") u a, (are_values (codes "B") v b, (are_values (codes "C") w c, tt)))
+    let whole = length_of (array_text (matrix_of (codes "A")) u) (array_text (matrix_of (codes "B")) v)
+    (array_text (matrix_of (codes "C")) w) in
+    back demo_wants (u ∷ v ∷ w ∷ []) have_heads
+    (are_values (codes "A") u a, (are_values (codes "B") v b, (are_values (codes "C") w c, tt)))
     (not_over (arrays_text demo_wants (u ∷ v ∷ w ∷ [])) (omega (arith, first, second, third, whole)))
 
 text_is : (seed : ℕ) → demo_data seed ≡ arrays_text demo_wants (demo_values seed)
 unfolding demo_data matrix_text
 text_is seed =
-    joined (array_text (matrix_of (codes "A")) (matrix_values (demo_first seed))) (array_text (matrix_of (codes "B")) (matrix_values (demo_second seed)))
+    joined (array_text (matrix_of (codes "A")) (matrix_values (demo_first seed)))
+    (array_text (matrix_of (codes "B")) (matrix_values (demo_second seed)))
     (array_text (matrix_of (codes "C")) (matrix_values (replicate (demo_elements * 4) 0)))
 
 pub data_is_read : WrittenReadBack → DataIsRead
 data_is_read back seed =
     subst (λ text. arrays_of demo_wants text ≡ Ok (demo_values seed)) (sym (text_is seed))
-    (read_back back (matrix_values (demo_first seed)) (matrix_values (demo_second seed)) (matrix_values (replicate (demo_elements * 4) 0))
+    (read_back back (matrix_values (demo_first seed)) (matrix_values (demo_second seed))
+    (matrix_values (replicate (demo_elements * 4) 0))
     (its_values (demo_first seed)) (its_values (demo_second seed)) (its_values (replicate (demo_elements * 4) 0)))

@@ -1,10 +1,12 @@
 -- Each node of the demo's machine has what the program's forms need there.
-use Rattle.std.proofs.Common.{◌≡◌, ◌⊎◌, inl, inr, ℕ, ◌<◌, ◌≤◌, Bool, true, leb, List, [], ◌∷◌, map, Some, Ok, refl, sym, ◌∙◌, ap, subst, arith, slice_get, if◌then◌else◌}
+use Rattle.std.proofs.Common.{◌≡◌, ◌⊎◌, inl, inr, ℕ, ◌≤◌, true, leb, List, map, Some, refl, sym, ◌∙◌, ap, subst, arith, slice_get, if◌then◌else◌}
 use Rattle.std.specs.List.{list_all}
 use Rattle.std.specs.Option.{option_map}
 use Rattle.std.proofs.lemmas.Option.{slice_get-map}
 use Rattle.sq_machfile.specs.declared.node.Node.{Node}
-use Rattle.sq_machfile.specs.Machines.{WithinLimits}
+use Rattle.sq_machfile.specs.Machines.{Hierarchy, WithinLimits}
+use Rattle.sq_mapfile.specs.declared.mapping.Mapping.{Mapping}
+use Rattle.sq_ast.specs.declared.program.Program.{Program}
 use Rattle.sq_mapfile.specs.Sound.{Sound}
 use Rattle.sq_forms.specs.declared.form.Form.{Form}
 use Rattle.sq_spec_laws.specs.Needs.{Ended, ends, EndsAt, Needs, FormsRunAtTheirLevel}
@@ -39,26 +41,45 @@ form_of k e f at_e at_f =
     ∙ ap (λ (fs : List Form). slice_get fs k) are_forms ∙ at_f in
     cc
 
-module _ (run : FormsRunAtTheirLevel) (within : WithinLimits demo_hierarchy) (sound : Sound demo_tree demo_hierarchy.levels demo_mapped) where
+module _ (run : FormsRunAtTheirLevel) (within : WithinLimits demo_hierarchy)
+    (sound : Sound demo_tree demo_hierarchy.levels demo_mapped) where
   end_fits : (node n : ℕ) (its : Node) → slice_get demo_hierarchy.nodes node ≡ Some its
       → EndsAt demo_tree.tasks demo_mapped.instances demo_hierarchy.nodes demo_forms node n → n ≤ its.capacity
   end_fits node n its there e =
-      let at = run demo_tree demo_hierarchy demo_mapped demo_resolving within sound program_resolves e.form node e.runs in
+      let at = run demo_tree demo_hierarchy demo_mapped demo_resolving within sound program_resolves e.form node e.runs
+      in
       let same : Some at.own ≡ Some its = sym at.own_there ∙ there in
       let own : at.own ≡ its = cc in
       let form : e.ended.0 ≡ at.form = form_of e.form e.ended at.form e.there at.form_there in
-      let level : e.ended.0.level ≡ its.level = ap (λ (f : Form). f.level) form ∙ sym at.level ∙ ap (λ (m : Node). m.level) own in
+      let level : e.ended.0.level ≡ its.level = ap (λ (f : Form). f.level) form ∙ sym at.level
+      ∙ ap (λ (m : Node). m.level) own in
       let first : e.ended.1 ≤ need_at e.ended.0.level =
-      at_most e.ended.1 (need_at e.ended.0.level) (passes (λ (e : Ended). leb e.1 (need_at e.0.level)) all_ends ends_fit e.form e.ended e.there) in
+      at_most e.ended.1 (need_at e.ended.0.level)
+      (passes (λ (e : Ended). leb e.1 (need_at e.0.level)) all_ends ends_fit e.form e.ended e.there) in
       let second : need_at its.level ≤ its.capacity =
-      at_most (need_at its.level) its.capacity (passes (λ (n : Node). leb (need_at n.level) n.capacity) demo_hierarchy.nodes nodes_fit node its there) in
+      at_most (need_at its.level) its.capacity
+      (passes (λ (n : Node). leb (need_at n.level) n.capacity) demo_hierarchy.nodes nodes_fit node its there) in
       let need : need_at e.ended.0.level ≡ need_at its.level = ap need_at level in
       let is : e.ended.1 ≡ n = e.is in
       omega (arith, first, second, need, is)
 
-  pub nodes_have_enough : NodesHaveEnough
-  nodes_have_enough node n its there needs = by_case needs.is
+  need_fits : (node n : ℕ) (its : Node) → slice_get demo_hierarchy.nodes node ≡ Some its
+      → Needs demo_tree.tasks demo_mapped.instances demo_hierarchy.nodes demo_forms node n → n ≤ its.capacity
+  need_fits node n its there needs = by_case needs.is
     where
-      by_case : (n ≡ 0) ⊎ EndsAt demo_tree.tasks demo_mapped.instances demo_hierarchy.nodes demo_forms node n → n ≤ its.capacity
+      by_case : (n ≡ 0) ⊎ EndsAt demo_tree.tasks demo_mapped.instances demo_hierarchy.nodes demo_forms node n
+          → n ≤ its.capacity
       by_case (inl e) = omega (arith, e)
       by_case (inr e) = end_fits node n its there e
+
+  pub nodes_have_enough : NodesHaveEnough
+  nodes_have_enough r typed mapping machine forms node n its there needs =
+      let by_tree = subst (λ (t : Program). Needs t.tasks r.mapping.now.instances r.machine.now.nodes r.forms node n)
+      typed needs in
+      let by_mapping = subst (λ (m : Mapping). Needs demo_tree.tasks m.instances r.machine.now.nodes r.forms node n)
+      mapping by_tree in
+      let by_machine = subst (λ (m : Hierarchy). Needs demo_tree.tasks demo_mapped.instances m.nodes r.forms node n)
+      machine by_mapping in
+      need_fits node n its (subst (λ (m : Hierarchy). slice_get m.nodes node ≡ Some its) machine there)
+      (subst (λ (fs : List Form). Needs demo_tree.tasks demo_mapped.instances demo_hierarchy.nodes fs node n) forms
+      by_machine)

@@ -1,5 +1,5 @@
 -- The demo's leaf code doesn't trap: each index is below its extent.
-use Rattle.std.proofs.Common.{◌≡◌, ℕ, zero, suc, ◌+◌, ◌<◌, ℤ, pos, Bool, true, false, List, [], ◌∷◌, map, codes, Option, Some, None, Result, Ok, Err, refl, sym, ◌∙◌, ap, subst, arith, slice_get}
+use Rattle.std.proofs.Common.{◌≡◌, ℕ, zero, suc, ◌+◌, ◌<◌, ℤ, pos, List, [], ◌∷◌, codes, Some, Result, Ok, Err, refl, sym, ◌∙◌, ap, subst, arith}
 use Rattle.std.proofs.Math.Path.{fun_ext}
 use Rattle.std.proofs.lemmas.Bool.Decides.{Decides-ltb}
 use Rattle.std.specs.Int.{int_gap}
@@ -16,9 +16,9 @@ use Rattle.sq_ast.specs.Grammar.{link_of, use_of}
 use Rattle.sq_blocks.specs.Names.{Numbers}
 use Rattle.sq_leaf.specs.declared.shape.Shape.{Shape}
 use Rattle.sq_leaf.specs.declared.trap.Trap.{Trap}
-use Rattle.sq_leaf.specs.Source.{Arrays, Scope, Given, Value, Indexed, Change, number_of, array_of, coordinates, element_of, value_of, indexed, side_of, link_step, linked, expr_step, assign_to, within, counting, one_by_one, leaf_meaning, body_meaning}
+use Rattle.sq_leaf.specs.Source.{Arrays, Scope, Given, Value, Indexed, Change, number_of, array_of, coordinates, element_of, value_of, indexed, side_of, link_step, linked, expr_step, assign_to, within, counting, one_by_one, leaf_meaning}
 use Rattle.sq_leaf.specs.Outcome.{and_then, turns}
-use Rattle.sq_leaf.specs.Leaf.{leaf_value, scope_of}
+use Rattle.sq_leaf.specs.Leaf.{leaf_value}
 use Rattle.sq_leaf.proofs.Opened.{value_number, value_name, value_element, value_chain, value_use, value_link, means_assign, means_for}
 use Rattle.sq_demo_laws.specs.Texts.{at}
 use Rattle.sq_demo_laws.specs.Tree.{word, target, product, addition, loop_i, loop_j, loop_k, leaf_variant}
@@ -29,11 +29,13 @@ abbrev pub Ends : {A E : Type 0} → Result A E → Type 0
 Ends (Ok a) = Unit {0}
 Ends (Err e) = ⊥
 
-then_ends : {A B : Type 0} (r : Result A Trap) (f : A → Result B Trap) → Ends r → ((a : A) → Ends (f a)) → Ends (and_then r f)
+then_ends : {A B : Type 0} (r : Result A Trap) (f : A → Result B Trap) → Ends r → ((a : A) → Ends (f a))
+    → Ends (and_then r f)
 then_ends (Ok a) f h k = k a
 then_ends (Err t) f h k = absurd h
 
-turns_end : {S : Type 0} (n b : ℕ) (f : ℤ → S → Result S Trap) → ((j : ℕ) → j < n → (s : S) → Ends (f (pos (b + j)) s)) → (s : S)
+turns_end : {S : Type 0} (n b : ℕ) (f : ℤ → S → Result S Trap) → ((j : ℕ) → j < n → (s : S) → Ends (f (pos (b + j)) s))
+    → (s : S)
     → Ends (turns n (pos b) f s)
 turns_end zero b f h s = tt
 turns_end (suc n) b f h s =
@@ -57,7 +59,8 @@ indexed_by w x y = record { place = w.place; name = w.name; index = named x ∷ 
 indexed_is : (w x y : Word) → indexed (use_of w (e.Name x ∷ e.Name y ∷ [])) ≡ indexed_by w x.name y.name
 indexed_is w x y =
     value_use w.place w.name (e.Name x ∷ e.Name y ∷ [])
-    ∙ ap (λ (v : Value). record { place = w.place; name = w.name; index = v ∷ value_of (e.Name y) ∷ [] }) (value_named x)
+    ∙ ap (λ (v : Value). record { place = w.place; name = w.name; index = v ∷ value_of (e.Name y) ∷ [] })
+    (value_named x)
     ∙ ap (λ (v : Value). record { place = w.place; name = w.name; index = named x.name ∷ v ∷ [] }) (value_named y)
 
 -- an element at two names
@@ -72,7 +75,8 @@ element_is w x y =
 abbrev pub product_by : Value
 product_by s g a =
     and_then (element_by (word 18 20 (codes "A")) (codes "i") (codes "k") s g a)
-    (λ x. and_then (linked op.Mul (at 18 28) x (element_by (word 18 30 (codes "B")) (codes "k") (codes "j") s g a)) (λ y. Ok y))
+    (λ x. and_then (linked op.Mul (at 18 28) x (element_by (word 18 30 (codes "B")) (codes "k") (codes "j") s g a))
+    (λ y. Ok y))
 
 chain_is : (left right : Value) (p : Place)
     → expr_step (Expr-F.Chain left (link_step (record { place = p; op = op.Mul; right = right }) ∷ []))
@@ -83,12 +87,17 @@ product_is : value_of product ≡ product_by
 product_is =
     let first : Value = element_by (word 18 20 (codes "A")) (codes "i") (codes "k") in
     let second : Value = element_by (word 18 30 (codes "B")) (codes "k") (codes "j") in
-    let a = e.Element (use_of (word 18 20 (codes "A")) (e.Name (word 18 22 (codes "i")) ∷ e.Name (word 18 25 (codes "k")) ∷ [])) in
-    let b = e.Element (use_of (word 18 30 (codes "B")) (e.Name (word 18 32 (codes "k")) ∷ e.Name (word 18 35 (codes "j")) ∷ [])) in
+    let a = e.Element (use_of (word 18 20 (codes "A")) (e.Name (word 18 22 (codes "i"))
+    ∷ e.Name (word 18 25 (codes "k")) ∷ [])) in
+    let b = e.Element (use_of (word 18 30 (codes "B")) (e.Name (word 18 32 (codes "k"))
+    ∷ e.Name (word 18 35 (codes "j")) ∷ [])) in
     value_chain a (link_of (at 18 28) op.Mul b ∷ [])
-    ∙ ap (λ v. expr_step (Expr-F.Chain v (side_of (link_of (at 18 28) op.Mul b) ∷ []))) (element_is (word 18 20 (codes "A")) (word 18 22 (codes "i")) (word 18 25 (codes "k")))
+    ∙ ap (λ v. expr_step (Expr-F.Chain v (side_of (link_of (at 18 28) op.Mul b) ∷ [])))
+    (element_is (word 18 20 (codes "A")) (word 18 22 (codes "i")) (word 18 25 (codes "k")))
     ∙ ap (λ w. expr_step (Expr-F.Chain first (w ∷ []))) (value_link (at 18 28) op.Mul b)
-    ∙ ap (λ (v : Value). expr_step (Expr-F.Chain first (link_step (record { place = at 18 28; op = op.Mul; right = v }) ∷ []))) (element_is (word 18 30 (codes "B")) (word 18 32 (codes "k")) (word 18 35 (codes "j")))
+    ∙ ap (λ (v : Value). expr_step
+    (Expr-F.Chain first (link_step (record { place = at 18 28; op = op.Mul; right = v }) ∷ [])))
+    (element_is (word 18 30 (codes "B")) (word 18 32 (codes "k")) (word 18 35 (codes "j")))
     ∙ chain_is first second (at 18 28)
 
 abbrev pub addition_by : Change
@@ -97,13 +106,16 @@ addition_by s g a = assign_to (indexed_by (word 18 9 (codes "C")) (codes "i") (c
 addition_is : leaf_meaning addition ≡ addition_by
 addition_is =
     means_assign target assign.Add product
-    ∙ ap (λ (u : Indexed). λ s g a. assign_to u assign.Add (value_of product) s g a) (indexed_is (word 18 9 (codes "C")) (word 18 11 (codes "i")) (word 18 14 (codes "j")))
-    ∙ ap (λ (v : Value). λ s g a. assign_to (indexed_by (word 18 9 (codes "C")) (codes "i") (codes "j")) assign.Add v s g a) product_is
+    ∙ ap (λ (u : Indexed). λ s g a. assign_to u assign.Add (value_of product) s g a)
+    (indexed_is (word 18 9 (codes "C")) (word 18 11 (codes "i")) (word 18 14 (codes "j")))
+    ∙ ap (λ (v : Value). λ s g a. assign_to (indexed_by (word 18 9 (codes "C")) (codes "i") (codes "j")) assign.Add v s
+    g a) product_is
 
 -- a loop from 0 to a name's number
 abbrev pub loop_by : (counter bound : List ℕ) → Change → Change
 loop_by counter bound body s g a =
-    turns (int_gap (pos 0) (number_of s bound g)) (pos 0) (λ i. one_by_one (body ∷ []) (within s counter) (counting g i)) a
+    turns (int_gap (pos 0) (number_of s bound g)) (pos 0)
+    (λ i. one_by_one (body ∷ []) (within s counter) (counting g i)) a
 
 loop_is : (w t y u : Word) (b : LeafStmt) (body : Change) → leaf_meaning b ≡ body
     → leaf_meaning (leafs.For w (e.Number (pos 0)) t (e.Name y) u (b ∷ [])) ≡ loop_by w.name y.name body
@@ -111,19 +123,24 @@ loop_is w t y u b body is =
     means_for w (e.Number (pos 0)) t (e.Name y) u (b ∷ [])
     ∙ fun_ext (λ s. fun_ext (λ g. fun_ext (λ a.
     ap (λ (v : Value). and_then (v s g a) (λ from. and_then (value_of (e.Name y) s g a) (λ end.
-    turns (int_gap from end) from (λ i. one_by_one (leaf_meaning b ∷ []) (within s w.name) (counting g i)) a))) (value_number (pos 0))
+    turns (int_gap from end) from (λ i. one_by_one (leaf_meaning b ∷ []) (within s w.name) (counting g i)) a)))
+    (value_number (pos 0))
     ∙ ap (λ (v : Value). and_then (v s g a) (λ end.
-    turns (int_gap (pos 0) end) (pos 0) (λ i. one_by_one (leaf_meaning b ∷ []) (within s w.name) (counting g i)) a)) (value_named y)
+    turns (int_gap (pos 0) end) (pos 0) (λ i. one_by_one (leaf_meaning b ∷ []) (within s w.name) (counting g i)) a))
+    (value_named y)
     ∙ ap (λ (c : Change). loop_by w.name y.name c s g a) is)))
 
 abbrev pub loops_by : Change
-loops_by = loop_by (codes "i") (codes "M") (loop_by (codes "j") (codes "N") (loop_by (codes "k") (codes "P") addition_by))
+loops_by = loop_by (codes "i") (codes "M")
+    (loop_by (codes "j") (codes "N") (loop_by (codes "k") (codes "P") addition_by))
 
 loops_are : leaf_meaning loop_i ≡ loops_by
 loops_are =
     loop_is (word 15 12 (codes "i")) (word 15 19 (codes "i")) (word 15 23 (codes "M")) (word 15 26 (codes "i")) loop_j _
-    (loop_is (word 16 14 (codes "j")) (word 16 21 (codes "j")) (word 16 25 (codes "N")) (word 16 28 (codes "j")) loop_k _
-    (loop_is (word 17 16 (codes "k")) (word 17 23 (codes "k")) (word 17 27 (codes "P")) (word 17 30 (codes "k")) addition addition_by addition_is))
+    (loop_is (word 16 14 (codes "j")) (word 16 21 (codes "j")) (word 16 25 (codes "N")) (word 16 28 (codes "j")) loop_k
+    _
+    (loop_is (word 17 16 (codes "k")) (word 17 23 (codes "k")) (word 17 27 (codes "P")) (word 17 30 (codes "k"))
+    addition addition_by addition_is))
 
 -- ---- it ends
 
@@ -150,29 +167,42 @@ one_ends : (c : Change) (s : Scope) (g : Given) (a : Arrays) → Ends (c s g a) 
 one_ends c s g a h = then_ends (c s g a) (λ b. Ok b) h (λ b. tt)
 
 loop_k_ends : (i j : ℕ) → i < 8 → j < 8 → (a : Arrays)
-    → Ends (loop_by (codes "k") (codes "P") addition_by (scope_in (codes "i" ∷ codes "j" ∷ [])) (given_at (pos i ∷ pos j ∷ [])) a)
+    → Ends (loop_by (codes "k") (codes "P") addition_by (scope_in (codes "i" ∷ codes "j" ∷ []))
+    (given_at (pos i ∷ pos j ∷ [])) a)
 loop_k_ends i j hi hj a =
-    turns_end 8 0 (λ k. one_by_one (addition_by ∷ []) (scope_in (codes "i" ∷ codes "j" ∷ codes "k" ∷ [])) (given_at (pos i ∷ pos j ∷ k ∷ [])))
+    turns_end 8 0 (λ k. one_by_one (addition_by ∷ []) (scope_in (codes "i" ∷ codes "j" ∷ codes "k" ∷ []))
+    (given_at (pos i ∷ pos j ∷ k ∷ [])))
     (λ k hk b. let at_k : k ≡ 0 + k = omega arith in
-    subst (λ k. Ends (one_by_one (addition_by ∷ []) (scope_in (codes "i" ∷ codes "j" ∷ codes "k" ∷ [])) (given_at (pos i ∷ pos j ∷ pos k ∷ [])) b)) at_k
-    (one_ends addition_by (scope_in (codes "i" ∷ codes "j" ∷ codes "k" ∷ [])) (given_at (pos i ∷ pos j ∷ pos k ∷ [])) b (addition_ends i j k hi hj hk b))) a
+    subst (λ k. Ends (one_by_one (addition_by ∷ []) (scope_in (codes "i" ∷ codes "j" ∷ codes "k" ∷ []))
+    (given_at (pos i ∷ pos j ∷ pos k ∷ [])) b)) at_k
+    (one_ends addition_by (scope_in (codes "i" ∷ codes "j" ∷ codes "k" ∷ [])) (given_at (pos i ∷ pos j ∷ pos k ∷ [])) b
+    (addition_ends i j k hi hj hk b))) a
 
 loop_j_ends : (i : ℕ) → i < 8 → (a : Arrays)
-    → Ends (loop_by (codes "j") (codes "N") (loop_by (codes "k") (codes "P") addition_by) (scope_in (codes "i" ∷ [])) (given_at (pos i ∷ [])) a)
+    → Ends (loop_by (codes "j") (codes "N") (loop_by (codes "k") (codes "P") addition_by) (scope_in (codes "i" ∷ []))
+    (given_at (pos i ∷ [])) a)
 loop_j_ends i hi a =
-    turns_end 8 0 (λ j. one_by_one (loop_by (codes "k") (codes "P") addition_by ∷ []) (scope_in (codes "i" ∷ codes "j" ∷ [])) (given_at (pos i ∷ j ∷ [])))
+    turns_end 8 0 (λ j. one_by_one (loop_by (codes "k") (codes "P") addition_by ∷ [])
+    (scope_in (codes "i" ∷ codes "j" ∷ [])) (given_at (pos i ∷ j ∷ [])))
     (λ j hj b. let at_j : j ≡ 0 + j = omega arith in
-    subst (λ j. Ends (one_by_one (loop_by (codes "k") (codes "P") addition_by ∷ []) (scope_in (codes "i" ∷ codes "j" ∷ [])) (given_at (pos i ∷ pos j ∷ [])) b)) at_j
-    (one_ends (loop_by (codes "k") (codes "P") addition_by) (scope_in (codes "i" ∷ codes "j" ∷ [])) (given_at (pos i ∷ pos j ∷ [])) b (loop_k_ends i j hi hj b))) a
+    subst (λ j. Ends (one_by_one (loop_by (codes "k") (codes "P") addition_by ∷ [])
+    (scope_in (codes "i" ∷ codes "j" ∷ [])) (given_at (pos i ∷ pos j ∷ [])) b)) at_j
+    (one_ends (loop_by (codes "k") (codes "P") addition_by) (scope_in (codes "i" ∷ codes "j" ∷ []))
+    (given_at (pos i ∷ pos j ∷ [])) b (loop_k_ends i j hi hj b))) a
 
 loop_i_ends : (a : Arrays) → Ends (loops_by (scope_in []) (given_at []) a)
 loop_i_ends a =
-    turns_end 8 0 (λ i. one_by_one (loop_by (codes "j") (codes "N") (loop_by (codes "k") (codes "P") addition_by) ∷ []) (scope_in (codes "i" ∷ [])) (given_at (i ∷ [])))
+    turns_end 8 0 (λ i. one_by_one (loop_by (codes "j") (codes "N") (loop_by (codes "k") (codes "P") addition_by) ∷ [])
+    (scope_in (codes "i" ∷ [])) (given_at (i ∷ [])))
     (λ i hi b. let at_i : i ≡ 0 + i = omega arith in
-    subst (λ i. Ends (one_by_one (loop_by (codes "j") (codes "N") (loop_by (codes "k") (codes "P") addition_by) ∷ []) (scope_in (codes "i" ∷ [])) (given_at (pos i ∷ [])) b)) at_i
-    (one_ends (loop_by (codes "j") (codes "N") (loop_by (codes "k") (codes "P") addition_by)) (scope_in (codes "i" ∷ [])) (given_at (pos i ∷ [])) b (loop_j_ends i hi b))) a
+    subst (λ i. Ends (one_by_one (loop_by (codes "j") (codes "N") (loop_by (codes "k") (codes "P") addition_by) ∷ [])
+    (scope_in (codes "i" ∷ [])) (given_at (pos i ∷ [])) b)) at_i
+    (one_ends (loop_by (codes "j") (codes "N") (loop_by (codes "k") (codes "P") addition_by))
+    (scope_in (codes "i" ∷ [])) (given_at (pos i ∷ [])) b (loop_j_ends i hi b))) a
 
-pub leaf_ends : (a : Arrays) → Ends (leaf_value (record { variant = leaf_variant; numbers = eights }) (eight_by_eight ∷ eight_by_eight ∷ eight_by_eight ∷ []) a)
+pub leaf_ends : (a : Arrays)
+    → Ends (leaf_value (record { variant = leaf_variant; numbers = eights }) (eight_by_eight ∷ eight_by_eight
+    ∷ eight_by_eight ∷ []) a)
 leaf_ends a =
     subst (λ (c : Change). Ends (one_by_one (c ∷ []) (scope_in []) (given_at []) a)) (sym loops_are)
     (one_ends loops_by (scope_in []) (given_at []) a (loop_i_ends a))

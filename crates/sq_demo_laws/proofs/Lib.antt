@@ -1,4 +1,5 @@
 pub mod Tests
+pub mod Given
 pub mod Pieces
 pub mod TextTokens
 pub mod ProgramTree

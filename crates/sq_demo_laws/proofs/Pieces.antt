@@ -1,18 +1,17 @@
 -- The demo's texts as the pieces that they are made of.
-use Rattle.std.proofs.Common.{◌≡◌, ℕ, ◌+◌, ◌^◌, pos, Bool, true, false, not, ◌&&◌, ◌||◌, eqb, ltb, List, [], ◌∷◌, ◌++◌, codes, slice_index, Option, Some, None, refl, sym, ap, subst, arith}
+use Rattle.std.proofs.Common.{◌≡◌, ℕ, ◌^◌, pos, Bool, true, not, ◌&&◌, ltb, List, [], ◌∷◌, ◌++◌, codes, slice_index, Option, Some, None, refl, sym, subst}
 use Rattle.std.specs.List.{list_all}
 use Rattle.std.specs.Option.{is_none}
 use Rattle.std.proofs.lemmas.Bool.Decides.{Decides-ltb}
 use Rattle.sq_text.specs.declared.place.Place.{Place}
 use Rattle.sq_text.specs.Places.{place_past}
-use Rattle.sq_lexer.specs.declared.token.Kind.{Kind}
 use Rattle.sq_lexer.specs.declared.token.Kind.TheVariants as kind
 use Rattle.sq_lexer.specs.declared.token.Sign.{Sign}
 use Rattle.sq_lexer.specs.declared.token.Sign.TheVariants as sign
 use Rattle.sq_lexer.specs.declared.token.Token.{Token}
 use Rattle.sq_lexer.specs.Bytes.{is_blank, is_letter, is_digit, is_in_word, first_is, number_of}
 use Rattle.sq_lexer.specs.Signs.{spelling, IsLongest}
-use Rattle.sq_lexer.specs.Tokens.{Stands, a_blank, a_word, a_number, a_sign, TokensFrom, at_end, after_gap, after_token, token, begins_comment}
+use Rattle.sq_lexer.specs.Tokens.{a_blank, a_word, a_number, a_sign, TokensFrom, at_end, after_gap, after_token, token, begins_comment}
 use Rattle.sq_lexer.specs.Reading.{pair}
 use Rattle.sq_demo_laws.proofs.Tests.{both, isnt}
 use Rattle.sq_lexer.proofs.SignLemmas.{Shape, of_two, of_one, shape, longest_pair, longest_single}
@@ -51,7 +50,8 @@ ends_spelling (a ∷ b ∷ more) next = true
 abbrev pub fits : Piece → List ℕ → Bool
 fits (gap blank) rest = is_blank blank
 fits (named word) rest = first_is is_letter word && (list_all is_in_word word && not (first_is is_in_word rest))
-fits (numeral digits) rest = first_is is_digit digits && (list_all is_digit digits && (not (first_is is_digit rest) && ltb (number_of digits) (2 ^ 63)))
+fits (numeral digits) rest = first_is is_digit digits &&
+    (list_all is_digit digits && (not (first_is is_digit rest) && ltb (number_of digits) (2 ^ 63)))
 fits (signed s) rest = ends_spelling (spelling s) (slice_index rest 0) && not (begins_comment (spelling s ++ rest))
 
 abbrev pub all_fit : List Piece → Bool
@@ -62,11 +62,14 @@ none_of : {A : Type 0} (o : Option A) → is_none o ≡ true → o ≡ None
 none_of None h = refl
 none_of (Some x) h = cc
 
-longest : (s : Sign) (rest : List ℕ) → Shape s → ends_spelling (spelling s) (slice_index rest 0) ≡ true → IsLongest s (spelling s ++ rest)
+longest : (s : Sign) (rest : List ℕ) → Shape s → ends_spelling (spelling s) (slice_index rest 0) ≡ true
+    → IsLongest s (spelling s ++ rest)
 longest s rest (of_two a b e p o) ends = subst (λ t. IsLongest s (t ++ rest)) (sym e) (longest_pair a b rest s e)
 longest s rest (of_one a e p o) ends =
-    let none : is_none (pair a (slice_index rest 0)) ≡ true = subst (λ t. ends_spelling t (slice_index rest 0) ≡ true) e ends in
-    subst (λ t. IsLongest s (t ++ rest)) (sym e) (longest_single a rest s e (none_of (pair a (slice_index rest 0)) none))
+    let none : is_none (pair a (slice_index rest 0)) ≡ true = subst (λ t. ends_spelling t (slice_index rest 0) ≡ true) e
+    ends in
+    subst (λ t. IsLongest s (t ++ rest)) (sym e)
+    (longest_single a rest s e (none_of (pair a (slice_index rest 0)) none))
 
 pub tokens_fit : (p : Place) (xs : List Piece) → all_fit xs ≡ true → TokensFrom p (text_of xs) (tokens_of p xs)
 tokens_fit p [] h = at_end
@@ -77,17 +80,23 @@ tokens_fit p (named word ∷ xs) h =
     let t = both (fits (named word) (text_of xs)) (all_fit xs) h in
     let u = both (first_is is_letter word) (list_all is_in_word word && not (first_is is_in_word (text_of xs))) t.0 in
     let v = both (list_all is_in_word word) (not (first_is is_in_word (text_of xs))) u.1 in
-    after_token refl (a_word u.0 v.0 (isnt (first_is is_in_word (text_of xs)) v.1)) (tokens_fit (place_past p word) xs t.1)
+    after_token refl (a_word u.0 v.0 (isnt (first_is is_in_word (text_of xs)) v.1))
+    (tokens_fit (place_past p word) xs t.1)
 tokens_fit p (numeral digits ∷ xs) h =
     let t = both (fits (numeral digits) (text_of xs)) (all_fit xs) h in
-    let u = both (first_is is_digit digits) (list_all is_digit digits && (not (first_is is_digit (text_of xs)) && ltb (number_of digits) (2 ^ 63))) t.0 in
-    let v = both (list_all is_digit digits) (not (first_is is_digit (text_of xs)) && ltb (number_of digits) (2 ^ 63)) u.1 in
+    let u = both (first_is is_digit digits)
+    (list_all is_digit digits && (not (first_is is_digit (text_of xs)) && ltb (number_of digits) (2 ^ 63))) t.0 in
+    let v = both (list_all is_digit digits) (not (first_is is_digit (text_of xs)) && ltb (number_of digits) (2 ^ 63))
+    u.1 in
     let w = both (not (first_is is_digit (text_of xs))) (ltb (number_of digits) (2 ^ 63)) v.1 in
-    after_token refl (a_number u.0 v.0 (isnt (first_is is_digit (text_of xs)) w.0) ((Decides-ltb (number_of digits) (2 ^ 63)).0 w.1)) (tokens_fit (place_past p digits) xs t.1)
+    after_token refl (a_number u.0 v.0 (isnt (first_is is_digit (text_of xs)) w.0)
+    ((Decides-ltb (number_of digits) (2 ^ 63)).0 w.1)) (tokens_fit (place_past p digits) xs t.1)
 tokens_fit p (signed s ∷ xs) h =
     let t = both (fits (signed s) (text_of xs)) (all_fit xs) h in
-    let u = both (ends_spelling (spelling s) (slice_index (text_of xs) 0)) (not (begins_comment (spelling s ++ text_of xs))) t.0 in
-    after_token refl (a_sign (longest s (text_of xs) (shape s) u.0) (isnt (begins_comment (spelling s ++ text_of xs)) u.1)) (tokens_fit (place_past p (spelling s)) xs t.1)
+    let u = both (ends_spelling (spelling s) (slice_index (text_of xs) 0))
+    (not (begins_comment (spelling s ++ text_of xs))) t.0 in
+    after_token refl (a_sign (longest s (text_of xs) (shape s) u.0)
+    (isnt (begins_comment (spelling s ++ text_of xs)) u.1)) (tokens_fit (place_past p (spelling s)) xs t.1)
 
 -- ---- the texts
 
@@ -203,4 +212,3 @@ machine_pieces =
     named (codes "children") ∷ gap 32 ∷ numeral (codes "4") ∷ signed sign.Semi ∷ gap 32 ∷ named (codes "level") ∷
     gap 32 ∷ named (codes "core") ∷ gap 32 ∷ signed sign.BraceOpen ∷ gap 32 ∷ named (codes "capacity") ∷ gap 32 ∷
     numeral (codes "1280") ∷ signed sign.Semi ∷ gap 32 ∷ signed sign.BraceClose ∷ []
-

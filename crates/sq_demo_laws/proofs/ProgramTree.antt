@@ -1,19 +1,14 @@
 -- The tokens of the demo's program stand for its tree.
-use Rattle.std.proofs.Common.{◌≡◌, ℕ, pos, List, [], ◌∷◌, codes, refl}
-use Rattle.std.proofs.Common.{◌≤◌}
-use Rattle.sq_text.specs.declared.place.Place.{Place}
-use Rattle.sq_text.specs.declared.word.Word.{Word as Named}
+use Rattle.std.proofs.Common.{◌≡◌, pos, List, [], ◌∷◌, codes, refl}
 use Rattle.sq_lexer.specs.declared.token.Sign.TheVariants as g
 use Rattle.sq_ast.specs.declared.keyword.Keyword.TheVariants as k
 use Rattle.sq_ast.specs.declared.expr.BinOp.TheVariants as op
 use Rattle.sq_ast.specs.declared.expr.Expr.TheVariants as e
-use Rattle.sq_ast.specs.declared.stmt.Stmt.TheVariants as s
-use Rattle.sq_ast.specs.declared.program.Extent.TheVariants.{Size}
 use Rattle.sq_ast.specs.declared.program.Decl.TheVariants as declared
-use Rattle.sq_ast.specs.Symbols.{Symbol, Word, Number, Key, Mark, Last, symbols, keyword_of}
-use Rattle.sq_ast.specs.Grammar.{Leveled, at as leveled, kinds, Within, most_levels, StandsFor, IsText, Derives, Many, One, Task, Any, link_of, use_of, no_more, one_more, a_list, a_next, a_void_task, an_inner, a_leaf, a_param, an_extent, tunables, an_rchop, a_call_stmt, a_map, a_range, a_call, an_arg, an_index, an_assignment, a_for, bare, an_operand, a_chain, a_link, a_number, a_name, an_element}
+use Rattle.sq_ast.specs.Symbols.{Word, Number, Key, Mark, Last, symbols, keyword_of}
+use Rattle.sq_ast.specs.Grammar.{Leveled, at as leveled, kinds, IsText, Derives, Many, One, Task, Any, link_of, use_of, no_more, one_more, a_list, a_next, a_void_task, an_inner, a_leaf, a_param, an_extent, tunables, an_rchop, a_call_stmt, a_map, a_range, a_call, an_arg, an_index, an_assignment, a_for, bare, an_operand, a_chain, a_link, a_number, a_name, an_element}
 use Rattle.sq_demo_laws.specs.Texts.{at, program_tokens}
-use Rattle.sq_demo_laws.specs.Tree.{word, bound_i, bound_j, bound_k, argument_Ab, argument_Bb, argument_Cb, product_call, products_map, blocks_map, inner_params, inner_decls, inner_variant, target, product, addition, loop_i, loop_j, loop_k, leaf_params, leaf_decls, leaf_variant, demo_tree}
+use Rattle.sq_demo_laws.specs.Tree.{word, bound_i, bound_j, bound_k, argument_Ab, argument_Bb, argument_Cb, inner_variant, leaf_variant, demo_tree}
 
 -- the tokens with their levels
 unfoldable pub leaf_leveled : List Leveled
@@ -146,13 +141,304 @@ inner_leveled later =
 
 leaf_derived : Derives (One Task 0 leaf_variant) leaf_leveled (leveled (Last (at 20 1)) 0 ∷ [])
 unfolding leaf_leveled
-leaf_derived = a_void_task (a_leaf {w = word 14 11 (codes "matmul")} {ds = []} (a_list (a_param {w = word 14 31 (codes "A")} refl refl (an_extent refl) (one_more refl (an_extent refl) (no_more))) (one_more refl (a_next (a_param {w = word 14 47 (codes "B")} refl refl (an_extent refl) (one_more refl (an_extent refl) (no_more)))) (one_more refl (a_next (a_param {w = word 14 66 (codes "C")} refl refl (an_extent refl) (one_more refl (an_extent refl) (no_more)))) (no_more)))) (no_more) (one_more refl (a_for {counter = word 15 12 (codes "i")} {tested = word 15 19 (codes "i")} {stepped = word 15 26 (codes "i")} (a_chain {x = e.Number (pos 0)} {xs = []} (a_chain {x = e.Number (pos 0)} {xs = []} (a_chain {x = e.Number (pos 0)} {xs = []} (a_chain {x = e.Number (pos 0)} {xs = []} (a_chain {x = e.Number (pos 0)} {xs = []} (a_chain {x = e.Number (pos 0)} {xs = []} (a_chain {x = e.Number (pos 0)} {xs = []} (a_chain {x = e.Number (pos 0)} {xs = []} (a_chain {x = e.Number (pos 0)} {xs = []} (a_chain {x = e.Number (pos 0)} {xs = []} (an_operand (a_number)) no_more) no_more) no_more) no_more) no_more) no_more) no_more) no_more) no_more) no_more) (a_chain {x = e.Name (word 15 23 (codes "M"))} {xs = []} (a_chain {x = e.Name (word 15 23 (codes "M"))} {xs = []} (a_chain {x = e.Name (word 15 23 (codes "M"))} {xs = []} (a_chain {x = e.Name (word 15 23 (codes "M"))} {xs = []} (a_chain {x = e.Name (word 15 23 (codes "M"))} {xs = []} (a_chain {x = e.Name (word 15 23 (codes "M"))} {xs = []} (a_chain {x = e.Name (word 15 23 (codes "M"))} {xs = []} (a_chain {x = e.Name (word 15 23 (codes "M"))} {xs = []} (a_chain {x = e.Name (word 15 23 (codes "M"))} {xs = []} (a_chain {x = e.Name (word 15 23 (codes "M"))} {xs = []} (an_operand (an_element {w = word 15 23 (codes "M")} {xs = []} no_more)) no_more) no_more) no_more) no_more) no_more) no_more) no_more) no_more) no_more) no_more) (bare (a_for {counter = word 16 14 (codes "j")} {tested = word 16 21 (codes "j")} {stepped = word 16 28 (codes "j")} (a_chain {x = e.Number (pos 0)} {xs = []} (a_chain {x = e.Number (pos 0)} {xs = []} (a_chain {x = e.Number (pos 0)} {xs = []} (a_chain {x = e.Number (pos 0)} {xs = []} (a_chain {x = e.Number (pos 0)} {xs = []} (a_chain {x = e.Number (pos 0)} {xs = []} (a_chain {x = e.Number (pos 0)} {xs = []} (a_chain {x = e.Number (pos 0)} {xs = []} (a_chain {x = e.Number (pos 0)} {xs = []} (a_chain {x = e.Number (pos 0)} {xs = []} (an_operand (a_number)) no_more) no_more) no_more) no_more) no_more) no_more) no_more) no_more) no_more) no_more) (a_chain {x = e.Name (word 16 25 (codes "N"))} {xs = []} (a_chain {x = e.Name (word 16 25 (codes "N"))} {xs = []} (a_chain {x = e.Name (word 16 25 (codes "N"))} {xs = []} (a_chain {x = e.Name (word 16 25 (codes "N"))} {xs = []} (a_chain {x = e.Name (word 16 25 (codes "N"))} {xs = []} (a_chain {x = e.Name (word 16 25 (codes "N"))} {xs = []} (a_chain {x = e.Name (word 16 25 (codes "N"))} {xs = []} (a_chain {x = e.Name (word 16 25 (codes "N"))} {xs = []} (a_chain {x = e.Name (word 16 25 (codes "N"))} {xs = []} (a_chain {x = e.Name (word 16 25 (codes "N"))} {xs = []} (an_operand (an_element {w = word 16 25 (codes "N")} {xs = []} no_more)) no_more) no_more) no_more) no_more) no_more) no_more) no_more) no_more) no_more) no_more) (bare (a_for {counter = word 17 16 (codes "k")} {tested = word 17 23 (codes "k")} {stepped = word 17 30 (codes "k")} (a_chain {x = e.Number (pos 0)} {xs = []} (a_chain {x = e.Number (pos 0)} {xs = []} (a_chain {x = e.Number (pos 0)} {xs = []} (a_chain {x = e.Number (pos 0)} {xs = []} (a_chain {x = e.Number (pos 0)} {xs = []} (a_chain {x = e.Number (pos 0)} {xs = []} (a_chain {x = e.Number (pos 0)} {xs = []} (a_chain {x = e.Number (pos 0)} {xs = []} (a_chain {x = e.Number (pos 0)} {xs = []} (a_chain {x = e.Number (pos 0)} {xs = []} (an_operand (a_number)) no_more) no_more) no_more) no_more) no_more) no_more) no_more) no_more) no_more) no_more) (a_chain {x = e.Name (word 17 27 (codes "P"))} {xs = []} (a_chain {x = e.Name (word 17 27 (codes "P"))} {xs = []} (a_chain {x = e.Name (word 17 27 (codes "P"))} {xs = []} (a_chain {x = e.Name (word 17 27 (codes "P"))} {xs = []} (a_chain {x = e.Name (word 17 27 (codes "P"))} {xs = []} (a_chain {x = e.Name (word 17 27 (codes "P"))} {xs = []} (a_chain {x = e.Name (word 17 27 (codes "P"))} {xs = []} (a_chain {x = e.Name (word 17 27 (codes "P"))} {xs = []} (a_chain {x = e.Name (word 17 27 (codes "P"))} {xs = []} (a_chain {x = e.Name (word 17 27 (codes "P"))} {xs = []} (an_operand (an_element {w = word 17 27 (codes "P")} {xs = []} no_more)) no_more) no_more) no_more) no_more) no_more) no_more) no_more) no_more) no_more) no_more) (bare (an_assignment {w = word 18 9 (codes "C")} {x = e.Name (word 18 11 (codes "i"))} {xs = ((e.Name (word 18 14 (codes "j"))) ∷ [])} (an_index (a_chain {x = e.Name (word 18 11 (codes "i"))} {xs = []} (a_chain {x = e.Name (word 18 11 (codes "i"))} {xs = []} (a_chain {x = e.Name (word 18 11 (codes "i"))} {xs = []} (a_chain {x = e.Name (word 18 11 (codes "i"))} {xs = []} (a_chain {x = e.Name (word 18 11 (codes "i"))} {xs = []} (a_chain {x = e.Name (word 18 11 (codes "i"))} {xs = []} (a_chain {x = e.Name (word 18 11 (codes "i"))} {xs = []} (a_chain {x = e.Name (word 18 11 (codes "i"))} {xs = []} (a_chain {x = e.Name (word 18 11 (codes "i"))} {xs = []} (a_chain {x = e.Name (word 18 11 (codes "i"))} {xs = []} (an_operand (an_element {w = word 18 11 (codes "i")} {xs = []} no_more)) no_more) no_more) no_more) no_more) no_more) no_more) no_more) no_more) no_more) no_more)) (one_more refl (an_index (a_chain {x = e.Name (word 18 14 (codes "j"))} {xs = []} (a_chain {x = e.Name (word 18 14 (codes "j"))} {xs = []} (a_chain {x = e.Name (word 18 14 (codes "j"))} {xs = []} (a_chain {x = e.Name (word 18 14 (codes "j"))} {xs = []} (a_chain {x = e.Name (word 18 14 (codes "j"))} {xs = []} (a_chain {x = e.Name (word 18 14 (codes "j"))} {xs = []} (a_chain {x = e.Name (word 18 14 (codes "j"))} {xs = []} (a_chain {x = e.Name (word 18 14 (codes "j"))} {xs = []} (a_chain {x = e.Name (word 18 14 (codes "j"))} {xs = []} (a_chain {x = e.Name (word 18 14 (codes "j"))} {xs = []} (an_operand (an_element {w = word 18 14 (codes "j")} {xs = []} no_more)) no_more) no_more) no_more) no_more) no_more) no_more) no_more) no_more) no_more) no_more)) (no_more)) refl (a_chain {x = e.Chain (e.Element (use_of (word 18 20 (codes "A")) ((e.Name (word 18 22 (codes "i"))) ∷ (e.Name (word 18 25 (codes "k"))) ∷ []))) (link_of (at 18 28) op.Mul (e.Element (use_of (word 18 30 (codes "B")) ((e.Name (word 18 32 (codes "k"))) ∷ (e.Name (word 18 35 (codes "j"))) ∷ []))) ∷ [])} {xs = []} (a_chain {x = e.Chain (e.Element (use_of (word 18 20 (codes "A")) ((e.Name (word 18 22 (codes "i"))) ∷ (e.Name (word 18 25 (codes "k"))) ∷ []))) (link_of (at 18 28) op.Mul (e.Element (use_of (word 18 30 (codes "B")) ((e.Name (word 18 32 (codes "k"))) ∷ (e.Name (word 18 35 (codes "j"))) ∷ []))) ∷ [])} {xs = []} (a_chain {x = e.Chain (e.Element (use_of (word 18 20 (codes "A")) ((e.Name (word 18 22 (codes "i"))) ∷ (e.Name (word 18 25 (codes "k"))) ∷ []))) (link_of (at 18 28) op.Mul (e.Element (use_of (word 18 30 (codes "B")) ((e.Name (word 18 32 (codes "k"))) ∷ (e.Name (word 18 35 (codes "j"))) ∷ []))) ∷ [])} {xs = []} (a_chain {x = e.Chain (e.Element (use_of (word 18 20 (codes "A")) ((e.Name (word 18 22 (codes "i"))) ∷ (e.Name (word 18 25 (codes "k"))) ∷ []))) (link_of (at 18 28) op.Mul (e.Element (use_of (word 18 30 (codes "B")) ((e.Name (word 18 32 (codes "k"))) ∷ (e.Name (word 18 35 (codes "j"))) ∷ []))) ∷ [])} {xs = []} (a_chain {x = e.Chain (e.Element (use_of (word 18 20 (codes "A")) ((e.Name (word 18 22 (codes "i"))) ∷ (e.Name (word 18 25 (codes "k"))) ∷ []))) (link_of (at 18 28) op.Mul (e.Element (use_of (word 18 30 (codes "B")) ((e.Name (word 18 32 (codes "k"))) ∷ (e.Name (word 18 35 (codes "j"))) ∷ []))) ∷ [])} {xs = []} (a_chain {x = e.Chain (e.Element (use_of (word 18 20 (codes "A")) ((e.Name (word 18 22 (codes "i"))) ∷ (e.Name (word 18 25 (codes "k"))) ∷ []))) (link_of (at 18 28) op.Mul (e.Element (use_of (word 18 30 (codes "B")) ((e.Name (word 18 32 (codes "k"))) ∷ (e.Name (word 18 35 (codes "j"))) ∷ []))) ∷ [])} {xs = []} (a_chain {x = e.Chain (e.Element (use_of (word 18 20 (codes "A")) ((e.Name (word 18 22 (codes "i"))) ∷ (e.Name (word 18 25 (codes "k"))) ∷ []))) (link_of (at 18 28) op.Mul (e.Element (use_of (word 18 30 (codes "B")) ((e.Name (word 18 32 (codes "k"))) ∷ (e.Name (word 18 35 (codes "j"))) ∷ []))) ∷ [])} {xs = []} (a_chain {x = e.Chain (e.Element (use_of (word 18 20 (codes "A")) ((e.Name (word 18 22 (codes "i"))) ∷ (e.Name (word 18 25 (codes "k"))) ∷ []))) (link_of (at 18 28) op.Mul (e.Element (use_of (word 18 30 (codes "B")) ((e.Name (word 18 32 (codes "k"))) ∷ (e.Name (word 18 35 (codes "j"))) ∷ []))) ∷ [])} {xs = []} (a_chain {x = e.Chain (e.Element (use_of (word 18 20 (codes "A")) ((e.Name (word 18 22 (codes "i"))) ∷ (e.Name (word 18 25 (codes "k"))) ∷ []))) (link_of (at 18 28) op.Mul (e.Element (use_of (word 18 30 (codes "B")) ((e.Name (word 18 32 (codes "k"))) ∷ (e.Name (word 18 35 (codes "j"))) ∷ []))) ∷ [])} {xs = []} (a_chain {x = e.Element (use_of (word 18 20 (codes "A")) ((e.Name (word 18 22 (codes "i"))) ∷ (e.Name (word 18 25 (codes "k"))) ∷ []))} {xs = link_of (at 18 28) op.Mul (e.Element (use_of (word 18 30 (codes "B")) ((e.Name (word 18 32 (codes "k"))) ∷ (e.Name (word 18 35 (codes "j"))) ∷ []))) ∷ []} (an_operand (an_element {w = word 18 20 (codes "A")} {xs = ((e.Name (word 18 22 (codes "i"))) ∷ (e.Name (word 18 25 (codes "k"))) ∷ [])} (one_more refl (an_index (a_chain {x = e.Name (word 18 22 (codes "i"))} {xs = []} (a_chain {x = e.Name (word 18 22 (codes "i"))} {xs = []} (a_chain {x = e.Name (word 18 22 (codes "i"))} {xs = []} (a_chain {x = e.Name (word 18 22 (codes "i"))} {xs = []} (a_chain {x = e.Name (word 18 22 (codes "i"))} {xs = []} (a_chain {x = e.Name (word 18 22 (codes "i"))} {xs = []} (a_chain {x = e.Name (word 18 22 (codes "i"))} {xs = []} (a_chain {x = e.Name (word 18 22 (codes "i"))} {xs = []} (a_chain {x = e.Name (word 18 22 (codes "i"))} {xs = []} (a_chain {x = e.Name (word 18 22 (codes "i"))} {xs = []} (an_operand (an_element {w = word 18 22 (codes "i")} {xs = []} no_more)) no_more) no_more) no_more) no_more) no_more) no_more) no_more) no_more) no_more) no_more)) (one_more refl (an_index (a_chain {x = e.Name (word 18 25 (codes "k"))} {xs = []} (a_chain {x = e.Name (word 18 25 (codes "k"))} {xs = []} (a_chain {x = e.Name (word 18 25 (codes "k"))} {xs = []} (a_chain {x = e.Name (word 18 25 (codes "k"))} {xs = []} (a_chain {x = e.Name (word 18 25 (codes "k"))} {xs = []} (a_chain {x = e.Name (word 18 25 (codes "k"))} {xs = []} (a_chain {x = e.Name (word 18 25 (codes "k"))} {xs = []} (a_chain {x = e.Name (word 18 25 (codes "k"))} {xs = []} (a_chain {x = e.Name (word 18 25 (codes "k"))} {xs = []} (a_chain {x = e.Name (word 18 25 (codes "k"))} {xs = []} (an_operand (an_element {w = word 18 25 (codes "k")} {xs = []} no_more)) no_more) no_more) no_more) no_more) no_more) no_more) no_more) no_more) no_more) no_more)) (no_more))))) (one_more refl (a_link refl (an_operand (an_element {w = word 18 30 (codes "B")} {xs = ((e.Name (word 18 32 (codes "k"))) ∷ (e.Name (word 18 35 (codes "j"))) ∷ [])} (one_more refl (an_index (a_chain {x = e.Name (word 18 32 (codes "k"))} {xs = []} (a_chain {x = e.Name (word 18 32 (codes "k"))} {xs = []} (a_chain {x = e.Name (word 18 32 (codes "k"))} {xs = []} (a_chain {x = e.Name (word 18 32 (codes "k"))} {xs = []} (a_chain {x = e.Name (word 18 32 (codes "k"))} {xs = []} (a_chain {x = e.Name (word 18 32 (codes "k"))} {xs = []} (a_chain {x = e.Name (word 18 32 (codes "k"))} {xs = []} (a_chain {x = e.Name (word 18 32 (codes "k"))} {xs = []} (a_chain {x = e.Name (word 18 32 (codes "k"))} {xs = []} (a_chain {x = e.Name (word 18 32 (codes "k"))} {xs = []} (an_operand (an_element {w = word 18 32 (codes "k")} {xs = []} no_more)) no_more) no_more) no_more) no_more) no_more) no_more) no_more) no_more) no_more) no_more)) (one_more refl (an_index (a_chain {x = e.Name (word 18 35 (codes "j"))} {xs = []} (a_chain {x = e.Name (word 18 35 (codes "j"))} {xs = []} (a_chain {x = e.Name (word 18 35 (codes "j"))} {xs = []} (a_chain {x = e.Name (word 18 35 (codes "j"))} {xs = []} (a_chain {x = e.Name (word 18 35 (codes "j"))} {xs = []} (a_chain {x = e.Name (word 18 35 (codes "j"))} {xs = []} (a_chain {x = e.Name (word 18 35 (codes "j"))} {xs = []} (a_chain {x = e.Name (word 18 35 (codes "j"))} {xs = []} (a_chain {x = e.Name (word 18 35 (codes "j"))} {xs = []} (a_chain {x = e.Name (word 18 35 (codes "j"))} {xs = []} (an_operand (an_element {w = word 18 35 (codes "j")} {xs = []} no_more)) no_more) no_more) no_more) no_more) no_more) no_more) no_more) no_more) no_more) no_more)) (no_more)))))) (no_more))) no_more) no_more) no_more) no_more) no_more) no_more) no_more) no_more) no_more)))))))) (no_more)))
+leaf_derived = a_void_task
+    (a_leaf {w = word 14 11 (codes "matmul")} {ds = []}
+    (a_list (a_param {w = word 14 31 (codes "A")} refl refl (an_extent refl) (one_more refl (an_extent refl) (no_more)))
+    (one_more refl (a_next (a_param {w = word 14 47 (codes "B")} refl refl (an_extent refl)
+    (one_more refl (an_extent refl) (no_more))))
+    (one_more refl (a_next (a_param {w = word 14 66 (codes "C")} refl refl (an_extent refl)
+    (one_more refl (an_extent refl) (no_more)))) (no_more)))) (no_more)
+    (one_more refl (a_for {counter = word 15 12 (codes "i")} {tested = word 15 19 (codes "i")}
+    {stepped = word 15 26 (codes "i")}
+    (a_chain {x = e.Number (pos 0)} {xs = []}
+    (a_chain {x = e.Number (pos 0)} {xs = []}
+    (a_chain {x = e.Number (pos 0)} {xs = []}
+    (a_chain {x = e.Number (pos 0)} {xs = []}
+    (a_chain {x = e.Number (pos 0)} {xs = []}
+    (a_chain {x = e.Number (pos 0)} {xs = []}
+    (a_chain {x = e.Number (pos 0)} {xs = []}
+    (a_chain {x = e.Number (pos 0)} {xs = []}
+    (a_chain {x = e.Number (pos 0)} {xs = []} (a_chain {x = e.Number (pos 0)} {xs = []} (an_operand (a_number)) no_more)
+    no_more) no_more) no_more) no_more) no_more) no_more) no_more) no_more) no_more)
+    (a_chain {x = e.Name (word 15 23 (codes "M"))} {xs = []}
+    (a_chain {x = e.Name (word 15 23 (codes "M"))} {xs = []}
+    (a_chain {x = e.Name (word 15 23 (codes "M"))} {xs = []}
+    (a_chain {x = e.Name (word 15 23 (codes "M"))} {xs = []}
+    (a_chain {x = e.Name (word 15 23 (codes "M"))} {xs = []}
+    (a_chain {x = e.Name (word 15 23 (codes "M"))} {xs = []}
+    (a_chain {x = e.Name (word 15 23 (codes "M"))} {xs = []}
+    (a_chain {x = e.Name (word 15 23 (codes "M"))} {xs = []}
+    (a_chain {x = e.Name (word 15 23 (codes "M"))} {xs = []}
+    (a_chain {x = e.Name (word 15 23 (codes "M"))} {xs = []}
+    (an_operand (an_element {w = word 15 23 (codes "M")} {xs = []} no_more)) no_more) no_more) no_more) no_more)
+    no_more) no_more) no_more) no_more) no_more) no_more)
+    (bare (a_for {counter = word 16 14 (codes "j")} {tested = word 16 21 (codes "j")} {stepped = word 16 28 (codes "j")}
+    (a_chain {x = e.Number (pos 0)} {xs = []}
+    (a_chain {x = e.Number (pos 0)} {xs = []}
+    (a_chain {x = e.Number (pos 0)} {xs = []}
+    (a_chain {x = e.Number (pos 0)} {xs = []}
+    (a_chain {x = e.Number (pos 0)} {xs = []}
+    (a_chain {x = e.Number (pos 0)} {xs = []}
+    (a_chain {x = e.Number (pos 0)} {xs = []}
+    (a_chain {x = e.Number (pos 0)} {xs = []}
+    (a_chain {x = e.Number (pos 0)} {xs = []} (a_chain {x = e.Number (pos 0)} {xs = []} (an_operand (a_number)) no_more)
+    no_more) no_more) no_more) no_more) no_more) no_more) no_more) no_more) no_more)
+    (a_chain {x = e.Name (word 16 25 (codes "N"))} {xs = []}
+    (a_chain {x = e.Name (word 16 25 (codes "N"))} {xs = []}
+    (a_chain {x = e.Name (word 16 25 (codes "N"))} {xs = []}
+    (a_chain {x = e.Name (word 16 25 (codes "N"))} {xs = []}
+    (a_chain {x = e.Name (word 16 25 (codes "N"))} {xs = []}
+    (a_chain {x = e.Name (word 16 25 (codes "N"))} {xs = []}
+    (a_chain {x = e.Name (word 16 25 (codes "N"))} {xs = []}
+    (a_chain {x = e.Name (word 16 25 (codes "N"))} {xs = []}
+    (a_chain {x = e.Name (word 16 25 (codes "N"))} {xs = []}
+    (a_chain {x = e.Name (word 16 25 (codes "N"))} {xs = []}
+    (an_operand (an_element {w = word 16 25 (codes "N")} {xs = []} no_more)) no_more) no_more) no_more) no_more)
+    no_more) no_more) no_more) no_more) no_more) no_more)
+    (bare (a_for {counter = word 17 16 (codes "k")} {tested = word 17 23 (codes "k")} {stepped = word 17 30 (codes "k")}
+    (a_chain {x = e.Number (pos 0)} {xs = []}
+    (a_chain {x = e.Number (pos 0)} {xs = []}
+    (a_chain {x = e.Number (pos 0)} {xs = []}
+    (a_chain {x = e.Number (pos 0)} {xs = []}
+    (a_chain {x = e.Number (pos 0)} {xs = []}
+    (a_chain {x = e.Number (pos 0)} {xs = []}
+    (a_chain {x = e.Number (pos 0)} {xs = []}
+    (a_chain {x = e.Number (pos 0)} {xs = []}
+    (a_chain {x = e.Number (pos 0)} {xs = []} (a_chain {x = e.Number (pos 0)} {xs = []} (an_operand (a_number)) no_more)
+    no_more) no_more) no_more) no_more) no_more) no_more) no_more) no_more) no_more)
+    (a_chain {x = e.Name (word 17 27 (codes "P"))} {xs = []}
+    (a_chain {x = e.Name (word 17 27 (codes "P"))} {xs = []}
+    (a_chain {x = e.Name (word 17 27 (codes "P"))} {xs = []}
+    (a_chain {x = e.Name (word 17 27 (codes "P"))} {xs = []}
+    (a_chain {x = e.Name (word 17 27 (codes "P"))} {xs = []}
+    (a_chain {x = e.Name (word 17 27 (codes "P"))} {xs = []}
+    (a_chain {x = e.Name (word 17 27 (codes "P"))} {xs = []}
+    (a_chain {x = e.Name (word 17 27 (codes "P"))} {xs = []}
+    (a_chain {x = e.Name (word 17 27 (codes "P"))} {xs = []}
+    (a_chain {x = e.Name (word 17 27 (codes "P"))} {xs = []}
+    (an_operand (an_element {w = word 17 27 (codes "P")} {xs = []} no_more)) no_more) no_more) no_more) no_more)
+    no_more) no_more) no_more) no_more) no_more) no_more)
+    (bare (an_assignment {w = word 18 9 (codes "C")} {x = e.Name (word 18 11 (codes "i"))}
+    {xs = ((e.Name (word 18 14 (codes "j"))) ∷ [])}
+    (an_index (a_chain {x = e.Name (word 18 11 (codes "i"))} {xs = []}
+    (a_chain {x = e.Name (word 18 11 (codes "i"))} {xs = []}
+    (a_chain {x = e.Name (word 18 11 (codes "i"))} {xs = []}
+    (a_chain {x = e.Name (word 18 11 (codes "i"))} {xs = []}
+    (a_chain {x = e.Name (word 18 11 (codes "i"))} {xs = []}
+    (a_chain {x = e.Name (word 18 11 (codes "i"))} {xs = []}
+    (a_chain {x = e.Name (word 18 11 (codes "i"))} {xs = []}
+    (a_chain {x = e.Name (word 18 11 (codes "i"))} {xs = []}
+    (a_chain {x = e.Name (word 18 11 (codes "i"))} {xs = []}
+    (a_chain {x = e.Name (word 18 11 (codes "i"))} {xs = []}
+    (an_operand (an_element {w = word 18 11 (codes "i")} {xs = []} no_more)) no_more) no_more) no_more) no_more)
+    no_more) no_more) no_more) no_more) no_more) no_more))
+    (one_more refl (an_index (a_chain {x = e.Name (word 18 14 (codes "j"))} {xs = []}
+    (a_chain {x = e.Name (word 18 14 (codes "j"))} {xs = []}
+    (a_chain {x = e.Name (word 18 14 (codes "j"))} {xs = []}
+    (a_chain {x = e.Name (word 18 14 (codes "j"))} {xs = []}
+    (a_chain {x = e.Name (word 18 14 (codes "j"))} {xs = []}
+    (a_chain {x = e.Name (word 18 14 (codes "j"))} {xs = []}
+    (a_chain {x = e.Name (word 18 14 (codes "j"))} {xs = []}
+    (a_chain {x = e.Name (word 18 14 (codes "j"))} {xs = []}
+    (a_chain {x = e.Name (word 18 14 (codes "j"))} {xs = []}
+    (a_chain {x = e.Name (word 18 14 (codes "j"))} {xs = []}
+    (an_operand (an_element {w = word 18 14 (codes "j")} {xs = []} no_more)) no_more) no_more) no_more) no_more)
+    no_more) no_more) no_more) no_more) no_more) no_more)) (no_more)) refl
+    (a_chain {x = e.Chain (e.Element
+    (use_of (word 18 20 (codes "A")) ((e.Name (word 18 22 (codes "i"))) ∷ (e.Name (word 18 25 (codes "k"))) ∷ [])))
+    (link_of (at 18 28) op.Mul
+    (e.Element (use_of (word 18 30 (codes "B")) ((e.Name (word 18 32 (codes "k"))) ∷ (e.Name (word 18 35 (codes "j")))
+    ∷ []))) ∷ [])} {xs = []} (a_chain
+    {x = e.Chain (e.Element (use_of (word 18 20 (codes "A")) ((e.Name (word 18 22 (codes "i")))
+    ∷ (e.Name (word 18 25 (codes "k"))) ∷ [])))
+    (link_of (at 18 28) op.Mul
+    (e.Element (use_of (word 18 30 (codes "B")) ((e.Name (word 18 32 (codes "k"))) ∷ (e.Name (word 18 35 (codes "j")))
+    ∷ []))) ∷ [])} {xs = []} (a_chain
+    {x = e.Chain (e.Element (use_of (word 18 20 (codes "A")) ((e.Name (word 18 22 (codes "i")))
+    ∷ (e.Name (word 18 25 (codes "k"))) ∷ [])))
+    (link_of (at 18 28) op.Mul
+    (e.Element (use_of (word 18 30 (codes "B")) ((e.Name (word 18 32 (codes "k"))) ∷ (e.Name (word 18 35 (codes "j")))
+    ∷ []))) ∷ [])} {xs = []} (a_chain
+    {x = e.Chain (e.Element (use_of (word 18 20 (codes "A")) ((e.Name (word 18 22 (codes "i")))
+    ∷ (e.Name (word 18 25 (codes "k"))) ∷ [])))
+    (link_of (at 18 28) op.Mul
+    (e.Element (use_of (word 18 30 (codes "B")) ((e.Name (word 18 32 (codes "k"))) ∷ (e.Name (word 18 35 (codes "j")))
+    ∷ []))) ∷ [])} {xs = []} (a_chain
+    {x = e.Chain (e.Element (use_of (word 18 20 (codes "A")) ((e.Name (word 18 22 (codes "i")))
+    ∷ (e.Name (word 18 25 (codes "k"))) ∷ [])))
+    (link_of (at 18 28) op.Mul
+    (e.Element (use_of (word 18 30 (codes "B")) ((e.Name (word 18 32 (codes "k"))) ∷ (e.Name (word 18 35 (codes "j")))
+    ∷ []))) ∷ [])} {xs = []} (a_chain
+    {x = e.Chain (e.Element (use_of (word 18 20 (codes "A")) ((e.Name (word 18 22 (codes "i")))
+    ∷ (e.Name (word 18 25 (codes "k"))) ∷ [])))
+    (link_of (at 18 28) op.Mul
+    (e.Element (use_of (word 18 30 (codes "B")) ((e.Name (word 18 32 (codes "k"))) ∷ (e.Name (word 18 35 (codes "j")))
+    ∷ []))) ∷ [])} {xs = []} (a_chain
+    {x = e.Chain (e.Element (use_of (word 18 20 (codes "A")) ((e.Name (word 18 22 (codes "i")))
+    ∷ (e.Name (word 18 25 (codes "k"))) ∷ [])))
+    (link_of (at 18 28) op.Mul
+    (e.Element (use_of (word 18 30 (codes "B")) ((e.Name (word 18 32 (codes "k"))) ∷ (e.Name (word 18 35 (codes "j")))
+    ∷ []))) ∷ [])} {xs = []} (a_chain
+    {x = e.Chain (e.Element (use_of (word 18 20 (codes "A")) ((e.Name (word 18 22 (codes "i")))
+    ∷ (e.Name (word 18 25 (codes "k"))) ∷ [])))
+    (link_of (at 18 28) op.Mul
+    (e.Element (use_of (word 18 30 (codes "B")) ((e.Name (word 18 32 (codes "k"))) ∷ (e.Name (word 18 35 (codes "j")))
+    ∷ []))) ∷ [])} {xs = []} (a_chain
+    {x = e.Chain (e.Element (use_of (word 18 20 (codes "A")) ((e.Name (word 18 22 (codes "i")))
+    ∷ (e.Name (word 18 25 (codes "k"))) ∷ [])))
+    (link_of (at 18 28) op.Mul
+    (e.Element (use_of (word 18 30 (codes "B")) ((e.Name (word 18 32 (codes "k"))) ∷ (e.Name (word 18 35 (codes "j")))
+    ∷ []))) ∷ [])} {xs = []} (a_chain
+    {x = e.Element (use_of (word 18 20 (codes "A")) ((e.Name (word 18 22 (codes "i")))
+    ∷ (e.Name (word 18 25 (codes "k"))) ∷ []))}
+    {xs = link_of (at 18 28) op.Mul
+    (e.Element (use_of (word 18 30 (codes "B")) ((e.Name (word 18 32 (codes "k"))) ∷ (e.Name (word 18 35 (codes "j")))
+    ∷ []))) ∷ []} (an_operand
+    (an_element {w = word 18 20 (codes "A")}
+    {xs = ((e.Name (word 18 22 (codes "i"))) ∷ (e.Name (word 18 25 (codes "k"))) ∷ [])}
+    (one_more refl (an_index (a_chain {x = e.Name (word 18 22 (codes "i"))} {xs = []}
+    (a_chain {x = e.Name (word 18 22 (codes "i"))} {xs = []}
+    (a_chain {x = e.Name (word 18 22 (codes "i"))} {xs = []}
+    (a_chain {x = e.Name (word 18 22 (codes "i"))} {xs = []}
+    (a_chain {x = e.Name (word 18 22 (codes "i"))} {xs = []}
+    (a_chain {x = e.Name (word 18 22 (codes "i"))} {xs = []}
+    (a_chain {x = e.Name (word 18 22 (codes "i"))} {xs = []}
+    (a_chain {x = e.Name (word 18 22 (codes "i"))} {xs = []}
+    (a_chain {x = e.Name (word 18 22 (codes "i"))} {xs = []}
+    (a_chain {x = e.Name (word 18 22 (codes "i"))} {xs = []}
+    (an_operand (an_element {w = word 18 22 (codes "i")} {xs = []} no_more)) no_more) no_more) no_more) no_more)
+    no_more) no_more) no_more) no_more) no_more) no_more))
+    (one_more refl (an_index (a_chain {x = e.Name (word 18 25 (codes "k"))} {xs = []}
+    (a_chain {x = e.Name (word 18 25 (codes "k"))} {xs = []}
+    (a_chain {x = e.Name (word 18 25 (codes "k"))} {xs = []}
+    (a_chain {x = e.Name (word 18 25 (codes "k"))} {xs = []}
+    (a_chain {x = e.Name (word 18 25 (codes "k"))} {xs = []}
+    (a_chain {x = e.Name (word 18 25 (codes "k"))} {xs = []}
+    (a_chain {x = e.Name (word 18 25 (codes "k"))} {xs = []}
+    (a_chain {x = e.Name (word 18 25 (codes "k"))} {xs = []}
+    (a_chain {x = e.Name (word 18 25 (codes "k"))} {xs = []}
+    (a_chain {x = e.Name (word 18 25 (codes "k"))} {xs = []}
+    (an_operand (an_element {w = word 18 25 (codes "k")} {xs = []} no_more)) no_more) no_more) no_more) no_more)
+    no_more) no_more) no_more) no_more) no_more) no_more)) (no_more)))))
+    (one_more refl (a_link refl
+    (an_operand (an_element {w = word 18 30 (codes "B")}
+    {xs = ((e.Name (word 18 32 (codes "k"))) ∷ (e.Name (word 18 35 (codes "j"))) ∷ [])}
+    (one_more refl (an_index (a_chain {x = e.Name (word 18 32 (codes "k"))} {xs = []}
+    (a_chain {x = e.Name (word 18 32 (codes "k"))} {xs = []}
+    (a_chain {x = e.Name (word 18 32 (codes "k"))} {xs = []}
+    (a_chain {x = e.Name (word 18 32 (codes "k"))} {xs = []}
+    (a_chain {x = e.Name (word 18 32 (codes "k"))} {xs = []}
+    (a_chain {x = e.Name (word 18 32 (codes "k"))} {xs = []}
+    (a_chain {x = e.Name (word 18 32 (codes "k"))} {xs = []}
+    (a_chain {x = e.Name (word 18 32 (codes "k"))} {xs = []}
+    (a_chain {x = e.Name (word 18 32 (codes "k"))} {xs = []}
+    (a_chain {x = e.Name (word 18 32 (codes "k"))} {xs = []}
+    (an_operand (an_element {w = word 18 32 (codes "k")} {xs = []} no_more)) no_more) no_more) no_more) no_more)
+    no_more) no_more) no_more) no_more) no_more) no_more))
+    (one_more refl (an_index (a_chain {x = e.Name (word 18 35 (codes "j"))} {xs = []}
+    (a_chain {x = e.Name (word 18 35 (codes "j"))} {xs = []}
+    (a_chain {x = e.Name (word 18 35 (codes "j"))} {xs = []}
+    (a_chain {x = e.Name (word 18 35 (codes "j"))} {xs = []}
+    (a_chain {x = e.Name (word 18 35 (codes "j"))} {xs = []}
+    (a_chain {x = e.Name (word 18 35 (codes "j"))} {xs = []}
+    (a_chain {x = e.Name (word 18 35 (codes "j"))} {xs = []}
+    (a_chain {x = e.Name (word 18 35 (codes "j"))} {xs = []}
+    (a_chain {x = e.Name (word 18 35 (codes "j"))} {xs = []}
+    (a_chain {x = e.Name (word 18 35 (codes "j"))} {xs = []}
+    (an_operand (an_element {w = word 18 35 (codes "j")} {xs = []} no_more)) no_more) no_more) no_more) no_more)
+    no_more) no_more) no_more) no_more) no_more) no_more)) (no_more)))))) (no_more))) no_more) no_more) no_more)
+    no_more) no_more) no_more) no_more) no_more) no_more)))))))) (no_more)))
 
 inner_derived : (later : List Leveled) → Derives (One Task 0 inner_variant) (inner_leveled later) later
 unfolding inner_leveled
-inner_derived later = a_void_task (an_inner {w = word 1 11 (codes "matmul")} {ds = ((declared.Tunable (at 2 15) (codes "U") ∷ []) ∷ (declared.Tunable (at 3 15) (codes "X") ∷ []) ∷ (declared.Tunable (at 4 15) (codes "V") ∷ []) ∷ (declared.Rchop (at 5 10) (codes "Ab") (word 5 21 (codes "A")) ((e.Name (word 5 24 (codes "U"))) ∷ (e.Name (word 5 27 (codes "X"))) ∷ []) ∷ []) ∷ (declared.Rchop (at 6 10) (codes "Bb") (word 6 21 (codes "B")) ((e.Name (word 6 24 (codes "X"))) ∷ (e.Name (word 6 27 (codes "V"))) ∷ []) ∷ []) ∷ (declared.Rchop (at 7 10) (codes "Cb") (word 7 21 (codes "C")) ((e.Name (word 7 24 (codes "U"))) ∷ (e.Name (word 7 27 (codes "V"))) ∷ []) ∷ []) ∷ [])} (a_list (a_param {w = word 1 32 (codes "A")} refl refl (an_extent refl) (one_more refl (an_extent refl) (no_more))) (one_more refl (a_next (a_param {w = word 1 48 (codes "B")} refl refl (an_extent refl) (one_more refl (an_extent refl) (no_more)))) (one_more refl (a_next (a_param {w = word 1 67 (codes "C")} refl refl (an_extent refl) (one_more refl (an_extent refl) (no_more)))) (no_more)))) (one_more refl (tunables {w = word 2 15 (codes "U")} no_more) (one_more refl (tunables {w = word 3 15 (codes "X")} no_more) (one_more refl (tunables {w = word 4 15 (codes "V")} no_more) (one_more refl (an_rchop {w = word 5 10 (codes "Ab")} {array = word 5 21 (codes "A")} (a_chain {x = e.Name (word 5 24 (codes "U"))} {xs = []} (a_chain {x = e.Name (word 5 24 (codes "U"))} {xs = []} (an_operand (a_name {w = word 5 24 (codes "U")})) no_more) no_more) (one_more refl (a_next (a_chain {x = e.Name (word 5 27 (codes "X"))} {xs = []} (a_chain {x = e.Name (word 5 27 (codes "X"))} {xs = []} (an_operand (a_name {w = word 5 27 (codes "X")})) no_more) no_more)) (no_more))) (one_more refl (an_rchop {w = word 6 10 (codes "Bb")} {array = word 6 21 (codes "B")} (a_chain {x = e.Name (word 6 24 (codes "X"))} {xs = []} (a_chain {x = e.Name (word 6 24 (codes "X"))} {xs = []} (an_operand (a_name {w = word 6 24 (codes "X")})) no_more) no_more) (one_more refl (a_next (a_chain {x = e.Name (word 6 27 (codes "V"))} {xs = []} (a_chain {x = e.Name (word 6 27 (codes "V"))} {xs = []} (an_operand (a_name {w = word 6 27 (codes "V")})) no_more) no_more)) (no_more))) (one_more refl (an_rchop {w = word 7 10 (codes "Cb")} {array = word 7 21 (codes "C")} (a_chain {x = e.Name (word 7 24 (codes "U"))} {xs = []} (a_chain {x = e.Name (word 7 24 (codes "U"))} {xs = []} (an_operand (a_name {w = word 7 24 (codes "U")})) no_more) no_more) (one_more refl (a_next (a_chain {x = e.Name (word 7 27 (codes "V"))} {xs = []} (a_chain {x = e.Name (word 7 27 (codes "V"))} {xs = []} (an_operand (a_name {w = word 7 27 (codes "V")})) no_more) no_more)) (no_more))) (no_more))))))) (one_more refl (a_map refl (a_list (a_range {w = word 8 15 (codes "i")} {x = bound_i} (a_chain {x = e.Chain (e.Name (word 8 24 (codes "M"))) (link_of (at 8 25) op.Div (e.Name (word 8 26 (codes "U"))) ∷ [])} {xs = []} (a_chain {x = e.Name (word 8 24 (codes "M"))} {xs = link_of (at 8 25) op.Div (e.Name (word 8 26 (codes "U"))) ∷ []} (an_operand (a_name {w = word 8 24 (codes "M")})) (one_more refl (a_link refl (an_operand (a_name {w = word 8 26 (codes "U")}))) (no_more))) no_more)) (one_more refl (a_next (a_range {w = word 8 33 (codes "j")} {x = bound_j} (a_chain {x = e.Chain (e.Name (word 8 42 (codes "N"))) (link_of (at 8 43) op.Div (e.Name (word 8 44 (codes "V"))) ∷ [])} {xs = []} (a_chain {x = e.Name (word 8 42 (codes "N"))} {xs = link_of (at 8 43) op.Div (e.Name (word 8 44 (codes "V"))) ∷ []} (an_operand (a_name {w = word 8 42 (codes "N")})) (one_more refl (a_link refl (an_operand (a_name {w = word 8 44 (codes "V")}))) (no_more))) no_more))) (no_more))) (one_more refl (a_map refl (a_list (a_range {w = word 9 17 (codes "k")} {x = bound_k} (a_chain {x = e.Chain (e.Name (word 9 26 (codes "P"))) (link_of (at 9 27) op.Div (e.Name (word 9 28 (codes "X"))) ∷ [])} {xs = []} (a_chain {x = e.Name (word 9 26 (codes "P"))} {xs = link_of (at 9 27) op.Div (e.Name (word 9 28 (codes "X"))) ∷ []} (an_operand (a_name {w = word 9 26 (codes "P")})) (one_more refl (a_link refl (an_operand (a_name {w = word 9 28 (codes "X")}))) (no_more))) no_more)) (no_more)) (one_more refl (a_call_stmt (a_call {w = word 10 7 (codes "matmul")} {xs = (argument_Ab ∷ argument_Bb ∷ argument_Cb ∷ [])} (a_list (an_arg {w = word 10 14 (codes "Ab")} {xs = ((e.Name (word 10 17 (codes "i"))) ∷ (e.Name (word 10 20 (codes "k"))) ∷ [])} (one_more refl (an_index (a_chain {x = e.Name (word 10 17 (codes "i"))} {xs = []} (a_chain {x = e.Name (word 10 17 (codes "i"))} {xs = []} (an_operand (a_name {w = word 10 17 (codes "i")})) no_more) no_more)) (one_more refl (an_index (a_chain {x = e.Name (word 10 20 (codes "k"))} {xs = []} (a_chain {x = e.Name (word 10 20 (codes "k"))} {xs = []} (an_operand (a_name {w = word 10 20 (codes "k")})) no_more) no_more)) (no_more)))) (one_more refl (a_next (an_arg {w = word 10 24 (codes "Bb")} {xs = ((e.Name (word 10 27 (codes "k"))) ∷ (e.Name (word 10 30 (codes "j"))) ∷ [])} (one_more refl (an_index (a_chain {x = e.Name (word 10 27 (codes "k"))} {xs = []} (a_chain {x = e.Name (word 10 27 (codes "k"))} {xs = []} (an_operand (a_name {w = word 10 27 (codes "k")})) no_more) no_more)) (one_more refl (an_index (a_chain {x = e.Name (word 10 30 (codes "j"))} {xs = []} (a_chain {x = e.Name (word 10 30 (codes "j"))} {xs = []} (an_operand (a_name {w = word 10 30 (codes "j")})) no_more) no_more)) (no_more))))) (one_more refl (a_next (an_arg {w = word 10 34 (codes "Cb")} {xs = ((e.Name (word 10 37 (codes "i"))) ∷ (e.Name (word 10 40 (codes "j"))) ∷ [])} (one_more refl (an_index (a_chain {x = e.Name (word 10 37 (codes "i"))} {xs = []} (a_chain {x = e.Name (word 10 37 (codes "i"))} {xs = []} (an_operand (a_name {w = word 10 37 (codes "i")})) no_more) no_more)) (one_more refl (an_index (a_chain {x = e.Name (word 10 40 (codes "j"))} {xs = []} (a_chain {x = e.Name (word 10 40 (codes "j"))} {xs = []} (an_operand (a_name {w = word 10 40 (codes "j")})) no_more) no_more)) (no_more))))) (no_more)))))) (no_more))) (no_more))) (no_more)))
+inner_derived later = a_void_task
+    (an_inner {w = word 1 11 (codes "matmul")}
+    {ds = ((declared.Tunable (at 2 15) (codes "U") ∷ []) ∷ (declared.Tunable (at 3 15) (codes "X") ∷ [])
+    ∷ (declared.Tunable (at 4 15) (codes "V") ∷ [])
+    ∷ (declared.Rchop (at 5 10) (codes "Ab") (word 5 21 (codes "A")) ((e.Name (word 5 24 (codes "U")))
+    ∷ (e.Name (word 5 27 (codes "X"))) ∷ []) ∷ [])
+    ∷ (declared.Rchop (at 6 10) (codes "Bb") (word 6 21 (codes "B")) ((e.Name (word 6 24 (codes "X")))
+    ∷ (e.Name (word 6 27 (codes "V"))) ∷ []) ∷ [])
+    ∷ (declared.Rchop (at 7 10) (codes "Cb") (word 7 21 (codes "C")) ((e.Name (word 7 24 (codes "U")))
+    ∷ (e.Name (word 7 27 (codes "V"))) ∷ []) ∷ []) ∷ [])}
+    (a_list (a_param {w = word 1 32 (codes "A")} refl refl (an_extent refl) (one_more refl (an_extent refl) (no_more)))
+    (one_more refl (a_next (a_param {w = word 1 48 (codes "B")} refl refl (an_extent refl)
+    (one_more refl (an_extent refl) (no_more))))
+    (one_more refl (a_next (a_param {w = word 1 67 (codes "C")} refl refl (an_extent refl)
+    (one_more refl (an_extent refl) (no_more)))) (no_more))))
+    (one_more refl (tunables {w = word 2 15 (codes "U")} no_more)
+    (one_more refl (tunables {w = word 3 15 (codes "X")} no_more)
+    (one_more refl (tunables {w = word 4 15 (codes "V")} no_more)
+    (one_more refl (an_rchop {w = word 5 10 (codes "Ab")} {array = word 5 21 (codes "A")}
+    (a_chain {x = e.Name (word 5 24 (codes "U"))} {xs = []}
+    (a_chain {x = e.Name (word 5 24 (codes "U"))} {xs = []} (an_operand (a_name {w = word 5 24 (codes "U")})) no_more)
+    no_more) (one_more refl (a_next
+    (a_chain {x = e.Name (word 5 27 (codes "X"))} {xs = []}
+    (a_chain {x = e.Name (word 5 27 (codes "X"))} {xs = []} (an_operand (a_name {w = word 5 27 (codes "X")})) no_more)
+    no_more)) (no_more))) (one_more refl
+    (an_rchop {w = word 6 10 (codes "Bb")} {array = word 6 21 (codes "B")}
+    (a_chain {x = e.Name (word 6 24 (codes "X"))} {xs = []}
+    (a_chain {x = e.Name (word 6 24 (codes "X"))} {xs = []} (an_operand (a_name {w = word 6 24 (codes "X")})) no_more)
+    no_more) (one_more refl (a_next
+    (a_chain {x = e.Name (word 6 27 (codes "V"))} {xs = []}
+    (a_chain {x = e.Name (word 6 27 (codes "V"))} {xs = []} (an_operand (a_name {w = word 6 27 (codes "V")})) no_more)
+    no_more)) (no_more))) (one_more refl
+    (an_rchop {w = word 7 10 (codes "Cb")} {array = word 7 21 (codes "C")}
+    (a_chain {x = e.Name (word 7 24 (codes "U"))} {xs = []}
+    (a_chain {x = e.Name (word 7 24 (codes "U"))} {xs = []} (an_operand (a_name {w = word 7 24 (codes "U")})) no_more)
+    no_more) (one_more refl (a_next
+    (a_chain {x = e.Name (word 7 27 (codes "V"))} {xs = []}
+    (a_chain {x = e.Name (word 7 27 (codes "V"))} {xs = []} (an_operand (a_name {w = word 7 27 (codes "V")})) no_more)
+    no_more)) (no_more))) (no_more)))))))
+    (one_more refl (a_map refl
+    (a_list (a_range {w = word 8 15 (codes "i")} {x = bound_i}
+    (a_chain {x = e.Chain (e.Name (word 8 24 (codes "M"))) (link_of (at 8 25) op.Div (e.Name (word 8 26 (codes "U")))
+    ∷ [])} {xs = []} (a_chain {x = e.Name (word 8 24 (codes "M"))}
+    {xs = link_of (at 8 25) op.Div (e.Name (word 8 26 (codes "U"))) ∷ []}
+    (an_operand (a_name {w = word 8 24 (codes "M")}))
+    (one_more refl (a_link refl (an_operand (a_name {w = word 8 26 (codes "U")}))) (no_more))) no_more))
+    (one_more refl (a_next (a_range {w = word 8 33 (codes "j")} {x = bound_j}
+    (a_chain {x = e.Chain (e.Name (word 8 42 (codes "N"))) (link_of (at 8 43) op.Div (e.Name (word 8 44 (codes "V")))
+    ∷ [])} {xs = []} (a_chain {x = e.Name (word 8 42 (codes "N"))}
+    {xs = link_of (at 8 43) op.Div (e.Name (word 8 44 (codes "V"))) ∷ []}
+    (an_operand (a_name {w = word 8 42 (codes "N")}))
+    (one_more refl (a_link refl (an_operand (a_name {w = word 8 44 (codes "V")}))) (no_more))) no_more))) (no_more)))
+    (one_more refl (a_map refl
+    (a_list (a_range {w = word 9 17 (codes "k")} {x = bound_k}
+    (a_chain {x = e.Chain (e.Name (word 9 26 (codes "P"))) (link_of (at 9 27) op.Div (e.Name (word 9 28 (codes "X")))
+    ∷ [])} {xs = []} (a_chain {x = e.Name (word 9 26 (codes "P"))}
+    {xs = link_of (at 9 27) op.Div (e.Name (word 9 28 (codes "X"))) ∷ []}
+    (an_operand (a_name {w = word 9 26 (codes "P")}))
+    (one_more refl (a_link refl (an_operand (a_name {w = word 9 28 (codes "X")}))) (no_more))) no_more)) (no_more))
+    (one_more refl (a_call_stmt
+    (a_call {w = word 10 7 (codes "matmul")} {xs = (argument_Ab ∷ argument_Bb ∷ argument_Cb ∷ [])}
+    (a_list (an_arg {w = word 10 14 (codes "Ab")}
+    {xs = ((e.Name (word 10 17 (codes "i"))) ∷ (e.Name (word 10 20 (codes "k"))) ∷ [])}
+    (one_more refl (an_index (a_chain {x = e.Name (word 10 17 (codes "i"))} {xs = []}
+    (a_chain {x = e.Name (word 10 17 (codes "i"))} {xs = []} (an_operand (a_name {w = word 10 17 (codes "i")})) no_more)
+    no_more)) (one_more refl (an_index
+    (a_chain {x = e.Name (word 10 20 (codes "k"))} {xs = []}
+    (a_chain {x = e.Name (word 10 20 (codes "k"))} {xs = []} (an_operand (a_name {w = word 10 20 (codes "k")})) no_more)
+    no_more)) (no_more)))) (one_more refl
+    (a_next (an_arg {w = word 10 24 (codes "Bb")}
+    {xs = ((e.Name (word 10 27 (codes "k"))) ∷ (e.Name (word 10 30 (codes "j"))) ∷ [])}
+    (one_more refl (an_index (a_chain {x = e.Name (word 10 27 (codes "k"))} {xs = []}
+    (a_chain {x = e.Name (word 10 27 (codes "k"))} {xs = []} (an_operand (a_name {w = word 10 27 (codes "k")})) no_more)
+    no_more)) (one_more refl (an_index
+    (a_chain {x = e.Name (word 10 30 (codes "j"))} {xs = []}
+    (a_chain {x = e.Name (word 10 30 (codes "j"))} {xs = []} (an_operand (a_name {w = word 10 30 (codes "j")})) no_more)
+    no_more)) (no_more))))) (one_more refl
+    (a_next (an_arg {w = word 10 34 (codes "Cb")}
+    {xs = ((e.Name (word 10 37 (codes "i"))) ∷ (e.Name (word 10 40 (codes "j"))) ∷ [])}
+    (one_more refl (an_index (a_chain {x = e.Name (word 10 37 (codes "i"))} {xs = []}
+    (a_chain {x = e.Name (word 10 37 (codes "i"))} {xs = []} (an_operand (a_name {w = word 10 37 (codes "i")})) no_more)
+    no_more)) (one_more refl (an_index
+    (a_chain {x = e.Name (word 10 40 (codes "j"))} {xs = []}
+    (a_chain {x = e.Name (word 10 40 (codes "j"))} {xs = []} (an_operand (a_name {w = word 10 40 (codes "j")})) no_more)
+    no_more)) (no_more))))) (no_more)))))) (no_more))) (no_more))) (no_more)))
 
-text_derived : Derives (Many Task Any 0 (inner_variant ∷ leaf_variant ∷ [])) (inner_leveled leaf_leveled) (leveled (Last (at 20 1)) 0 ∷ [])
+text_derived : Derives (Many Task Any 0 (inner_variant ∷ leaf_variant ∷ [])) (inner_leveled leaf_leveled)
+    (leveled (Last (at 20 1)) 0 ∷ [])
 text_derived = one_more refl (inner_derived leaf_leveled) (one_more refl leaf_derived no_more)
 
 pub are_kinds : kinds (inner_leveled leaf_leveled) ≡ symbols program_tokens

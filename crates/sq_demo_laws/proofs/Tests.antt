@@ -19,7 +19,8 @@ pub at_most : (a b : ℕ) → leb a b ≡ true → a ≤ b
 at_most a b h = elim (leb_tells a b) [ inl t ↦ t.1 | inr t ↦ cc ]
 
 -- what holds of all holds of each
-pub passes : {X : Type 0} (p : X → Bool) (xs : List X) → list_all p xs ≡ true → (i : ℕ) (x : X) → slice_get xs i ≡ Some x
+pub passes : {X : Type 0} (p : X → Bool) (xs : List X) → list_all p xs ≡ true → (i : ℕ) (x : X)
+    → slice_get xs i ≡ Some x
     → p x ≡ true
 passes p [] h i x e = cc
 passes p (y ∷ xs) h zero x e =

@@ -44,10 +44,12 @@ machine_has : tokens_of start machine_pieces ≡ machine_tokens
 unfolding machine_pieces machine_tokens
 machine_has = refl
 
-tokens_are : (xs : List Piece) (text : List ℕ) (ts : List Token) → text_of xs ≡ text → all_fit xs ≡ true → tokens_of start xs ≡ ts
+tokens_are : (xs : List Piece) (text : List ℕ) (ts : List Token) → text_of xs ≡ text → all_fit xs ≡ true
+    → tokens_of start xs ≡ ts
     → AreTokens text ts
 tokens_are xs text ts is fits has =
-    subst (λ us. TokensFrom start text us) has (subst (λ t. TokensFrom start t (tokens_of start xs)) is (tokens_fit start xs fits))
+    subst (λ us. TokensFrom start text us) has
+    (subst (λ t. TokensFrom start t (tokens_of start xs)) is (tokens_fit start xs fits))
 
 pub program_has_tokens : ProgramHasTokens
 program_has_tokens = tokens_are program_pieces demo_program program_tokens program_text program_fits program_has

@@ -1,18 +1,11 @@
 -- What is true of the demo's texts.
-use Rattle.std.specs.Prelude.{◌≡◌, ◌≤◌, ◌*◌, ℕ, ℤ, false, List, [], ◌∷◌, replicate, codes, Some, None, Ok, Err, slice_get}
-use Rattle.std.specs.List.{All, AllZip}
+use Rattle.std.specs.Prelude.{◌≡◌, ◌≤◌, ◌*◌, ℕ, ℤ, List, [], ◌∷◌, replicate, codes, Some, None, Ok, Err, slice_get}
 use Rattle.sq_num.specs.declared.Elem.TheVariants.{Int}
 use Rattle.sq_num.specs.Elements.{values_in}
 use Rattle.sq_rect.specs.Extents.{product}
-use Rattle.sq_arrays.specs.Arrays.{Wanted, arrays_of, AreValuesOf}
-use Rattle.sq_arrays.specs.Words.{is_over}
-use Rattle.sq_arrays.specs.Written.{arrays_text, HasHead}
-use Rattle.sq_text.specs.declared.code.Code.{Code}
+use Rattle.sq_arrays.specs.Arrays.{Wanted, arrays_of}
 use Rattle.sq_text.specs.declared.fault.Fault.{Fault}
-use Rattle.sq_text.specs.declared.place.Place.{Place}
-use Rattle.sq_text.specs.Places.{start}
 use Rattle.sq_lexer.specs.declared.token.Token.{Token}
-use Rattle.sq_lexer.specs.Faults.{BreaksFrom}
 use Rattle.sq_lexer.specs.Tokens.{AreTokens}
 use Rattle.sq_text.specs.declared.code.Phase.TheVariants.{Program as ProgramPhase}
 use Rattle.sq_lexer.specs.Faults.{HasFault}
@@ -38,20 +31,6 @@ use Rattle.sq_demo.specs.Data.{demo_data, matrix_of}
 use Rattle.sq_demo_laws.specs.Texts.{program_tokens, mapping_tokens, machine_tokens}
 use Rattle.sq_demo_laws.specs.Machine.{demo_hierarchy, demo_mapped}
 use Rattle.sq_demo_laws.specs.FormsFound.{demo_forms, demo_uses, demo_resolving}
-
--- a text has one list of tokens, and doesn't break where it has one
-abbrev pub OneList : Type 0
-OneList = (text : List ℕ) (ts us : List Token) → AreTokens text ts → AreTokens text us → ts ≡ us
-
-abbrev pub NeverBoth : Type 0
-NeverBoth = (text : List ℕ) (ts : List Token) (c : Code) (place : Place) → AreTokens text ts → BreaksFrom start text c place → ⊥
-
--- tokens stand for one program, and have no fault where they stand for one
-abbrev pub OneProgram : Type 0
-OneProgram = (ts : List Token) (p q : Program) → parsing.IsProgram ts p → parsing.IsProgram ts q → p ≡ q
-
-abbrev pub NeverMisread : Type 0
-NeverMisread = (ts : List Token) (p : Program) (f : Fault) → parsing.IsProgram ts p → parsing.HasFault ts f → ⊥
 
 -- the tokens of the texts
 abbrev pub ProgramHasTokens : Type 0
@@ -103,10 +82,12 @@ abbrev pub FormsAreFree : Type 0
 FormsAreFree = (r : Resolved) → r.typed.now ≡ demo_tree → r.mapping.now ≡ demo_mapped → r.forms ≡ demo_forms
     → r.uses ≡ demo_uses → IsFirstRace r None
 
--- a node has no fewer bytes than these forms need there
+-- a node of the machine has no fewer bytes than these forms need there
 abbrev pub NodesHaveEnough : Type 0
-NodesHaveEnough = (node n : ℕ) (its : Node) → slice_get demo_hierarchy.nodes node ≡ Some its
-    → Needs demo_tree.tasks demo_mapped.instances demo_hierarchy.nodes demo_forms node n → n ≤ its.capacity
+NodesHaveEnough = (r : Resolved) → r.typed.now ≡ demo_tree → r.mapping.now ≡ demo_mapped
+    → r.machine.now ≡ demo_hierarchy
+    → r.forms ≡ demo_forms → (node need : ℕ) (its : Node) → slice_get r.machine.now.nodes node ≡ Some its
+    → Needs r.typed.now.tasks r.mapping.now.instances r.machine.now.nodes r.forms node need → need ≤ its.capacity
 
 -- whatever the arrays hold, the program doesn't trap
 abbrev pub ProgramIsTrapless : Type 0
@@ -123,12 +104,8 @@ matrix_values bytes = values_in Int (product (128 ∷ 128 ∷ [])) bytes
 
 abbrev pub demo_values : ℕ → List (List ℤ)
 demo_values seed =
-    matrix_values (demo_first seed) ∷ matrix_values (demo_second seed) ∷ matrix_values (replicate (demo_elements * 4) 0) ∷ []
-
--- what is written of arrays reads back
-abbrev pub WrittenReadBack : Type 0
-WrittenReadBack = (ws : List Wanted) (vss : List (List ℤ)) → All HasHead ws → AllZip AreValuesOf ws vss
-    → is_over (arrays_text ws vss) ≡ false → arrays_of ws (arrays_text ws vss) ≡ Ok vss
+    matrix_values (demo_first seed) ∷ matrix_values (demo_second seed) ∷ matrix_values (replicate (demo_elements * 4) 0)
+    ∷ []
 
 -- the data of a number is read as its arrays
 abbrev pub DataIsRead : Type 0

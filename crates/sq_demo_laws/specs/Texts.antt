@@ -1,6 +1,5 @@
--- The demo's texts as the pieces that they are made of, and their tokens.
-use Rattle.std.specs.Prelude.{ℕ, ◌==◌, not, pos, Bool, true, ◌&&◌, List, [], ◌∷◌, ◌++◌, codes}
-use Rattle.std.specs.List.{list_all}
+-- The tokens of the demo's texts.
+use Rattle.std.specs.Prelude.{ℕ, pos, List, [], ◌∷◌, codes}
 use Rattle.sq_text.specs.declared.place.Place.{Place}
 use Rattle.sq_lexer.specs.declared.token.Kind.TheVariants as kind
 use Rattle.sq_lexer.specs.declared.token.Sign.TheVariants as sign
@@ -206,4 +205,3 @@ machine_tokens =
     token (kind.Word (codes "capacity")) (at 1 112) ∷ token (kind.Number (pos 1280)) (at 1 121) ∷
     token (kind.Sign sign.Semi) (at 1 125) ∷ token (kind.Sign sign.BraceClose) (at 1 127) ∷
     token kind.End (at 1 128) ∷ []
-

@@ -8,19 +8,14 @@ use Rattle.sq_ast.specs.declared.program.Program.{Program as Tree}
 use Rattle.sq_ast.specs.Modes.{is_read}
 use Rattle.sq_types.specs.Sites.{TypeFault}
 use Rattle.sq_machfile.specs.Machines.{Hierarchy, WithinLimits}
-use Rattle.sq_machfile.specs.declared.node.Node.{Node}
 use Rattle.sq_mapfile.specs.declared.mapping.Mapping.{Mapping as Mapped}
 use Rattle.sq_mapfile.specs.Mappings.{StandsFor as IsMappingOf, MappingFault}
-use Rattle.sq_arrays.specs.Arrays.{Wanted, DataFault, arrays_of}
+use Rattle.sq_arrays.specs.Arrays.{arrays_of}
 use Rattle.sq_leaf.specs.Source.{Arrays}
-use Rattle.sq_work.specs.Meaning.{Trapped}
-use Rattle.sq_forms.specs.declared.form.Form.{Form}
-use Rattle.sq_forms.specs.Faults.{Value}
 use Rattle.sq_forms.specs.Decls.{most_extent, most_elements}
 use Rattle.sq_forms.specs.Resolving.{Resolving, resolution, entry_extents}
 use Rattle.sq_spec.specs.Works.{flat}
 use Rattle.sq_spec.specs.declared.resolved.Resolved.{Resolved}
-use Rattle.sq_spec_laws.specs.Needs.{Needs}
 use Rattle.sq_report.specs.Demo.{demo_program, demo_mapping, demo_machine}
 use Rattle.sq_report.specs.declared.trap.Trap.{Trap}
 use Rattle.sq_demo.specs.Data.{demo_data}
@@ -40,7 +35,8 @@ use Rattle.sq_driver.specs.Faults.{IsFirstOfTypes, IsFirstOf}
 
 -- what a text that is there is
 held : {A : Type 0} (Is : List ℕ → A → Type 0) (text : List ℕ) (value : A) → Holds Is (Some text) value → Is text value
-held Is text value h = let same : h.0 ≡ text = (let e : Some text ≡ Some h.0 = h.1 in cc) in subst (λ t. Is t value) same h.2
+held Is text value h = let same : h.0 ≡ text = (let e : Some text ≡ Some h.0 = h.1 in cc) in
+    subst (λ t. Is t value) same h.2
 
 no_error : {A E : Type 0} (r : Result A E) (a : A) (e : E) → r ≡ Ok a → r ≡ Err e → ⊥
 no_error r a e good bad = let both : Ok a ≡ Err e = sym good ∙ bad in cc
@@ -74,7 +70,8 @@ module _ (laws : DemoLaws) (c : Content) (n : ℕ) where
 
     its_resolution : resolution s.tree.tasks s.mapped ≡ Ok demo_resolving
     its_resolution =
-        ap (λ (t : Tree). resolution t.tasks s.mapped) its_tree ∙ ap (λ (m : Mapped). resolution demo_tree.tasks m) its_mapping
+        ap (λ (t : Tree). resolution t.tasks s.mapped) its_tree
+        ∙ ap (λ (m : Mapped). resolution demo_tree.tasks m) its_mapping
         ∙ laws.resolves
 
     -- the forms of these texts
@@ -115,32 +112,28 @@ module _ (laws : DemoLaws) (c : Content) (n : ℕ) where
   no_mapping : (its : Fault) → IsFirstOfMapping texts its → ⊥
   no_mapping its h =
       let fault = (held (IsFirstMappingFault h.tree h.hierarchy.levels) demo_mapping its h.first).0 in
-      laws.mapping its (subst (λ (m : Hierarchy). MappingFault demo_tree m.levels demo_mapping its) (machine_is h.hierarchy h.machine_is)
+      laws.mapping its (subst (λ (m : Hierarchy). MappingFault demo_tree m.levels demo_mapping its)
+      (machine_is h.hierarchy h.machine_is)
       (subst (λ t. MappingFault t h.hierarchy.levels demo_mapping its) (tree_is h.tree h.program_is) fault))
 
   no_resolve : (its : Fault) → IsFirstOfResolve texts its → ⊥
-  no_resolve its h = no_error (resolution h.sources.tree.tasks h.sources.mapped) demo_resolving its (its_resolution h.sources) h.first
+  no_resolve its h = no_error (resolution h.sources.tree.tasks h.sources.mapped) demo_resolving its
+      (its_resolution h.sources) h.first
 
   no_race : (its : Fault) → IsFirstOfRace texts its → ⊥
   no_race its h =
       let first = h.first.first in
-      laws.free h.forms (of_tree h.sources h.forms h.are) (of_mapping h.sources h.forms h.are) (of_forms h.sources h.forms h.are)
+      laws.free h.forms (of_tree h.sources h.forms h.are) (of_mapping h.sources h.forms h.are)
+      (of_forms h.sources h.forms h.are)
       (of_uses h.sources h.forms h.are) first.form first.round first.found first.holds
 
   no_lack : (its : Fault) → IsFirstOfCapacity texts its → ⊥
   no_lack its h =
       let lack = h.first.first.lacks in
-      let there : slice_get demo_hierarchy.nodes h.first.node ≡ Some lack.its =
-      subst (λ (m : Hierarchy). slice_get m.nodes h.first.node ≡ Some lack.its) (of_machine h.sources h.forms h.are) lack.there in
-      let by_tree = subst (λ (t : Tree). Needs t.tasks h.forms.mapping.now.instances h.forms.machine.now.nodes h.forms.forms h.first.node h.first.need)
-      (of_tree h.sources h.forms h.are) lack.needs in
-      let by_mapping = subst (λ (m : Mapped). Needs demo_tree.tasks m.instances h.forms.machine.now.nodes h.forms.forms h.first.node h.first.need)
-      (of_mapping h.sources h.forms h.are) by_tree in
-      let by_machine = subst (λ (m : Hierarchy). Needs demo_tree.tasks demo_mapped.instances m.nodes h.forms.forms h.first.node h.first.need)
-      (of_machine h.sources h.forms h.are) by_mapping in
-      let needs = subst (λ (fs : List Form). Needs demo_tree.tasks demo_mapped.instances demo_hierarchy.nodes fs h.first.node h.first.need)
-      (of_forms h.sources h.forms h.are) by_machine in
-      let enough = laws.enough (its_limits h.sources) h.first.node h.first.need lack.its there needs in
+      let enough : h.first.need ≤ lack.its.capacity =
+      laws.enough (its_limits h.sources) h.forms (of_tree h.sources h.forms h.are) (of_mapping h.sources h.forms h.are)
+      (of_machine h.sources h.forms h.are) (of_forms h.sources h.forms h.are) h.first.node h.first.need lack.its
+      lack.there lack.needs in
       let short : h.first.capacity < h.first.need = lack.short in
       let same : h.first.capacity ≡ lack.its.capacity = lack.capacity_is in
       omega (arith, enough, short, same)
@@ -163,12 +156,16 @@ module _ (laws : DemoLaws) (c : Content) (n : ℕ) where
   no_input : (its : Fault) → IsFirstOfInput texts its → ⊥
   no_input its h =
       let bytes : demo_data n ≡ h.bytes = (let e : Some (demo_data n) ≡ Some h.bytes = h.there in cc) in
-      let read = subst (λ (t : Tree). arrays_of (wants_of is_read (params_of t h.entry.sources.mapped) 0 h.entry.extents) h.bytes ≡ Err h.found)
+      let read = subst (λ (t : Tree). arrays_of
+      (wants_of is_read (params_of t h.entry.sources.mapped) 0 h.entry.extents) h.bytes ≡ Err h.found)
       (its_tree h.entry.sources) h.read in
-      let mapped = subst (λ (m : Mapped). arrays_of (wants_of is_read (params_of demo_tree m) 0 h.entry.extents) h.bytes ≡ Err h.found)
+      let mapped = subst (λ (m : Mapped). arrays_of (wants_of is_read (params_of demo_tree m) 0 h.entry.extents) h.bytes
+      ≡ Err h.found)
       (its_mapping h.entry.sources) read in
-      let sized = subst (λ es. arrays_of (wants_of is_read (params_of demo_tree demo_mapped) 0 es) h.bytes ≡ Err h.found) (its_extents h.entry) mapped in
-      let bad : arrays_of demo_wants (demo_data n) ≡ Err h.found = subst (λ b. arrays_of demo_wants b ≡ Err h.found) (sym bytes) sized in
+      let sized = subst (λ es. arrays_of (wants_of is_read (params_of demo_tree demo_mapped) 0 es) h.bytes ≡ Err
+      h.found) (its_extents h.entry) mapped in
+      let bad : arrays_of demo_wants (demo_data n) ≡ Err h.found = subst (λ b. arrays_of demo_wants b ≡ Err h.found)
+      (sym bytes) sized in
       no_error (arrays_of demo_wants (demo_data n)) (demo_values n) h.found (laws.input n) bad
 
   pub no_fault : (phase : Phase) (its : Fault) → IsFirstOf phase texts its → ⊥
@@ -187,4 +184,5 @@ module _ (laws : DemoLaws) (c : Content) (n : ℕ) where
       let s = h.given.entry.sources in
       let start : Arrays = data_arrays texts h.given in
       let by_tree = subst (λ (t : Tree). flat t s.mapped start ≡ Err h.trapped) (its_tree s) h.run in
-      laws.trapless start h.trapped (subst (λ (m : Mapped). flat demo_tree m start ≡ Err h.trapped) (its_mapping s) by_tree)
+      laws.trapless start h.trapped
+      (subst (λ (m : Mapped). flat demo_tree m start ≡ Err h.trapped) (its_mapping s) by_tree)

@@ -33,8 +33,10 @@ nothing name = None
 its_status : DemoLaws → (n : ℕ) (told : Option Content) (answer : Answer) → Means (demo_of n) told answer
     → (status_for answer ≡ Done) ⊎ (status_for answer ≡ NoMemory)
 its_status laws n told (done out trace) means = inl refl
-its_status laws n told (refused phase its) means = absurd (no_fault laws nothing n phase its (means.cause nothing (inr refl)).1)
-its_status laws n told (trapped trap trace) means = absurd (no_trap laws nothing n trap (means.cause nothing (inr refl)).1)
+its_status laws n told (refused phase its) means =
+    absurd (no_fault laws nothing n phase its (means.cause nothing (inr refl)).1)
+its_status laws n told (trapped trap trace) means =
+    absurd (no_trap laws nothing n trap (means.cause nothing (inr refl)).1)
 its_status laws n told usage means = absurd means.names
 its_status laws n told (file_fault phase name) means = absurd (no_file n phase name means.names)
 its_status laws n told no_memory means = inr refl
