@@ -1,5 +1,5 @@
 -- The demo's texts are accepted: no phase has a fault, and nothing traps.
-use Rattle.std.proofs.Common.{◌≡◌, ◌⊎◌, inl, inr, ℕ, ◌<◌, ◌≤◌, List, Option, Some, None, Result, Ok, Err, refl, sym, ◌∙◌, ap, subst, arith, slice_get}
+use Rattle.std.proofs.Common.{◌≡◌, inl, inr, ℕ, ◌<◌, ◌≤◌, List, Some, None, Result, Ok, Err, refl, sym, ◌∙◌, ap, subst, arith}
 use Rattle.sq_port.specs.Ports.{Content}
 use Rattle.sq_text.specs.declared.code.Phase.{Phase}
 use Rattle.sq_text.specs.declared.code.Phase.TheVariants.{Program, Types, Machine, Mapping, Resolve, Race, Capacity, Order, Input}
@@ -23,7 +23,7 @@ use Rattle.sq_demo_laws.specs.Tree.{demo_tree}
 use Rattle.sq_demo_laws.specs.Machine.{demo_hierarchy, demo_mapped}
 use Rattle.sq_demo_laws.specs.FormsFound.{square, demo_forms, demo_uses, demo_resolving}
 use Rattle.sq_demo_laws.specs.Laws.{DemoLaws, demo_wants, demo_values}
-use Rattle.sq_words.specs.Words.{program, mapping, machine, input, order, demo_of}
+use Rattle.sq_words.specs.Words.{program, machine, demo_of}
 use Rattle.sq_driver.specs.Phases.{Inputs, inputs_of}
 use Rattle.sq_driver.specs.Holding.{Holds}
 use Rattle.sq_driver.specs.Programs.{IsProgramText, ProgramFault}
