@@ -58,7 +58,10 @@ module _ (choose : Form → Choice) (stay : (f : Form) (i : ℕ) → left_by (ch
     in_place_ = λ k f e i h. has f i (sym (ap (λ (c : Choice). get_or c.in_place i false) (chosen_at r.forms k f e)) ∙ h);
   }
 
-nothing_at : (i : ℕ) → get_or [] i 0 ≡ 0
+abbrev no_leaves : List ℕ
+no_leaves = []
+
+nothing_at : (i : ℕ) → get_or no_leaves i 0 ≡ 0
 nothing_at zero = refl
 nothing_at (suc i) = refl
 

@@ -4,7 +4,6 @@
 mod act;
 mod frame;
 mod leaf;
-mod numbers;
 mod run;
 mod spot;
 

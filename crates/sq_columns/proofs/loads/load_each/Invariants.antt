@@ -1,0 +1,11 @@
+use Rattle.std.proofs.Common.{◌≡◌, ◌<◌, ◌≤◌, ℕ, pos, length, get_or, take, drop}
+use Rattle.sq_num.specs.Elements.{width, value}
+use Rattle.sq_columns.specs.Lines.{first_byte}
+use Rattle.sq_columns.proofs.loads.load_each.Given as goal
+
+abbrev pub invariant-loop-j : goal.invariant-loop-j
+invariant-loop-j l = record {
+  size : length l.column ≡ length l.fn.column;
+  done : (k : ℕ) → k < l.j → get_or l.column k (pos 0) ≡ value l.elem (take (width l.elem) (drop (first_byte l.spots l.fn.column k) l.bytes));
+  left : (k : ℕ) → l.j ≤ k → get_or l.column k (pos 0) ≡ get_or l.fn.column k (pos 0);
+}

@@ -1,0 +1,10 @@
+use Rattle.std.proofs.Common.{◌≡◌, ◌<◌, ◌≤◌, ℕ, pos, length, get_or}
+use Rattle.sq_leaf.specs.Numbers as spec
+use Rattle.sq_columns.proofs.operators.unary_each.Given as goal
+
+abbrev pub invariant-loop-j : goal.invariant-loop-j
+invariant-loop-j l = record {
+  size : length l.xs ≡ length l.fn.xs;
+  done : (k : ℕ) → k < l.j → get_or l.xs k (pos 0) ≡ spec.unary l.op (get_or l.fn.xs k (pos 0));
+  left : (k : ℕ) → l.j ≤ k → get_or l.xs k (pos 0) ≡ get_or l.fn.xs k (pos 0);
+}
