@@ -2,7 +2,10 @@
 
 ghost use Rattle.sq_machfile.specs.Machines.{WithinLimits};
 ghost use Rattle.sq_demo_laws.specs.Machine.{demo_hierarchy};
-ghost use Rattle.sq_demo_laws.specs.Laws.{OneMachine, MachineIsFaultless, OneMapping, MappingIsFaultless, MappingIsSound, ProgramIsFaultless, ProgramResolves, NodesHaveEnough, ProgramIsTrapless, OneTree, ProgramHasNoFault, ProgramIsRead, FormsAreFree, DataIsRead, DemoLaws};
+ghost use Rattle.sq_demo_laws.specs.Laws.{OneMachine, MachineIsFaultless, OneMapping, MappingIsFaultless};
+ghost use Rattle.sq_demo_laws.specs.Laws.{MappingIsSound, ProgramIsFaultless, ProgramResolves, NodesHaveEnough};
+ghost use Rattle.sq_demo_laws.specs.Laws.{ProgramIsTrapless, OneTree, ProgramHasNoFault, ProgramIsRead, FormsAreFree};
+ghost use Rattle.sq_demo_laws.specs.Laws.{DataIsRead, DemoLaws};
 
 use sq_arrays::laws::written_arrays_read_back;
 use sq_lexer::laws::each_text_has_tokens_or_breaks;
