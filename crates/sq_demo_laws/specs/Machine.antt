@@ -12,6 +12,8 @@ use Rattle.sq_mapfile.specs.declared.mapping.Instance.{Instance}
 use Rattle.sq_mapfile.specs.declared.mapping.Mapping.{Mapping}
 use Rattle.sq_mapfile.specs.declared.mapping.Tuning.{Tuning}
 use Rattle.sq_mapfile.specs.declared.mapping.Setting.TheVariants.{One}
+use Rattle.sq_mapfile.specs.declared.text.InstanceText.{InstanceText}
+use Rattle.sq_mapfile.specs.declared.text.ItemText.{ItemText}
 use Rattle.sq_mapfile.specs.declared.text.ItemText.TheVariants.{Tunable, Call}
 use Rattle.sq_mapfile.specs.declared.text.MappingText.{MappingText}
 use Rattle.sq_mapfile.specs.Grammar.{size, instance, mapping}
@@ -19,10 +21,14 @@ use Rattle.sq_demo_laws.specs.Texts.{at}
 
 -- ---- the machine
 
+-- as it is written
 abbrev pub machine_text : MachineText
-machine_text = Levels (levels_text (level_text (word (at 1 18) (codes "host")) (numeral (at 1 34) 196608))
+machine_text =
+    Levels (levels_text
+    (level_text (word (at 1 18) (codes "host")) (numeral (at 1 34) 196608))
     (below_text (numeral (at 1 53) 2) (level_text (word (at 1 62) (codes "chip")) (numeral (at 1 78) 20480))
-    ∷ below_text (numeral (at 1 96) 4) (level_text (word (at 1 105) (codes "core")) (numeral (at 1 121) 1280)) ∷ []))
+    ∷ below_text (numeral (at 1 96) 4) (level_text (word (at 1 105) (codes "core")) (numeral (at 1 121) 1280))
+    ∷ []))
 
 abbrev pub host : Level
 host = record { name = codes "host"; capacity = 196608; children = 2 }
@@ -97,16 +103,32 @@ demo_mapped = record {
   instances = top_instance ∷ mid_instance ∷ low_instance ∷ [];
 }
 
+-- as it is written
+abbrev pub tunable_at : (line col : ℕ) → List ℕ → ℕ → ItemText
+tunable_at line col name n = Tunable (word (at line col) name) (One (pos n))
+
+abbrev pub top_text : InstanceText
+top_text =
+    instance (word (at 3 10) (codes "top")) (word (at 3 16) (codes "matmul")) Inner (word (at 3 32) (codes "host"))
+    (tunable_at 3 47 (codes "U") 32 ∷ tunable_at 3 63 (codes "X") 32 ∷ tunable_at 3 79 (codes "V") 32
+    ∷ Call (word (at 3 92) (codes "matmul")) (word (at 3 102) (codes "mid"))
+    ∷ [])
+
+abbrev pub mid_text : InstanceText
+mid_text =
+    instance (word (at 4 10) (codes "mid")) (word (at 4 16) (codes "matmul")) Inner (word (at 4 32) (codes "chip"))
+    (tunable_at 4 47 (codes "U") 8 ∷ tunable_at 4 62 (codes "X") 8 ∷ tunable_at 4 77 (codes "V") 8
+    ∷ Call (word (at 4 89) (codes "matmul")) (word (at 4 99) (codes "low"))
+    ∷ [])
+
+abbrev pub low_text : InstanceText
+low_text =
+    instance (word (at 5 10) (codes "low")) (word (at 5 16) (codes "matmul")) Leaf (word (at 5 31) (codes "core")) []
+
 abbrev pub mapping_text : MappingText
-mapping_text = mapping (word (at 2 7) (codes "top")) (size (word (at 2 11) (codes "M")) 128
-    ∷ size (word (at 2 20) (codes "N")) 128 ∷ size (word (at 2 29) (codes "P")) 128 ∷ [])
-    (instance (word (at 3 10) (codes "top")) (word (at 3 16) (codes "matmul")) Inner (word (at 3 32) (codes "host"))
-    (Tunable (word (at 3 47) (codes "U")) (One (pos 32)) ∷ Tunable (word (at 3 63) (codes "X")) (One (pos 32))
-    ∷ Tunable (word (at 3 79) (codes "V")) (One (pos 32))
-    ∷ Call (word (at 3 92) (codes "matmul")) (word (at 3 102) (codes "mid")) ∷ [])
-    ∷ instance (word (at 4 10) (codes "mid")) (word (at 4 16) (codes "matmul")) Inner (word (at 4 32) (codes "chip"))
-    (Tunable (word (at 4 47) (codes "U")) (One (pos 8)) ∷ Tunable (word (at 4 62) (codes "X")) (One (pos 8))
-    ∷ Tunable (word (at 4 77) (codes "V")) (One (pos 8))
-    ∷ Call (word (at 4 89) (codes "matmul")) (word (at 4 99) (codes "low")) ∷ [])
-    ∷ instance (word (at 5 10) (codes "low")) (word (at 5 16) (codes "matmul")) Leaf (word (at 5 31) (codes "core"))
-    ([]) ∷ [])
+mapping_text =
+    mapping (word (at 2 7) (codes "top"))
+    (size (word (at 2 11) (codes "M")) 128 ∷ size (word (at 2 20) (codes "N")) 128
+    ∷ size (word (at 2 29) (codes "P")) 128
+    ∷ [])
+    (top_text ∷ mid_text ∷ low_text ∷ [])
