@@ -1,7 +1,9 @@
+pub mod Accepted
 pub mod Answering
 pub mod CapacityPhase
 pub mod CheckEnds
 pub mod DataPhase
+pub mod DemoRow
 pub mod Demos
 pub mod Datas
 pub mod Ending

@@ -2,10 +2,10 @@
 use Rattle.std.specs.Prelude.{◌≡◌, ◌⊎◌, ℕ, Option, Some, None, Result}
 use Rattle.sq_port.specs.Ports.{Content, Rose}
 use Rattle.sq_driver.specs.declared.outside.status.Status.{Status}
-use Rattle.sq_driver.specs.declared.outside.status.Status.TheVariants.{Usage, FileFault, SinkFault, NoMemory, Absent}
+use Rattle.sq_driver.specs.declared.outside.status.Status.TheVariants.{Done, Usage, FileFault, SinkFault, NoMemory, Absent}
 use Rattle.sq_driver.specs.declared.outside.end.End.{End}
 use Rattle.sq_tree.specs.Bank.{BankSeen}
-use Rattle.sq_words.specs.Words.{Command}
+use Rattle.sq_words.specs.Words.{Command, demo_of}
 use Rattle.sq_driver.specs.Phases.{IsTold}
 use Rattle.sq_driver.specs.Meaning.{Answer, done, refused, trapped, usage, file_fault, absent, IsCause, Means}
 use Rattle.sq_driver.specs.Banks.{Writing, whole, cut_out, cut_err, BankAfter}
@@ -95,3 +95,8 @@ abbrev pub IsOnly : Option Command → Option Content → Status → Type 0
 IsOnly None told status = Unit {0}
 IsOnly (Some command) told status = (c : Content) → IsTold command told c → (answer : Answer) → IsSaid answer
     → IsCause command c answer → (status ≡ status_for answer) ⊎ IsFree status
+
+-- the demo of a number is done, or memory was wanting, or a put failed
+abbrev pub IsDemoDone : Option Command → Status → Type 0
+IsDemoDone command status = (n : ℕ) → command ≡ Some (demo_of n)
+    → (status ≡ Done) ⊎ ((status ≡ NoMemory) ⊎ (status ≡ SinkFault))

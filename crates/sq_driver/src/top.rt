@@ -6,11 +6,12 @@ ghost use Rattle.sq_driver.specs.Ends.{ending, FileCauses};
 ghost use Rattle.sq_driver.specs.Meaning.{Answer};
 ghost use Rattle.sq_driver.specs.Banks.{Writing};
 ghost use Rattle.sq_driver.specs.Outcome.{Outside, Puts, ResultFor, trace_for};
-ghost use Rattle.sq_driver.specs.Top.{Answered, Executed, Finished, IsExplained, IsOnly, IsUndisturbed};
+ghost use Rattle.sq_driver.specs.Top.{Answered, Executed, Finished, IsDemoDone, IsExplained, IsOnly, IsUndisturbed};
 
 use crate::outside::end::{End, put_end};
 use crate::outside::status::Status;
 use crate::outside::world::{Perform, World};
+use sq_demo_laws::laws::the_demo_is_accepted;
 use sq_port::{Failed, Files, Sink};
 use sq_tree::Bank;
 use sq_words::{Command, parse};
@@ -85,7 +86,11 @@ pub fn sq_top<F: Files, S: Sink, E: Sink, B: Bank>(
     ensures complete { ¬ Rose (F.faults files.old) (F.faults files.new) → ¬ Rose (S.faults out.old) (S.faults out.new)
         → ¬ Rose (E.faults err.old) (E.faults err.new) → IsExplained (command_of (texts words.now))
         (F.content files.old) result }
+
+    // The demo is done, or memory was wanting, or a put failed: its texts are accepted, and nothing of it traps.
+    ensures demo { IsDemoDone (command_of (texts words.now)) result }
 {
+    the_demo_is_accepted();
     let ended = execute(alloc, words, files, out, err, bank);
     finish(ended, err)
 }

@@ -1,0 +1,17 @@
+pub mod Tests
+pub mod Given
+pub mod Pieces
+pub mod TextTokens
+pub mod ProgramTree
+pub mod MachineRead
+pub mod MappingRead
+pub mod Sounded
+pub mod Walked
+pub mod Resolved
+pub mod Apart
+pub mod LeafEnds
+pub mod WorkEnds
+pub mod Enough
+pub mod FreeOfRaces
+pub mod ProgramRead
+pub mod DataRead

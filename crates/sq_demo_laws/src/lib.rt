@@ -1,0 +1,4 @@
+//! What is true of the demo's texts.
+#![tactic(auto)]
+
+pub mod laws;
