@@ -14,9 +14,7 @@ ghost use Rattle.sq_leaf_run.specs.Blocks.{Read, value_alone, extreme, extreme_o
 use crate::block::{Block, end_of, is_clear};
 use crate::frame::Frame;
 use sq_ast::UnOp;
-use sq_columns::{
-    Line, along_line, binary_line, least_line, load_line, most_line, unary_line,
-};
+use sq_columns::{Line, along_line, binary_line, least_line, load_line, most_line, unary_line};
 use sq_leaf::{Cell, Code, Step};
 use sq_num::Elem;
 use sq_rect::View;
