@@ -1,5 +1,5 @@
 -- A block whose elements and values are known is the loop over its turns.
-use Rattle.std.proofs.Common.{◌≡◌, ℕ, zero, suc, ◌+◌, ◌*◌, ◌<◌, ◌≤◌, List, [], ◌∷◌, ◌++◌, length, map, Result, Ok, ℤ, pos, negsuc, ◌-◌, ◌+ℤ◌, ◌<ℤ◌, ◌≤ℤ◌, subst, w64, to_z, of_z, FitsSigned, refl, sym, ◌∙◌, ap, arith}
+use Rattle.std.proofs.Common.{◌≡◌, ℕ, zero, suc, ◌+◌, ◌<◌, ◌≤◌, List, [], ◌∷◌, ◌++◌, length, Result, ℤ, pos, negsuc, ◌-◌, ◌+ℤ◌, ◌<ℤ◌, ◌≤ℤ◌, subst, w64, to_z, of_z, FitsSigned, refl, sym, ◌∙◌, ap, arith}
 use Rattle.std.proofs.lemmas.Int.{ints, to_z-of_z, to_z_pos}
 use Rattle.std.specs.Int.{int_gap}
 use Rattle.sq_num.specs.declared.Elem.{Elem}
@@ -14,10 +14,10 @@ use Rattle.sq_leaf.specs.declared.code.Code.{Code}
 use Rattle.sq_leaf.specs.declared.code.Cell.{Cell}
 use Rattle.sq_leaf.specs.Source.{assigned}
 use Rattle.sq_leaf.specs.Spots.{load, store}
-use Rattle.sq_leaf.specs.Running.{Sight, Ran, Goes, Stops, once, onward, each, repeats, assigns, run_code, run_cell, run_each, ActionRun}
+use Rattle.sq_leaf.specs.Running.{Sight, Ran, Goes, Stops, once, onward, repeats, assigns, run_code, run_cell, run_each, ActionRun}
 use Rattle.sq_leaf_run.specs.declared.block.Block.{Block}
 use Rattle.sq_leaf_run.specs.Blocks.{IsClear, Below, Above, Ahead, MayPut, IsNarrower, IsMet, counters_at, Gives, Places, LiesIn, put_turn, puts}
-use Rattle.sq_leaf_run.proofs.Putting.{AreKnown, block_is_loop, in_parts}
+use Rattle.sq_leaf_run.proofs.Putting.{block_is_loop, in_parts}
 use Rattle.sq_leaf_run.proofs.Turns.{gap_next}
 
 -- the turns of a block, and where another one writes

@@ -14,7 +14,7 @@ use Rattle.sq_leaf.specs.Outcome.{and_then}
 use Rattle.sq_leaf.specs.Source.{linked}
 use Rattle.sq_leaf.specs.Running.{run_code, run_step, CodeRun, CellRun, StepRun, code_step, cell_step, step_step}
 use Rattle.sq_leaf_run.specs.declared.block.Block.{Block}
-use Rattle.sq_leaf_run.specs.Blocks.{IsMet, Read, counters_at, Gives, Follows, value_alone, extreme, extreme_of}
+use Rattle.sq_leaf_run.specs.Blocks.{Read, counters_at, Gives, Follows, value_alone, extreme, extreme_of}
 use Rattle.sq_leaf_run.proofs.Spotting.{line_front}
 
 abbrev Right : ℤ → Result ℤ Trap

@@ -1,5 +1,5 @@
 -- Elements that a block reads, as they were before it.
-use Rattle.std.proofs.Common.{◌≡◌, ℕ, ◌+◌, ◌<◌, ◌≤◌, List, length, Option, Some, Result, Ok, ℤ, pos, refl, sym, ◌∙◌, ap, arith}
+use Rattle.std.proofs.Common.{◌≡◌, ℕ, ◌+◌, ◌<◌, ◌≤◌, List, length, Result, Ok, ℤ, sym, ◌∙◌, ap, arith}
 use Rattle.sq_num.specs.declared.Elem.{Elem}
 use Rattle.sq_num.specs.Elements.{width}
 use Rattle.sq_columns.specs.declared.line.Line.{Line}
@@ -9,7 +9,7 @@ use Rattle.sq_leaf.specs.declared.spot.Spot.{Spot}
 use Rattle.sq_leaf.specs.Spots.{load}
 use Rattle.sq_leaf.specs.Running.{load_from}
 use Rattle.sq_leaf_run.specs.declared.block.Block.{Block}
-use Rattle.sq_leaf_run.specs.Blocks.{IsMet, Read, counters_at, Gives, Places, LiesIn, AreClear}
+use Rattle.sq_leaf_run.specs.Blocks.{Read, Gives, Places, LiesIn, AreClear}
 use Rattle.sq_leaf_run.proofs.Meeting.{load_clear}
 
 pub are_first : (t : Block) (e : Elem) (spots : Line) (column : List ℤ) (low high size : ℕ) → ((j : ℕ) → j < t.turns → LiesIn low high e spots column j) → high ≤ size

@@ -1,6 +1,5 @@
 -- What a turn of a block meets, and what it reads as it was before the block.
 use Rattle.std.proofs.Common.{◌≡◌, ◌⊎◌, inl, inr, ℕ, zero, suc, ◌+◌, ◌*◌, ◌<◌, ◌≤◌, List, ◌∷◌, length, take, drop, get_or, ℤ, refl, sym, ◌∙◌, ap, arith, drop-cons, unsigned_abs}
-use Rattle.std.proofs.lemmas.Bool.{cases_lt}
 use Rattle.sq_num.specs.declared.Elem.{Elem}
 use Rattle.sq_num.specs.Elements.{width, value, cell}
 use Rattle.sq_num.proofs.Cutting.{length-cell}

@@ -1,5 +1,5 @@
 -- Indices of a block: where the elements of its turns stand.
-use Rattle.std.proofs.Common.{◌≡◌, ℕ, zero, suc, ◌+◌, ◌-◌, ◌*◌, ◌^◌, ◌<◌, ◌≤◌, List, [], ◌∷◌, ◌++◌, length, map, get_or, slice_get, Option, Some, None, Result, Ok, Err, ℤ, pos, negsuc, nat_lt, IfSome, true, false, refl, sym, subst, ◌∙◌, ap, arith, unsigned_abs, if◌then◌else◌}
+use Rattle.std.proofs.Common.{◌≡◌, ℕ, ◌+◌, ◌-◌, ◌*◌, ◌^◌, ◌<◌, ◌≤◌, List, [], ◌∷◌, ◌++◌, length, map, get_or, slice_get, Option, Some, None, Result, Ok, Err, ℤ, pos, negsuc, nat_lt, IfSome, true, false, refl, sym, subst, ◌∙◌, ap, arith, unsigned_abs, if◌then◌else◌}
 use Rattle.std.proofs.lemmas.List.Prefix.{front_reads}
 use Rattle.std.specs.Option.{option_map}
 use Rattle.sq_num.specs.declared.Elem.{Elem}
@@ -10,7 +10,6 @@ use Rattle.sq_columns.specs.declared.line.Line.{Line}
 use Rattle.sq_columns.specs.declared.line.Line.TheVariants.{Same, Ramp, Column}
 use Rattle.sq_columns.specs.Lines.{line_at, first_byte, IsSpot}
 use Rattle.sq_leaf.specs.declared.trap.Trap.{Trap}
-use Rattle.sq_leaf.specs.declared.spot.Spot.{Spot}
 use Rattle.sq_leaf.specs.declared.code.Code.{Code}
 use Rattle.sq_leaf.specs.declared.code.Cell.{Cell, out-Cell}
 use Rattle.sq_leaf.specs.Outcome.{and_then, all}
@@ -19,7 +18,7 @@ use Rattle.sq_leaf.specs.Spots.{IsInside, first_of, spot_or_trap}
 use Rattle.sq_leaf.specs.Running.{run_code, run_codes, run_cell, cell_in, CodeRun}
 use Rattle.sq_leaf.proofs.Many.{cell_found}
 use Rattle.sq_leaf_run.specs.declared.block.Block.{Block}
-use Rattle.sq_leaf_run.specs.Blocks.{IsMet, Read, counters_at, Gives, Places, LiesIn, Offset, AreSpots, along_value, offset_by, offset_of}
+use Rattle.sq_leaf_run.specs.Blocks.{Read, counters_at, Gives, Places, LiesIn, Offset, AreSpots, along_value, offset_by, offset_of}
 use Rattle.sq_leaf_run.proofs.Meeting.{met_same}
 
 -- the first column is the front of all

@@ -27,7 +27,7 @@ use sq_num::Elem;
 use sqlite_items::at;
 
 /// The least number of turns that are worth a block.
-const LEAST: usize = 4;
+const LEAST: usize = 5;
 
 /// Runs the assignment for each number from `from` up to but not including `end`.
 pub(crate) fn blocks(

@@ -13,7 +13,7 @@ use Rattle.sq_tree.specs.Totals.{total, stopped, HaveThePlansSums}
 use Rattle.sq_meant.specs.Traffic.{RunsCarryTheTraffic}
 
 total_both : (f : Event → ℕ) (xs ys : List Event) → total f (xs ++ ys) ≡ total f xs + total f ys
-total_both f [] ys = refl
+total_both f [] ys = omega arith
 total_both f (x ∷ xs) ys = let e = total_both f xs ys in omega (arith, e)
 
 -- of two functions that are the same

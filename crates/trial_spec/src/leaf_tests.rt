@@ -11,9 +11,9 @@ use std::alloc::{AllocError, Global};
 use std::process::Abort;
 
 // The text, whose last variant is run; sizes and tunables; the arrays, which are zeros where no elements are given; and
-// what comes of it:
-// the elements of all arrays, or the trap with its line and column.
-type Case = (&'static str, &'static str, &'static str, &'static str);
+// what comes of it: the elements of all arrays, or the trap with its line and column. Where arrays are long, `ok` or the
+// trap, `#`, and the sum of all bytes as they are then.
+pub(crate) type Case = (&'static str, &'static str, &'static str, &'static str);
 
 const WORKED: [Case; 10] = [
     (
@@ -1033,13 +1033,37 @@ fn is_trap(trap: Trap, end: &str) -> bool {
     }
 }
 
+// Each byte is added to 31 times what those before it make.
+fn sum_of(bytes: &[u8]) -> i64 {
+    let mut sum = 0i64;
+    for b in bytes {
+        sum = sum.wrapping_mul(31).wrapping_add(i64::from(*b));
+    }
+    sum
+}
+
+fn is_end(ran: Result<(), Trap>, end: &str) -> bool {
+    match ran {
+        Ok(()) => end == "ok",
+        Err(trap) => is_trap(trap, end),
+    }
+}
+
+fn is_end_shown(ran: Result<(), Trap>, views: &Views, bytes: &[u8], end: &str) -> bool {
+    match ran {
+        Ok(()) => shows(end, views, bytes),
+        Err(trap) => is_trap(trap, end),
+    }
+}
+
 fn ends_so(code: &LeafCode, views: &Views, bytes: &mut [u8], end: &str) -> bool {
     if !are_in_line(bytes.len(), views) {
         return false;
     }
-    match run_leaf(code, bytes, views) {
-        Ok(()) => shows(end, views, bytes),
-        Err(trap) => is_trap(trap, end),
+    let ran = run_leaf(code, bytes, views);
+    match end.split_once('#') {
+        Some((end, sum)) => is_end(ran, end) && sum_of(bytes) == number_of(sum),
+        None => is_end_shown(ran, views, bytes, end),
     }
 }
 
@@ -1080,7 +1104,7 @@ fn text_of(case: &Case) -> &str {
     case.0
 }
 
-fn all_are_so(rt: &impl Abort, alloc: Global, cases: &[Case]) -> Result<(), AllocError> {
+pub(crate) fn all_are_so(rt: &impl Abort, alloc: Global, cases: &[Case]) -> Result<(), AllocError> {
     for case in cases {
         let so = is_so(alloc, case)?;
         assert!(rt; so, "{}", text_of(case));

@@ -2,6 +2,8 @@
 #![tactic(auto)]
 
 #[cfg(test)]
+mod block_tests;
+#[cfg(test)]
 mod forms_tests;
 #[cfg(test)]
 mod leaf_tests;

@@ -1,8 +1,8 @@
-use Rattle.std.proofs.Common.{rules, ◌≡◌, ◌∙◌, [], ◌∷◌, ◌++◌, ℤ, pos, ◌+ℤ◌, ap, arith, w64, to_z, of_z}
+use Rattle.std.proofs.Common.{◌≡◌, ◌∙◌, [], ◌∷◌, ◌++◌, ℤ, pos, ◌+ℤ◌, ap, arith, w64, to_z, of_z}
 use Rattle.std.proofs.lemmas.Int.{ints, to_z-of_z}
 use Rattle.std.specs.Int.{int_gap}
 use Rattle.sq_leaf.specs.Running as running
-use Rattle.sq_leaf_run.proofs.Blocking.{next_block, last_block, fewer}
+use Rattle.sq_leaf_run.proofs.Blocking.{next_block, last_block}
 use Rattle.sq_leaf_run.proofs.blocks.blocks.Goals as goal
 
 pub returns-in-Err-clause-ran : goal.returns-in-Err-clause-ran

@@ -1,4 +1,4 @@
-use Rattle.std.proofs.Common.{rules, ◌≡◌, ◌++◌, ◌<◌, ◌≤◌, ℕ, ℤ, List, length, IfSome, arith}
+use Rattle.std.proofs.Common.{rules, ◌≡◌, length}
 use Rattle.sq_num.specs.Elements.{width}
 use Rattle.sq_leaf_run.specs.Blocks.{counters_at}
 use Rattle.sq_leaf_run.proofs.Spotting.{along_front, spots_along, spots_there, some_after, one_index, two_indices, three_indices, list_one, list_two, list_three, codes_one, codes_two, codes_three}

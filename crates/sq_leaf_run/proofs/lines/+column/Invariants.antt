@@ -1,4 +1,4 @@
-use Rattle.std.proofs.Common.{◌≡◌, drop}
+use Rattle.std.proofs.Common.{drop}
 use Rattle.sq_leaf.specs.Running as running
 use Rattle.sq_leaf_run.specs.Blocks.{Follows}
 use Rattle.sq_leaf_run.proofs.lines.+column.Given as goal

@@ -1,7 +1,6 @@
-use Rattle.std.proofs.Common.{rules, ◌≡◌, ◌∙◌, ℤ, w64, ap, to_z, of_z, FitsSigned}
+use Rattle.std.proofs.Common.{rules, ◌≡◌, ◌∙◌, w64, to_z, of_z, FitsSigned}
 use Rattle.std.proofs.lemmas.Int.{to_z-of_z}
 use Rattle.sq_leaf.specs.Source as source
-use Rattle.sq_leaf.specs.Spots as running
 use Rattle.sq_columns.specs.Lines.{line_at, first_byte}
 use Rattle.sq_leaf_run.proofs.Putting.{next_put}
 use Rattle.sq_leaf_run.proofs.puts.put_each.Goals as goal

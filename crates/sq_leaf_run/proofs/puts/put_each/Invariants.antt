@@ -1,4 +1,4 @@
-use Rattle.std.proofs.Common.{◌≡◌, ◌-◌, length}
+use Rattle.std.proofs.Common.{◌≡◌, ◌-◌}
 use Rattle.sq_leaf.specs.Source as source
 use Rattle.sq_columns.specs.Lines.{line_at, first_byte}
 use Rattle.sq_leaf_run.specs.Blocks.{puts}
