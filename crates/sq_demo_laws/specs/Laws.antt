@@ -42,7 +42,7 @@ MappingHasTokens = AreTokens demo_mapping mapping_tokens
 abbrev pub MachineHasTokens : Type 0
 MachineHasTokens = AreTokens demo_machine machine_tokens
 
--- the program's text stands for this program alone, and has no fault
+-- the program's text stands for no other program than this, and has no fault
 abbrev pub OneTree : Type 0
 OneTree = (ts : List Token) (p : Program) → AreTokens demo_program ts → parsing.IsProgram ts p → p ≡ demo_tree
 
@@ -52,14 +52,14 @@ ProgramHasNoFault = (f : Fault) → HasFault ProgramPhase demo_program f → ⊥
 abbrev pub ProgramIsRead : Type 0
 ProgramIsRead = (ts : List Token) (f : Fault) → AreTokens demo_program ts → parsing.HasFault ts f → ⊥
 
--- the machine's text stands for this machine alone, and has no fault
+-- the machine's text stands for no other machine than this, and has no fault
 abbrev pub OneMachine : Type 0
 OneMachine = (h : Hierarchy) → IsHierarchyOf demo_machine h → h ≡ demo_hierarchy
 
 abbrev pub MachineIsFaultless : Type 0
 MachineIsFaultless = (f : Fault) → MachineFault demo_machine f → ⊥
 
--- the mapping's text stands for this mapping alone, has no fault for the program and the machine, and is sound
+-- the mapping's text stands for no other mapping than this, has no fault for the program and the machine, and is sound
 abbrev pub OneMapping : Type 0
 OneMapping = (m : Mapping) → IsMappingOf demo_hierarchy.levels demo_mapping m → m ≡ demo_mapped
 
@@ -113,7 +113,7 @@ DataIsRead = (seed : ℕ) → arrays_of demo_wants (demo_data seed) ≡ Ok (demo
 
 -- ---- all of it
 
--- no phase of the demo has a fault, and its program doesn't trap
+-- no phase of the demo has a fault, and its program doesn't trap; a machine that was read is within the limits
 pub record DemoLaws : Type 0 where
   pub one_tree : OneTree
   pub tokens : ProgramHasNoFault

@@ -12,7 +12,7 @@ use sq_lexer::laws::each_text_has_tokens_or_breaks;
 use sq_parser::laws::tokens_are_a_program_or_have_a_fault;
 use sq_spec_laws::laws::needs_are_sound;
 
-/// The machine's text stands for one machine, and has no fault.
+/// The machine's text stands for no other machine, and has no fault.
 pub fn the_machine_is_read()
     ensures one { OneMachine }
     ensures faultless { MachineIsFaultless }
@@ -20,7 +20,7 @@ pub fn the_machine_is_read()
     each_text_has_tokens_or_breaks();
 }
 
-/// The mapping's text stands for one mapping, and has no fault for the program and the machine.
+/// The mapping's text stands for no other mapping, and has no fault for the program and the machine.
 pub fn the_mapping_is_read()
     ensures one { OneMapping }
     ensures faultless { MappingIsFaultless }
@@ -29,7 +29,7 @@ pub fn the_mapping_is_read()
     each_text_has_tokens_or_breaks();
 }
 
-/// The program's text stands for one program, and has no fault.
+/// The program's text stands for no other program, and has no fault.
 pub fn the_program_is_read()
     ensures one { OneTree }
     ensures tokens { ProgramHasNoFault }

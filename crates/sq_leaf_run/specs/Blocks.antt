@@ -16,7 +16,7 @@ use Rattle.sq_leaf.specs.Running.{Ran, Goes, repeats, ActionRun, run_code}
 use Rattle.sq_leaf_run.specs.declared.block.Block.{Block}
 use Rattle.sq_leaf_run.specs.declared.block.Rise.{Rise}
 
--- no turn before turn j writes byte k
+-- by what is known of the block no turn before turn j writes byte k
 pub data IsClear (t : Block) (j k : ℕ) : Type 0 where
   Below : k < t.low → IsClear t j k
   Above : t.high ≤ k → IsClear t j k
@@ -96,11 +96,13 @@ puts e g s x (suc n) j c = puts e g s x n (suc j) (put_turn e g s x j c)
 
 -- ---- first bytes that go up
 
+-- the number of each turn of a line is a first byte that goes up by this step
 pub record IsRise (r : Rise) (l : Line) : Type 0 where
   pub near : r.at < 2 ^ 62
   pub slow : r.step ≤ 2 ^ 32
   pub is : (column : List ℤ) (j : ℕ) → j < 256 → line_at l column j ≡ pos (r.at + r.step * j)
 
+-- the same of a ramp
 pub record IsRiseFrom (r : Rise) (a d : ℤ) : Type 0 where
   pub near : r.at < 2 ^ 62
   pub slow : r.step ≤ 2 ^ 32
@@ -131,7 +133,7 @@ pub record AreSpots (t : Block) (ks : List ℤ) (b : List ℕ) (offset : Offset)
   pub steady : (j : ℕ) (c : List ℕ) → j < t.turns → IsMet t j b c → offset (counters_at t ks j) c ≡ offset (counters_at t ks j) b
   pub spot : (j : ℕ) → j < t.turns → IsSpot at w most (offset (counters_at t ks j) b) (line_at l column j)
 
--- there are few turns, and their counters are numbers of 64 bits
+-- there are some turns, at most 256, and their counters are numbers of 64 bits
 pub record IsCounted (t : Block) : Type 0 where
   pub few : t.turns ≤ 256
   pub some : 0 < t.turns

@@ -1,11 +1,9 @@
 //! Turns of a loop whose body is one assignment, run together.
 //!
 //! All elements and all numbers of the turns are computed before any is put, from the bytes before the block. A turn
-//! reads
-//! no byte that an earlier one of the block writes, so that each computes what it would compute in its turn, and as
-//! nothing traps each turn comes to its put. Where it isn't known that a turn doesn't trap, or that it doesn't read
-//! what an
-//! earlier one writes, no byte is changed.
+//! reads no byte that an earlier one of the block writes, so that each computes what it would compute in its turn, and as
+//! nothing traps each turn comes to its put. Where it isn't known that a turn doesn't trap, or that it doesn't read what
+//! an earlier one writes, no byte is changed.
 
 ghost use Rattle.std.specs.Prelude.{◌≡◌, ◌+◌, ◌^◌, ◌<◌, ◌≤◌, ◌+ℤ◌, ◌<ℤ◌, ◌≤ℤ◌, [], ◌∷◌, ◌++◌, ℕ, pos, length};
 ghost use Rattle.std.specs.Prelude.{slice_get};
