@@ -4,6 +4,8 @@
 #[cfg(test)]
 mod block_tests;
 #[cfg(test)]
+mod body_tests;
+#[cfg(test)]
 mod forms_tests;
 #[cfg(test)]
 mod leaf_tests;
