@@ -15,44 +15,53 @@ use Rattle.sq_leaf.specs.declared.code.Cell.{Cell}
 use Rattle.sq_leaf.specs.Source.{assigned}
 use Rattle.sq_leaf.specs.Spots.{load, store}
 use Rattle.sq_leaf.specs.Running.{Sight, Ran, Goes, Stops, once, onward, repeats, assigns, run_code, run_cell, run_each, ActionRun}
+use Rattle.sq_leaf_run.specs.declared.block.Write.{Write}
 use Rattle.sq_leaf_run.specs.declared.block.Block.{Block}
-use Rattle.sq_leaf_run.specs.Blocks.{IsClear, Below, Above, Ahead, MayPut, IsNarrower, IsMet, counters_at, Gives, Places, LiesIn, put_turn, puts}
-use Rattle.sq_leaf_run.proofs.Putting.{block_is_loop, in_parts}
+use Rattle.sq_leaf_run.specs.Blocks.{IsClearOf, AllClear, IsClear, Below, Above, Ahead, MayPut, IsNarrower, IsMet, counters_at, Gives, Places, LiesIn, put_turn, puts}
+use Rattle.sq_leaf_run.proofs.Meeting.{met_next}
+use Rattle.sq_leaf_run.proofs.Putting.{block_is_loop, puts_by_turn, in_parts}
 use Rattle.sq_leaf_run.proofs.Turns.{gap_next}
 
--- the turns of a block, and where another one writes
-abbrev pub turns_in : Block → Block → Block
-turns_in t u = record { from = t.from; turns = t.turns; low = u.low; high = u.high; front = u.front; step = u.step }
+-- the turns of a block, and where its one assignment writes
+abbrev pub turns_in : Block → Write → Block
+turns_in t w = record { from = t.from; turns = t.turns; writes = record { items = w ∷ [] } }
 
-narrow_clear : (t u : Block) (j k : ℕ) → IsNarrower t u → t.high ≤ t.front → IsClear t j k → IsClear (turns_in t u) j k
-narrow_clear t u j k less whole (Below p) = let low : t.low ≤ u.low = less.low in Below (omega (arith, p, low))
-narrow_clear t u j k less whole (Above p) = let high : u.high ≤ t.high = less.high in Above (omega (arith, p, high))
-narrow_clear t u j k less whole (Ahead p) = let high : u.high ≤ t.high = less.high in Above (omega (arith, p, high, whole))
+narrow_clear : (v w : Write) (j k : ℕ) → IsNarrower v w → v.high ≤ v.front → IsClearOf v j k → IsClearOf w j k
+narrow_clear v w j k less whole (Below p) = let low : v.low ≤ w.low = less.low in Below (omega (arith, p, low))
+narrow_clear v w j k less whole (Above p) = let high : w.high ≤ v.high = less.high in Above (omega (arith, p, high))
+narrow_clear v w j k less whole (Ahead p) = let high : w.high ≤ v.high = less.high in Above (omega (arith, p, high, whole))
 
-narrow_met : (t u : Block) (j : ℕ) (b c : List ℕ) → IsNarrower t u → t.high ≤ t.front → IsMet (turns_in t u) j b c → IsMet t j b c
-narrow_met t u j b c less whole met = record { size = met.size; same = λ k clear. met.same k (narrow_clear t u j k less whole clear) }
+narrow_met : (t : Block) (v w : Write) (j : ℕ) (b c : List ℕ) → t.writes.items ≡ v ∷ [] → IsNarrower v w → v.high ≤ v.front → IsMet (turns_in t w) j b c → IsMet t j b c
+narrow_met t v w j b c one less whole met = record { size = met.size; same = λ k clear. met.same k (narrow k clear) }
+  where
+    narrow : (k : ℕ) → IsClear t j k → IsClear (turns_in t w) j k
+    narrow k clear =
+        let of_one : AllClear (v ∷ []) j k = subst (λ (ws : List Write). AllClear ws j k) one clear.each in
+        record { each = (narrow_clear v w j k less whole of_one.0, tt) }
 
-turn_put : (t u : Block) (ks : List ℤ) (vs : List View) (b : List ℕ) (cell : Cell) (o : AssignOp) (code : Code) (e : Elem) (spots x : Line) (places numbers : List ℤ)
-    → IsNarrower t u → t.high ≤ t.front → Places t ks b (run_cell cell vs) e spots places → Gives (turns_in t u) ks b (run_code code vs) x numbers
-    → (j : ℕ) (c : List ℕ) → j < t.turns → IsMet (turns_in t u) j b c
+turn_put : (t : Block) (v w : Write) (ks : List ℤ) (vs : List View) (b : List ℕ) (cell : Cell) (o : AssignOp) (code : Code) (e : Elem) (spots x : Line) (places numbers : List ℤ)
+    → t.writes.items ≡ v ∷ [] → IsNarrower v w → v.high ≤ v.front → Places t ks b (run_cell cell vs) e spots places → Gives (turns_in t w) ks b (run_code code vs) x numbers
+    → (j : ℕ) (c : List ℕ) → j < t.turns → IsMet (turns_in t w) j b c
     → assigns cell o code vs (counters_at t ks j) c ≡ Goes (put_turn e (assigned o) (first_byte spots places) (line_at x numbers) j c)
-turn_put t u ks vs b cell o code e spots x places numbers less whole there gives j c below met =
-    ap (λ (r : Result Spot Trap). once r c (λ s. once (run_code code vs (counters_at t ks j) c) c (λ v. Goes (store s (assigned o (load s c) v) c)))) (there.each j c below (narrow_met t u j b c less whole met))
+turn_put t v w ks vs b cell o code e spots x places numbers one less whole there gives j c below met =
+    ap (λ (r : Result Spot Trap). once r c (λ s. once (run_code code vs (counters_at t ks j) c) c (λ v. Goes (store s (assigned o (load s c) v) c)))) (there.each j c below (narrow_met t v w j b c one less whole met))
     ∙ ap (λ (r : Result ℤ Trap). once r c (λ v. Goes (store (record { elem = e; at = first_byte spots places j }) (assigned o (load (record { elem = e; at = first_byte spots places j }) c) v) c))) (gives.each j c below met)
 
-pub block_goes : (t u : Block) (ks : List ℤ) (vs : List View) (b : List ℕ) (cell : Cell) (o : AssignOp) (code : Code) (e : Elem) (spots x : Line) (places numbers : List ℤ)
-    → IsNarrower t u → t.high ≤ t.front → Places t ks b (run_cell cell vs) e spots places → ((j : ℕ) → j < t.turns → LiesIn t.low t.high e spots places j) → t.high ≤ length b
-    → ((j : ℕ) → j < t.turns → MayPut u e j (first_byte spots places j)) → Gives (turns_in t u) ks b (run_code code vs) x numbers
+pub block_goes : (t : Block) (v w : Write) (ks : List ℤ) (vs : List View) (b : List ℕ) (cell : Cell) (o : AssignOp) (code : Code) (e : Elem) (spots x : Line) (places numbers : List ℤ)
+    → t.writes.items ≡ v ∷ [] → IsNarrower v w → v.high ≤ v.front → Places t ks b (run_cell cell vs) e spots places → ((j : ℕ) → j < t.turns → LiesIn v.low v.high e spots places j) → v.high ≤ length b
+    → ((j : ℕ) → j < t.turns → MayPut w e j (first_byte spots places j)) → Gives (turns_in t w) ks b (run_code code vs) x numbers
     → Goes (puts e (assigned o) (first_byte spots places) (line_at x numbers) t.turns 0 b) ≡ repeats t.turns t.from (λ k. assigns cell o code vs (ks ++ k ∷ [])) b
-block_goes t u ks vs b cell o code e spots x places numbers less whole there lies within may gives =
-    sym (block_is_loop (turns_in t u) e (assigned o) (first_byte spots places) (line_at x numbers) (λ k. assigns cell o code vs (ks ++ k ∷ [])) b (record {
-      turn = λ j c below met. turn_put t u ks vs b cell o code e spots x places numbers less whole there gives j c below met;
-      may = λ j below. let h : MayPut u e j (first_byte spots places j) = may j below in record { low = h.low; high = h.high; ahead = h.ahead };
-      room = λ j below.
-          let h : LiesIn t.low t.high e spots places j = lies j below in
-          let end : first_byte spots places j + width e ≤ t.high = h.ends in
-          omega (arith, end, within);
-    }))
+block_goes t v w ks vs b cell o code e spots x places numbers one less whole there lies within may gives =
+    sym (block_is_loop (turns_in t w) (put_turn e (assigned o) (first_byte spots places) (line_at x numbers)) (λ k. assigns cell o code vs (ks ++ k ∷ [])) b (record {
+      turn = λ j c below met. turn_put t v w ks vs b cell o code e spots x places numbers one less whole there gives j c below met;
+      next = λ j c below met. met_next (turns_in t w) w e (assigned o) (first_byte spots places) (line_at x numbers) j b c refl met (may j below) (room j below);
+    }) ∙ ap Goes (puts_by_turn e (assigned o) (first_byte spots places) (line_at x numbers) t.turns 0 b))
+  where
+    room : (j : ℕ) → j < t.turns → first_byte spots places j + width e ≤ length b
+    room j below =
+        let h : LiesIn v.low v.high e spots places j = lies j below in
+        let end : first_byte spots places j + width e ≤ v.high = h.ends in
+        omega (arith, end, within)
 
 alone : (r : Ran) → onward r (λ c. Goes c) ≡ r
 alone (Goes c) = refl
@@ -80,6 +89,17 @@ gap_split i end (suc n) h =
     let less : i <ℤ end = omega (arith, ints, h) in
     let next : suc (n + int_gap (i +ℤ pos 1 +ℤ pos n) end) ≡ suc n + int_gap (i +ℤ pos 1 +ℤ pos n) end = omega arith in
     gap_next i end less ∙ (ap suc (gap_split (i +ℤ pos 1) end n more) ∙ (next ∙ ap (λ (k : ℤ). suc n + int_gap k end) (one_up i n)))
+
+gap_none : (i : ℤ) → int_gap i i ≡ 0
+gap_none (pos a) = omega (arith, ints)
+gap_none (negsuc a) = omega (arith, ints)
+
+pub gap_counted : (i : ℤ) (n : ℕ) → int_gap i (i +ℤ pos n) ≡ n
+gap_counted i n =
+    let all : (i +ℤ pos n) ≤ℤ (i +ℤ pos n) = omega (arith, ints) in
+    let none : int_gap (i +ℤ pos n) (i +ℤ pos n) ≡ 0 = gap_none (i +ℤ pos n) in
+    let split : int_gap i (i +ℤ pos n) ≡ n + int_gap (i +ℤ pos n) (i +ℤ pos n) = gap_split i (i +ℤ pos n) n all in
+    omega (arith, split, none)
 
 parts : (f : ℤ → List ℕ → Ran) (i end : ℤ) (n : ℕ) (b : List ℕ) → (i +ℤ pos n) ≤ℤ end
     → repeats (int_gap i end) i f b ≡ onward (repeats n i f b) (repeats (int_gap (i +ℤ pos n) end) (i +ℤ pos n) f)

@@ -5,3 +5,10 @@ pub mod Spotting
 pub mod Linking
 pub mod Loading
 pub mod Blocking
+pub mod Planning
+pub mod Performing
+pub mod Choosing
+pub mod Carrying
+pub mod Reaching
+pub mod Forwarding
+pub mod Paths

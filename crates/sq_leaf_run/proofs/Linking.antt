@@ -33,7 +33,7 @@ not_zero true t z h = cc
 not_zero false t z h = refl
 
 -- an operator whose right side is computed, and isn't a zero divisor
-linked_is : (o : BinOp) (place : Place) (x y : ℤ) → (divides o ≡ true → is_zero y ≡ false) → linked o place x (Ok y) ≡ Ok (binary o x y)
+pub linked_is : (o : BinOp) (place : Place) (x y : ℤ) → (divides o ≡ true → is_zero y ≡ false) → linked o place x (Ok y) ≡ Ok (binary o x y)
 linked_is op.AndAlso place x y h = both (is_zero x) (is_zero y)
 linked_is op.OrElse place x y h = either (is_zero x) (is_zero y)
 linked_is op.Div place x y h = not_zero (is_zero y) _ _ (h refl)
@@ -53,7 +53,7 @@ linked_is op.Add place x y h = refl
 linked_is op.Sub place x y h = refl
 linked_is op.Mul place x y h = refl
 
-step_is : (s : Step) (vs : List View) (ks : List ℤ) (b : List ℕ) (x : ℤ) → run_step s vs ks b x ≡ linked (out-Step s).op (out-Step s).place x (run_code (out-Step s).right vs ks b)
+pub step_is : (s : Step) (vs : List View) (ks : List ℤ) (b : List ℕ) (x : ℤ) → run_step s vs ks b x ≡ linked (out-Step s).op (out-Step s).place x (run_code (out-Step s).right vs ks b)
 step_is s vs ks b x = ap (λ (f : StepRun). f vs ks b x) (fold_out-Step CodeRun CellRun StepRun code_step cell_step step_step s)
 
 step_follows : (t : Block) (ks : List ℤ) (b : List ℕ) (s : Step) (vs : List View) (x y l : Line) (xs ys zs : List ℤ) → Gives t ks b (run_code (out-Step s).right vs) y ys

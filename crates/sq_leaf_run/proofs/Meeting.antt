@@ -1,18 +1,19 @@
 -- What a turn of a block meets, and what it reads as it was before the block.
-use Rattle.std.proofs.Common.{◌≡◌, ◌⊎◌, inl, inr, ℕ, zero, suc, ◌+◌, ◌*◌, ◌<◌, ◌≤◌, List, ◌∷◌, length, take, drop, get_or, ℤ, refl, sym, ◌∙◌, ap, arith, drop-cons, unsigned_abs}
+use Rattle.std.proofs.Common.{◌≡◌, ◌⊎◌, inl, inr, ℕ, zero, suc, ◌+◌, ◌*◌, ◌<◌, ◌≤◌, List, [], ◌∷◌, length, take, drop, get_or, ℤ, subst, refl, sym, ◌∙◌, ap, arith, drop-cons, unsigned_abs}
 use Rattle.sq_num.specs.declared.Elem.{Elem}
 use Rattle.sq_num.specs.Elements.{width, value, cell}
 use Rattle.sq_num.proofs.Cutting.{length-cell}
 use Rattle.sq_leaf.specs.Spots.{load, store}
 use Rattle.sq_leaf.proofs.Bytes.{put_at-length, byte-apart}
+use Rattle.sq_leaf_run.specs.declared.block.Write.{Write}
 use Rattle.sq_leaf_run.specs.declared.block.Block.{Block}
 use Rattle.sq_leaf_run.specs.declared.block.Rise.{Rise}
 use Rattle.sq_columns.specs.declared.line.Line.{Line}
 use Rattle.sq_columns.specs.Lines.{first_byte}
-use Rattle.sq_leaf_run.specs.Blocks.{IsClear, Below, Above, Ahead, AreClear, MayPut, IsRise, IsMet, put_turn}
+use Rattle.sq_leaf_run.specs.Blocks.{IsClearOf, Below, Above, Ahead, AllClear, IsClear, AreClearOf, AreClearOfEach, AreClear, MayPut, IsRise, IsMet, put_turn}
 
 -- two lists that agree on a part have the same part
-part_same : (n at : ℕ) (b c : List ℕ) → at + n ≤ length b → at + n ≤ length c → ((k : ℕ) → at ≤ k → k < at + n → get_or c k 0 ≡ get_or b k 0) → take n (drop at c) ≡ take n (drop at b)
+pub part_same : (n at : ℕ) (b c : List ℕ) → at + n ≤ length b → at + n ≤ length c → ((k : ℕ) → at ≤ k → k < at + n → get_or c k 0 ≡ get_or b k 0) → take n (drop at c) ≡ take n (drop at b)
 part_same zero at b c hb hc h = refl
 part_same (suc n) at b c hb hc h =
     ap (take (suc n)) (drop-cons c at 0 (omega arith))
@@ -31,40 +32,58 @@ met_first t b = record { size = refl; same = λ k clear. refl }
 one_more : (n j : ℕ) → n * suc j ≡ n * j + n
 one_more n j = omega arith
 
-side : (t : Block) (e : Elem) (j at k : ℕ) → MayPut t e j at → IsClear t (suc j) k → (k < at) ⊎ (at + width e ≤ k)
-side t e j at k h (Below p) = let low : t.low ≤ at = h.low in inl (omega (arith, low, p))
-side t e j at k h (Above p) = let high : at + width e ≤ t.high = h.high in inr (omega (arith, high, p))
-side t e j at k h (Ahead p) = let ahead : at + width e ≤ t.front + t.step * suc j = h.ahead in inr (omega (arith, ahead, p))
+pub side : (w : Write) (e : Elem) (j at k : ℕ) → MayPut w e j at → IsClearOf w (suc j) k → (k < at) ⊎ (at + width e ≤ k)
+side w e j at k h (Below p) = let low : w.low ≤ at = h.low in inl (omega (arith, low, p))
+side w e j at k h (Above p) = let high : at + width e ≤ w.high = h.high in inr (omega (arith, high, p))
+side w e j at k h (Ahead p) = let ahead : at + width e ≤ w.front + w.step * suc j = h.ahead in inr (omega (arith, ahead, p))
 
-sooner : (t : Block) (j k : ℕ) → IsClear t (suc j) k → IsClear t j k
-sooner t j k (Below p) = Below p
-sooner t j k (Above p) = Above p
-sooner t j k (Ahead p) = Ahead (omega (arith, p, one_more t.step j))
+sooner : (w : Write) (j k : ℕ) → IsClearOf w (suc j) k → IsClearOf w j k
+sooner w j k (Below p) = Below p
+sooner w j k (Above p) = Above p
+sooner w j k (Ahead p) = Ahead (omega (arith, p, one_more w.step j))
+
+pub all_sooner : (ws : List Write) (j k : ℕ) → AllClear ws (suc j) k → AllClear ws j k
+all_sooner [] j k h = tt
+all_sooner (w ∷ ws) j k h = (sooner w j k h.0, all_sooner ws j k h.1)
 
 wide : (e : Elem) (y : ℤ) (at k : ℕ) → (k < at) ⊎ (at + width e ≤ k) → (k < at) ⊎ (at + length (cell e y) ≤ k)
 wide e y at k (inl p) = inl p
 wide e y at k (inr p) = inr (omega (arith, length-cell e y))
 
-stored : (t : Block) (e : Elem) (y : ℤ) (j at : ℕ) (b c : List ℕ) → IsMet t j b c → MayPut t e j at → at + width e ≤ length b
-    → IsMet t (suc j) b (store (record { elem = e; at = at }) y c)
-stored t e y j at b c h may fits =
+-- an element is stored, and what is clear afterwards isn't touched by it and was clear before
+pub stored : (t u : Block) (e : Elem) (y : ℤ) (i j at : ℕ) (b c : List ℕ) → IsMet t i b c → at + width e ≤ length b
+    → ((k : ℕ) → IsClear u j k → IsClear t i k × ((k < at) ⊎ (at + width e ≤ k))) → IsMet u j b (store (record { elem = e; at = at }) y c)
+stored t u e y i j at b c h fits apart =
     let room : at + length (cell e y) ≤ length c = omega (arith, length-cell e y, h.size) in
     record {
       size = put_at-length at (cell e y) c room ∙ h.size;
-      same = λ k clear. byte-apart k at (cell e y) c room (wide e y at k (side t e j at k may clear)) ∙ h.same k (sooner t j k clear);
+      same = λ k clear. byte-apart k at (cell e y) c room (wide e y at k (apart k clear).1) ∙ h.same k (apart k clear).0;
     }
 
-pub met_next : (t : Block) (e : Elem) (g : ℤ → ℤ → ℤ) (s : ℕ → ℕ) (x : ℕ → ℤ) (j : ℕ) (b c : List ℕ) → IsMet t j b c → MayPut t e j (s j) → s j + width e ≤ length b
-    → IsMet t (suc j) b (put_turn e g s x j c)
-met_next t e g s x j b c h may fits = stored t e (g (load (record { elem = e; at = s j }) c) (x j)) j (s j) b c h may fits
+-- the next turn of a block with one assignment
+pub met_next : (t : Block) (w : Write) (e : Elem) (g : ℤ → ℤ → ℤ) (s : ℕ → ℕ) (x : ℕ → ℤ) (j : ℕ) (b c : List ℕ) → t.writes.items ≡ w ∷ [] → IsMet t j b c → MayPut w e j (s j)
+    → s j + width e ≤ length b → IsMet t (suc j) b (put_turn e g s x j c)
+met_next t w e g s x j b c one h may fits = stored t t e (g (load (record { elem = e; at = s j }) c) (x j)) j (suc j) (s j) b c h fits apart
+  where
+    apart : (k : ℕ) → IsClear t (suc j) k → IsClear t j k × ((k < s j) ⊎ (s j + width e ≤ k))
+    apart k clear =
+        let of_one : AllClear (w ∷ []) (suc j) k = subst (λ (ws : List Write). AllClear ws (suc j) k) one clear.each in
+        (record { each = all_sooner t.writes.items j k clear.each }, side w e j (s j) k may of_one.0)
 
 -- bytes that rise are first bytes of the line that rises so
-pub clear_rise : (t : Block) (e : Elem) (l : Line) (column : List ℤ) (r : Rise) → IsRise r l → t.turns ≤ 256 → AreClear t e (λ j. r.at + r.step * j) → AreClear t e (first_byte l column)
-clear_rise t e l column r rises few h = record {
+pub clear_rise : (w : Write) (n : ℕ) (e : Elem) (l : Line) (column : List ℤ) (r : Rise) → IsRise r l → n ≤ 256 → AreClearOf w n e (λ j. r.at + r.step * j) → AreClearOf w n e (first_byte l column)
+clear_rise w n e l column r rises few h = record {
   each = λ j k below from less.
       let same : first_byte l column j ≡ r.at + r.step * j = ap unsigned_abs (rises.is column j (omega (arith, below, few))) in
       h.each j k below (omega (arith, same, from)) (omega (arith, same, less));
 }
+
+all_clear : (ws : List Write) (n : ℕ) (e : Elem) (s : ℕ → ℕ) (j k : ℕ) → AreClearOfEach ws n e s → j < n → s j ≤ k → k < s j + width e → AllClear ws j k
+all_clear [] n e s j k h below from less = tt
+all_clear (w ∷ ws) n e s j k h below from less = (h.0.each j k below from less, all_clear ws n e s j k h.1 below from less)
+
+pub are_clear : (t : Block) (e : Elem) (s : ℕ → ℕ) → AreClearOfEach t.writes.items t.turns e s → AreClear t e s
+are_clear t e s h = record { each = λ j k below from less. record { each = all_clear t.writes.items t.turns e s j k h below from less } }
 
 -- what the block began with is met by each turn where nothing was written
 pub met_same : (t : Block) (j : ℕ) (b : List ℕ) → IsMet t j b b

@@ -1,4 +1,4 @@
--- Blocks of turns of a loop whose body assigns one element.
+-- Blocks of turns of a loop.
 use Rattle.std.specs.Prelude.{◌≡◌, ℕ, zero, suc, ◌+◌, ◌*◌, ◌^◌, ◌<◌, ◌≤◌, Bool, true, false, List, [], ◌∷◌, ◌++◌, length, get_or, map, Option, Some, None, Result, Ok, Err, ℤ, pos, ◌+ℤ◌, ◌≤ℤ◌}
 use Rattle.std.specs.Int.{int_min, int_max}
 use Rattle.sq_num.specs.declared.Elem.{Elem}
@@ -13,31 +13,46 @@ use Rattle.sq_leaf.specs.Outcome.{and_then}
 use Rattle.sq_leaf.specs.Places.{along}
 use Rattle.sq_leaf.specs.Spots.{load, store}
 use Rattle.sq_leaf.specs.Running.{Ran, Goes, repeats, ActionRun, run_code}
+use Rattle.sq_leaf_run.specs.declared.block.Write.{Write}
 use Rattle.sq_leaf_run.specs.declared.block.Block.{Block}
 use Rattle.sq_leaf_run.specs.declared.block.Rise.{Rise}
 
+-- by what is known of an assignment no turn before turn j writes byte k there
+pub data IsClearOf (w : Write) (j k : ℕ) : Type 0 where
+  Below : k < w.low → IsClearOf w j k
+  Above : w.high ≤ k → IsClearOf w j k
+  Ahead : w.front + w.step * j ≤ k → IsClearOf w j k
+
+abbrev pub AllClear : List Write → ℕ → ℕ → Type 0
+AllClear [] j k = Unit
+AllClear (w ∷ ws) j k = IsClearOf w j k × AllClear ws j k
+
 -- by what is known of the block no turn before turn j writes byte k
-pub data IsClear (t : Block) (j k : ℕ) : Type 0 where
-  Below : k < t.low → IsClear t j k
-  Above : t.high ≤ k → IsClear t j k
-  Ahead : t.front + t.step * j ≤ k → IsClear t j k
+pub record IsClear (t : Block) (j k : ℕ) : Type 0 where
+  pub each : AllClear t.writes.items j k
+
+-- the element of each of n turns from this byte on is written by no turn before it there
+pub record AreClearOf (w : Write) (n : ℕ) (e : Elem) (s : ℕ → ℕ) : Type 0 where
+  pub each : (j k : ℕ) → j < n → s j ≤ k → k < s j + width e → IsClearOf w j k
+
+abbrev pub AreClearOfEach : List Write → ℕ → Elem → (ℕ → ℕ) → Type 0
+AreClearOfEach [] n e s = Unit
+AreClearOfEach (w ∷ ws) n e s = AreClearOf w n e s × AreClearOfEach ws n e s
 
 -- the element of each turn from this byte on is written by no turn before it
 pub record AreClear (t : Block) (e : Elem) (s : ℕ → ℕ) : Type 0 where
   pub each : (j k : ℕ) → j < t.turns → s j ≤ k → k < s j + width e → IsClear t j k
 
 -- where turn j may put an element
-pub record MayPut (t : Block) (e : Elem) (j at : ℕ) : Type 0 where
-  pub low : t.low ≤ at
-  pub high : at + width e ≤ t.high
-  pub ahead : at + width e ≤ t.front + t.step * suc j
+pub record MayPut (w : Write) (e : Elem) (j at : ℕ) : Type 0 where
+  pub low : w.low ≤ at
+  pub high : at + width e ≤ w.high
+  pub ahead : at + width e ≤ w.front + w.step * suc j
 
--- the same turns, of which less is written
-pub record IsNarrower (t u : Block) : Type 0 where
-  pub from : u.from ≡ t.from
-  pub turns : u.turns ≡ t.turns
-  pub low : t.low ≤ u.low
-  pub high : u.high ≤ t.high
+-- less is written
+pub record IsNarrower (v w : Write) : Type 0 where
+  pub low : v.low ≤ w.low
+  pub high : w.high ≤ v.high
 
 -- c may be what turn j meets, where the block began with b
 pub record IsMet (t : Block) (j : ℕ) (b c : List ℕ) : Type 0 where
@@ -93,6 +108,11 @@ put_turn e g s x j c = store (record { elem = e; at = s j }) (g (load (record { 
 abbrev pub puts : Elem → (ℤ → ℤ → ℤ) → (ℕ → ℕ) → (ℕ → ℤ) → ℕ → ℕ → List ℕ → List ℕ
 puts e g s x zero j c = c
 puts e g s x (suc n) j c = puts e g s x n (suc j) (put_turn e g s x j c)
+
+-- the same of anything that turns do
+abbrev pub turn_by_turn : (ℕ → List ℕ → List ℕ) → ℕ → ℕ → List ℕ → List ℕ
+turn_by_turn put zero j c = c
+turn_by_turn put (suc n) j c = turn_by_turn put n (suc j) (put j c)
 
 -- ---- first bytes that go up
 

@@ -1,27 +1,38 @@
-//! Blocks of turns of a loop whose body assigns one element.
+//! Blocks of turns of a loop, and where they write.
 
-ghost use Rattle.std.specs.Prelude.{◌≡◌, ◌+◌, ◌*◌, ◌^◌, ◌<◌, ◌≤◌, true, ℕ, length, IfSome};
+ghost use Rattle.std.specs.Prelude.{◌≡◌, ◌+◌, ◌-◌, ◌*◌, ◌^◌, ◌<◌, ◌≤◌, [], ◌∷◌, true, ℕ, length, IfSome};
 ghost use Rattle.sq_num.specs.Elements.{width};
 ghost use Rattle.sq_leaf.specs.Places as places;
 ghost use Rattle.sq_leaf.specs.Spots.{IsInside};
 ghost use Rattle.sq_columns.specs.Lines.{first_byte};
-ghost use Rattle.sq_leaf_run.specs.Blocks.{IsRise, IsRiseFrom, LiesIn, MayPut, AreClear, IsNarrower};
+ghost use Rattle.sq_leaf_run.specs.Blocks.{IsRise, IsRiseFrom, LiesIn, MayPut, AreClear, AreClearOf, AreClearOfEach};
+ghost use Rattle.sq_leaf_run.specs.Blocks.{IsNarrower};
 
+use arrayvec::ArrayVec;
 use sq_columns::Line;
 use sq_num::{Elem, width};
 use sq_rect::View;
 
-/// Turns of a loop, and where they write: all of it lies between the bytes `low` and `high`, and what the turns before
-/// turn j write lies before `front + step * j`.
-#[derive(Clone, Copy)]
-pub(crate) struct Block {
-    /// The counter of turn 0.
-    pub from: i64,
-    pub turns: usize,
+/// How many assignments a block may have.
+pub(crate) const WRITES: usize = 8;
+
+/// Where one assignment may write at the turns of a block: all of it lies between the bytes `low` and `high`, and what
+/// the turns before turn j write lies before `front + step * j`.
+#[derive(Clone, Copy, Default)]
+pub(crate) struct Write {
     pub low: usize,
     pub high: usize,
     pub front: usize,
     pub step: usize,
+}
+
+/// Turns of a loop, and where the assignments of its body may write.
+#[derive(Drop)]
+pub(crate) struct Block {
+    /// The counter of turn 0.
+    pub from: i64,
+    pub turns: usize,
+    pub writes: ArrayVec<Write, WRITES>,
 }
 
 /// First bytes that go up by the same step from turn to turn.
@@ -31,12 +42,10 @@ pub(crate) struct Rise {
     pub step: usize,
 }
 
-impl Block {
-    /// Turns that may write anywhere in a view.
-    pub fn over(view: &View, from: i64, turns: usize, size: usize) -> Block
+impl Write {
+    /// Anywhere in a view.
+    pub fn over(view: &View, size: usize) -> Write
         requires { IsInside size view.now }
-        ensures from { result.from ≡ from }
-        ensures turns { result.turns ≡ turns }
         ensures low { result.low ≡ view.now.at }
         ensures high { result.high ≡ view.now.at + width view.now.elem *
             (places.reach view.now.extents view.now.strides + 1) }
@@ -44,13 +53,26 @@ impl Block {
         ensures step { result.step ≡ 0 }
     {
         let high = end_of(view, size);
-        Block {
-            from,
-            turns,
+        Write {
             low: view.at as usize,
             high,
             front: high,
             step: 0,
+        }
+    }
+}
+
+impl Block {
+    /// Turns of a body that assigns one element.
+    pub fn of(from: i64, turns: usize, write: Write) -> Block
+        ensures { result ≡ record { from = from; turns = turns; writes = record { items = write ∷ [] } } }
+    {
+        let mut writes = ArrayVec::new();
+        writes.push(write);
+        Block {
+            from,
+            turns,
+            writes,
         }
     }
 }
@@ -106,37 +128,49 @@ fn rise_from(a: i64, d: i64) -> Option<Rise>
     }
 }
 
-/// The block whose turns write these elements, which lie where the turns of `block` may write.
-pub(crate) fn narrowed(elem: Elem, spots: Line, column: &[i64], block: Block) -> Block
-    requires few { block.turns ≤ 256 }
-    requires some { 0 < block.turns }
-    requires whole { block.high ≤ block.front }
-    requires lies { (j : ℕ) → j < block.turns → LiesIn block.low block.high elem spots column.now j }
-    ensures narrower { IsNarrower block result }
-    ensures may { (j : ℕ) → j < block.turns → MayPut result elem j (first_byte spots column.now j) }
+/// Where turns write these elements, which lie where they may write.
+pub(crate) fn narrowed(elem: Elem, spots: Line, column: &[i64], turns: usize, write: Write) -> Write
+    requires few { turns ≤ 256 }
+    requires some { 0 < turns }
+    requires whole { write.high ≤ write.front }
+    requires lies { (j : ℕ) → j < turns → LiesIn write.low write.high elem spots column.now j }
+    ensures narrower { IsNarrower write result }
+    ensures may { (j : ℕ) → j < turns → MayPut result elem j (first_byte spots column.now j) }
 {
     let _column = column;
     match rise_of(spots) {
-        Some(rise) => risen(elem, rise, block),
-        None => block,
+        Some(rise) => risen(elem, rise, turns, write),
+        None => write,
     }
 }
 
-fn risen(elem: Elem, rise: Rise, block: Block) -> Block
-    requires few { block.turns ≤ 256 }
-    requires some { 0 < block.turns }
+fn risen(elem: Elem, rise: Rise, turns: usize, write: Write) -> Write
+    requires few { turns ≤ 256 }
+    requires some { 0 < turns }
     requires near { rise.at < 2 ^ 62 }
     requires slow { rise.step ≤ 2 ^ 32 }
-    requires lies { (j : ℕ) → j < block.turns → (block.low ≤ rise.at + rise.step * j)
-        × (rise.at + rise.step * j + width elem ≤ block.high) }
-    ensures narrower { IsNarrower block result }
-    ensures may { (j : ℕ) → j < block.turns → MayPut result elem j (rise.at + rise.step * j) }
+    requires lies { (j : ℕ) → j < turns → (write.low ≤ rise.at + rise.step * j)
+        × (rise.at + rise.step * j + width elem ≤ write.high) }
+    ensures narrower { IsNarrower write result }
+    ensures may { (j : ℕ) → j < turns → MayPut result elem j (rise.at + rise.step * j) }
 {
-    let high = rise.at + rise.step * (block.turns - 1) + width(elem);
+    let _write = write;
+    rising(elem, rise, turns)
+}
+
+/// Where so many turns write that put elements which go up so.
+pub(crate) fn rising(elem: Elem, rise: Rise, turns: usize) -> Write
+    requires few { turns ≤ 256 }
+    requires some { 0 < turns }
+    requires near { rise.at < 2 ^ 62 }
+    requires slow { rise.step ≤ 2 ^ 32 }
+    ensures low { result.low ≡ rise.at }
+    ensures high { result.high ≡ rise.at + rise.step * (turns - 1) + width elem }
+    ensures may { (j : ℕ) → j < turns → MayPut result elem j (rise.at + rise.step * j) }
+{
+    let high = rise.at + rise.step * (turns - 1) + width(elem);
     let moves = width(elem) <= rise.step;
-    Block {
-        from: block.from,
-        turns: block.turns,
+    Write {
         low: rise.at,
         high,
         front: if moves { rise.at } else { high },
@@ -151,30 +185,78 @@ pub(crate) fn is_clear(
     column: &[i64],
     low: usize,
     high: usize,
-    block: Block,
+    block: &Block,
 ) -> bool
-    requires few { block.turns ≤ 256 }
-    requires some { 0 < block.turns }
-    requires lies { (j : ℕ) → j < block.turns → LiesIn low high elem spots column.now j }
-    ensures { result ≡ true → AreClear block elem (first_byte spots column.now) }
+    requires few { block.now.turns ≤ 256 }
+    requires some { 0 < block.now.turns }
+    requires lies { (j : ℕ) → j < block.now.turns → LiesIn low high elem spots column.now j }
+    ensures { result ≡ true → AreClear block.now elem (first_byte spots column.now) }
+{
+    is_clear_of_each(
+        elem,
+        spots,
+        column,
+        low,
+        high,
+        block.turns,
+        block.writes.as_slice(),
+    )
+}
+
+fn is_clear_of_each(
+    elem: Elem,
+    spots: Line,
+    column: &[i64],
+    low: usize,
+    high: usize,
+    turns: usize,
+    writes: &[Write],
+) -> bool
+    requires few { turns ≤ 256 }
+    requires some { 0 < turns }
+    requires lies { (j : ℕ) → j < turns → LiesIn low high elem spots column.now j }
+    ensures { result ≡ true → AreClearOfEach writes.now turns elem (first_byte spots column.now) }
+{
+    match writes {
+        [] => true,
+        [write, rest @ ..] => {
+            is_clear_of(elem, spots, column, low, high, turns, write)
+                && is_clear_of_each(elem, spots, column, low, high, turns, rest)
+        }
+    }
+}
+
+fn is_clear_of(
+    elem: Elem,
+    spots: Line,
+    column: &[i64],
+    low: usize,
+    high: usize,
+    turns: usize,
+    write: &Write,
+) -> bool
+    requires few { turns ≤ 256 }
+    requires some { 0 < turns }
+    requires lies { (j : ℕ) → j < turns → LiesIn low high elem spots column.now j }
+    ensures { result ≡ true → AreClearOf write.now turns elem (first_byte spots column.now) }
 {
     let _column = column;
-    if high <= block.low || block.high <= low {
+    if high <= write.low || write.high <= low {
         return true;
     }
     match rise_of(spots) {
-        Some(rise) => is_clear_rise(elem, rise, block),
+        Some(rise) => is_clear_rise(elem, rise, turns, write),
         None => false,
     }
 }
 
-fn is_clear_rise(elem: Elem, rise: Rise, block: Block) -> bool
-    requires few { block.turns ≤ 256 }
-    requires some { 0 < block.turns }
+fn is_clear_rise(elem: Elem, rise: Rise, turns: usize, write: &Write) -> bool
+    requires few { turns ≤ 256 }
+    requires some { 0 < turns }
     requires near { rise.at < 2 ^ 62 }
     requires slow { rise.step ≤ 2 ^ 32 }
-    ensures { result ≡ true → AreClear block elem (λ j. rise.at + rise.step * j) }
+    ensures { result ≡ true → AreClearOf write.now turns elem (λ j. rise.at + rise.step * j) }
 {
-    let end = rise.at + rise.step * (block.turns - 1) + width(elem);
-    end <= block.low || block.high <= rise.at || (rise.step == block.step && block.front <= rise.at)
+    let end = rise.at + rise.step * (turns - 1) + width(elem);
+    end <= write.low || write.high <= rise.at || (rise.step == write.step && write.front <= rise.at)
 }

@@ -1,26 +1,28 @@
 //! Turns of a loop whose body is one assignment, run together.
 //!
 //! All elements and all numbers of the turns are computed before any is put, from the bytes before the block. A turn
-//! reads no byte that an earlier one of the block writes, so that each computes what it would compute in its turn, and as
-//! nothing traps each turn comes to its put. Where it isn't known that a turn doesn't trap, or that it doesn't read what
-//! an earlier one writes, no byte is changed.
+//! reads no byte that an earlier one of the block writes, so that each computes what it would compute in its turn, and
+//! as nothing traps each turn comes to its put. Where it isn't known that a turn doesn't trap, or that it doesn't read
+//! what an earlier one writes, no byte is changed, and the turns may still be known as deeds.
 
-ghost use Rattle.std.specs.Prelude.{◌≡◌, ◌+◌, ◌^◌, ◌<◌, ◌≤◌, ◌+ℤ◌, ◌<ℤ◌, ◌≤ℤ◌, [], ◌∷◌, ◌++◌, ℕ, pos, length};
+ghost use Rattle.std.specs.Prelude.{◌≡◌, ◌+◌, ◌^◌, ◌<◌, ◌≤◌, ◌+ℤ◌, ◌<ℤ◌, ◌≤ℤ◌, [], ◌∷◌, ◌++◌, ℕ, ℤ, List, pos, length};
 ghost use Rattle.std.specs.Prelude.{slice_get};
 ghost use Rattle.std.specs.Int.{int_gap};
 ghost use Rattle.std.specs.List.{All};
 ghost use Rattle.sq_leaf.specs.Spots.{IsInside};
 ghost use Rattle.sq_leaf.specs.Running as running;
+ghost use Rattle.sq_rect.specs.declared.view.View.{View};
 ghost use Rattle.sq_leaf_run.specs.Blocks.{IsCounted, Places, LiesIn, block_or_nothing};
 
 use crate::act::assign;
-use crate::block::{Block, narrowed};
+use crate::block::{Block, Write, narrowed};
 use crate::frame::Frame;
 use crate::lines::{COLUMN, column, spots};
 use crate::puts::put_all;
+use crate::works::try_deeds;
 use sq_ast::AssignOp;
 use sq_columns::Line;
-use sq_leaf::{Cell, Code, Trap};
+use sq_leaf::{Action, Cell, Code, Trap};
 use sq_num::Elem;
 use sqlite_items::at;
 
@@ -29,6 +31,7 @@ const LEAST: usize = 5;
 
 /// Runs the assignment for each number from `from` up to but not including `end`.
 pub(crate) fn blocks(
+    body: &[Action],
     cell: &Cell,
     op: AssignOp,
     code: &Code,
@@ -40,6 +43,8 @@ pub(crate) fn blocks(
 ) -> Result<(), Trap>
     requires inside { All (IsInside (length bytes.old)) frame.old.views }
     requires room { length frame.old.counters < 64 }
+    requires one { (vs : List View) (ks : List ℤ) (b : List ℕ) → running.run_actions body.now vs ks b
+        ≡ running.assigns cell.now op code.now vs ks b }
     ensures ran { running.ran bytes.new result ≡ running.repeats (int_gap from end) from
         (λ k. running.assigns cell.now op code.now frame.old.views (frame.old.counters ++ k ∷ [])) bytes.old }
     ensures kept { frame.new ≡ frame.old }
@@ -47,7 +52,7 @@ pub(crate) fn blocks(
     let mut i = from;
     while i < end {
         let count = next_count(i, end);
-        match some_turns(cell, op, code, i, count, frame, bytes, columns) {
+        match some_turns(body, cell, op, code, i, count, frame, bytes, columns) {
             Ok(()) => i += count as i64,
             Err(trap) => return Err(trap),
         }
@@ -56,7 +61,7 @@ pub(crate) fn blocks(
 }
 
 /// How many turns the next block has.
-fn next_count(i: i64, end: i64) -> usize
+pub(crate) fn next_count(i: i64, end: i64) -> usize
     requires { i <ℤ end }
     ensures some { 0 < result }
     ensures few { result ≤ 256 }
@@ -68,6 +73,7 @@ fn next_count(i: i64, end: i64) -> usize
 
 /// Runs so many turns, by a block where that may be.
 fn some_turns(
+    body: &[Action],
     cell: &Cell,
     op: AssignOp,
     code: &Code,
@@ -81,6 +87,8 @@ fn some_turns(
     requires room { length frame.old.counters < 64 }
     requires few { count ≤ 256 }
     requires last { (i +ℤ pos count) ≤ℤ pos 9223372036854775807 }
+    requires one { (vs : List View) (ks : List ℤ) (b : List ℕ) → running.run_actions body.now vs ks b
+        ≡ running.assigns cell.now op code.now vs ks b }
     ensures ran { running.ran bytes.new result ≡ running.repeats count i
         (λ k. running.assigns cell.now op code.now frame.old.views (frame.old.counters ++ k ∷ [])) bytes.old }
     ensures kept { frame.new ≡ frame.old }
@@ -89,6 +97,8 @@ fn some_turns(
         return one_by_one(cell, op, code, i, count, frame, bytes);
     }
     if run_block(cell, op, code, i, count, frame, bytes, columns) {
+        Ok(())
+    } else if try_deeds(body, i, count, frame, bytes, columns) {
         Ok(())
     } else {
         one_by_one(cell, op, code, i, count, frame, bytes)
@@ -167,11 +177,12 @@ pub(crate) fn run_block(
     }
     match at(frame.views(), cell.array) {
         Some(view) => {
-            let block = Block::over(view, from, turns, bytes.len());
-            match spots(cell, view, frame, bytes, block, columns) {
+            let write = Write::over(view, bytes.len());
+            let block = Block::of(from, turns, write);
+            match spots(cell, view, frame, bytes, &block, columns) {
                 Some(spots) => {
                     block_to(
-                        view.elem, spots, cell, op, code, block, frame, bytes, columns,
+                        view.elem, spots, cell, op, code, &block, write, frame, bytes, columns,
                     )
                 }
                 None => false,
@@ -188,20 +199,22 @@ fn block_to(
     cell: &Cell,
     op: AssignOp,
     code: &Code,
-    block: Block,
+    block: &Block,
+    write: Write,
     frame: &Frame<'_>,
     bytes: &mut [u8],
     columns: &mut [i64],
 ) -> bool
-    requires counted { IsCounted block }
+    requires counted { IsCounted block.now }
     requires near { length bytes.old < 2 ^ 62 }
     requires inside { All (IsInside (length bytes.old)) frame.now.views }
-    requires places { Places block frame.now.counters bytes.old (running.run_cell cell.now frame.now.views) elem spots
-        columns.old }
-    requires lies { (j : ℕ) → j < block.turns → LiesIn block.low block.high elem spots columns.old j }
-    requires within { block.high ≤ length bytes.old }
-    requires whole { block.high ≤ block.front }
-    ensures { running.Goes bytes.new ≡ block_or_nothing result block.turns block.from
+    requires places { Places block.now frame.now.counters bytes.old (running.run_cell cell.now frame.now.views) elem
+        spots columns.old }
+    requires lies { (j : ℕ) → j < block.now.turns → LiesIn write.low write.high elem spots columns.old j }
+    requires one { block.now.writes.items ≡ write ∷ [] }
+    requires within { write.high ≤ length bytes.old }
+    requires whole { write.high ≤ write.front }
+    ensures { running.Goes bytes.new ≡ block_or_nothing result block.now.turns block.now.from
         (running.assigns cell.now op code.now) frame.now.views frame.now.counters bytes.old }
 {
     if columns.len() < 2 * COLUMN {
@@ -209,7 +222,7 @@ fn block_to(
     }
     let (front, rest) = columns.split_at_mut(COLUMN);
     block_in(
-        elem, spots, front, cell, op, code, block, frame, bytes, rest,
+        elem, spots, front, cell, op, code, block, write, frame, bytes, rest,
     )
 }
 
@@ -220,34 +233,29 @@ fn block_in(
     cell: &Cell,
     op: AssignOp,
     code: &Code,
-    block: Block,
+    block: &Block,
+    write: Write,
     frame: &Frame<'_>,
     bytes: &mut [u8],
     columns: &mut [i64],
 ) -> bool
-    requires counted { IsCounted block }
+    requires counted { IsCounted block.now }
     requires near { length bytes.old < 2 ^ 62 }
     requires inside { All (IsInside (length bytes.old)) frame.now.views }
-    requires front { block.turns ≤ length places.now }
-    requires rest { block.turns ≤ length columns.old }
-    requires places { Places block frame.now.counters bytes.old (running.run_cell cell.now frame.now.views) elem spots
-        places.now }
-    requires lies { (j : ℕ) → j < block.turns → LiesIn block.low block.high elem spots places.now j }
-    requires within { block.high ≤ length bytes.old }
-    requires whole { block.high ≤ block.front }
-    ensures { running.Goes bytes.new ≡ block_or_nothing result block.turns block.from
+    requires front { block.now.turns ≤ length places.now }
+    requires rest { block.now.turns ≤ length columns.old }
+    requires places { Places block.now frame.now.counters bytes.old (running.run_cell cell.now frame.now.views) elem
+        spots places.now }
+    requires lies { (j : ℕ) → j < block.now.turns → LiesIn write.low write.high elem spots places.now j }
+    requires one { block.now.writes.items ≡ write ∷ [] }
+    requires within { write.high ≤ length bytes.old }
+    requires whole { write.high ≤ write.front }
+    ensures { running.Goes bytes.new ≡ block_or_nothing result block.now.turns block.now.from
         (running.assigns cell.now op code.now) frame.now.views frame.now.counters bytes.old }
 {
-    let less = narrowed(elem, spots, places, block);
-    let narrow = Block {
-        from: block.from,
-        turns: block.turns,
-        low: less.low,
-        high: less.high,
-        front: less.front,
-        step: less.step,
-    };
-    match column(code, frame, bytes, narrow, columns) {
+    let less = narrowed(elem, spots, places, block.turns, write);
+    let narrow = Block::of(block.from, block.turns, less);
+    match column(code, frame, bytes, &narrow, columns) {
         Some(x) => {
             put_all(elem, op, spots, places, x, columns, block.turns, bytes);
             true

@@ -15,6 +15,8 @@ use sq_rect::Views;
 const COLUMNS: usize = 8;
 
 /// Runs the leaf over the bytes of one memory. It keeps its loop counters by itself.
+// Built into a caller that recurses, it would put its columns into each of that caller's frames.
+#[inline(never)]
 pub fn run_leaf(code: &LeafCode, bytes: &mut [u8], views: &Views) -> Result<(), Trap>
     requires { CanRun (length bytes.old) views.now (written_of code.now.variant) }
     ensures meant { (a : Arrays) → Shows views.now bytes.old a → IsMeant views.now bytes.new result

@@ -4,11 +4,24 @@
 mod act;
 mod block;
 mod blocks;
+mod carry;
+mod chain;
+mod choose;
+mod deeds;
+mod forward;
 mod frame;
 mod leaf;
 mod lines;
+mod pairs;
+mod perform;
+mod plan;
 mod puts;
+mod reach;
 mod run;
 mod spot;
+mod tested;
+mod turn;
+mod values;
+mod works;
 
 pub use leaf::run_leaf;

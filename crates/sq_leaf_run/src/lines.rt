@@ -32,14 +32,14 @@ pub(crate) fn column(
     code: &Code,
     frame: &Frame<'_>,
     bytes: &[u8],
-    block: Block,
+    block: &Block,
     columns: &mut [i64],
 ) -> Option<Line>
-    requires counted { IsCounted block }
+    requires counted { IsCounted block.now }
     requires near { length bytes.now < 2 ^ 62 }
     requires inside { All (IsInside (length bytes.now)) frame.now.views }
-    ensures { IfSome result (λ l. Gives block frame.now.counters bytes.now (running.run_code code.now frame.now.views) l
-        columns.new) }
+    ensures { IfSome result (λ l. Gives block.now frame.now.counters bytes.now
+        (running.run_code code.now frame.now.views) l columns.new) }
 {
     match code {
         Code::Constant(n) => Some(Line::Same(*n)),
@@ -73,9 +73,9 @@ pub(crate) fn column(
 }
 
 /// An operator of one side.
-fn changed(op: UnOp, x: Line, block: Block, columns: &mut [i64]) -> Option<Line>
-    requires { IsCounted block }
-    ensures { IfSome result (λ l. (j : ℕ) → j < block.turns → line_at l columns.new j ≡ numbers.unary op
+fn changed(op: UnOp, x: Line, block: &Block, columns: &mut [i64]) -> Option<Line>
+    requires { IsCounted block.now }
+    ensures { IfSome result (λ l. (j : ℕ) → j < block.now.turns → line_at l columns.new j ≡ numbers.unary op
         (line_at x columns.old j)) }
 {
     if columns.len() < COLUMN {
@@ -92,13 +92,13 @@ fn extreme(
     code: &Code,
     frame: &Frame<'_>,
     bytes: &[u8],
-    block: Block,
+    block: &Block,
     columns: &mut [i64],
 ) -> Option<Line>
-    requires counted { IsCounted block }
+    requires counted { IsCounted block.now }
     requires near { length bytes.now < 2 ^ 62 }
     requires inside { All (IsInside (length bytes.now)) frame.now.views }
-    ensures { IfSome result (λ l. Follows block frame.now.counters bytes.now value_alone
+    ensures { IfSome result (λ l. Follows block.now frame.now.counters bytes.now value_alone
         (extreme_of most (running.run_code code.now frame.now.views)) l columns.new x columns.old) }
 {
     if columns.len() < 2 * COLUMN {
@@ -115,16 +115,16 @@ fn extreme_in(
     code: &Code,
     frame: &Frame<'_>,
     bytes: &[u8],
-    block: Block,
+    block: &Block,
     front: &mut [i64],
     rest: &mut [i64],
 ) -> Option<Line>
-    requires counted { IsCounted block }
+    requires counted { IsCounted block.now }
     requires near { length bytes.now < 2 ^ 62 }
     requires inside { All (IsInside (length bytes.now)) frame.now.views }
-    requires front { block.turns ≤ length front.old }
-    requires rest { block.turns ≤ length rest.old }
-    ensures { IfSome result (λ l. Follows block frame.now.counters bytes.now value_alone
+    requires front { block.now.turns ≤ length front.old }
+    requires rest { block.now.turns ≤ length rest.old }
+    ensures { IfSome result (λ l. Follows block.now frame.now.counters bytes.now value_alone
         (extreme_of most (running.run_code code.now frame.now.views)) l front.new x front.old) }
 {
     match column(code, frame, bytes, block, rest) {
@@ -153,13 +153,13 @@ fn steps(
     list: &[Step],
     frame: &Frame<'_>,
     bytes: &[u8],
-    block: Block,
+    block: &Block,
     columns: &mut [i64],
 ) -> Option<Line>
-    requires counted { IsCounted block }
+    requires counted { IsCounted block.now }
     requires near { length bytes.now < 2 ^ 62 }
     requires inside { All (IsInside (length bytes.now)) frame.now.views }
-    ensures { IfSome result (λ l. Follows block frame.now.counters bytes.now value_alone
+    ensures { IfSome result (λ l. Follows block.now frame.now.counters bytes.now value_alone
         (running.run_each_step list.now frame.now.views) l columns.new first columns.old) }
 {
     let mut x = first;
@@ -179,13 +179,13 @@ fn next(
     step: &Step,
     frame: &Frame<'_>,
     bytes: &[u8],
-    block: Block,
+    block: &Block,
     columns: &mut [i64],
 ) -> Option<Line>
-    requires counted { IsCounted block }
+    requires counted { IsCounted block.now }
     requires near { length bytes.now < 2 ^ 62 }
     requires inside { All (IsInside (length bytes.now)) frame.now.views }
-    ensures { IfSome result (λ l. Follows block frame.now.counters bytes.now value_alone
+    ensures { IfSome result (λ l. Follows block.now frame.now.counters bytes.now value_alone
         (running.run_step step.now frame.now.views) l columns.new x columns.old) }
 {
     if columns.len() < 2 * COLUMN {
@@ -202,16 +202,16 @@ fn next_in(
     step: &Step,
     frame: &Frame<'_>,
     bytes: &[u8],
-    block: Block,
+    block: &Block,
     front: &mut [i64],
     rest: &mut [i64],
 ) -> Option<Line>
-    requires counted { IsCounted block }
+    requires counted { IsCounted block.now }
     requires near { length bytes.now < 2 ^ 62 }
     requires inside { All (IsInside (length bytes.now)) frame.now.views }
-    requires front { block.turns ≤ length front.old }
-    requires rest { block.turns ≤ length rest.old }
-    ensures { IfSome result (λ l. Follows block frame.now.counters bytes.now value_alone
+    requires front { block.now.turns ≤ length front.old }
+    requires rest { block.now.turns ≤ length rest.old }
+    ensures { IfSome result (λ l. Follows block.now frame.now.counters bytes.now value_alone
         (running.run_step step.now frame.now.views) l front.new x front.old) }
 {
     match column(&step.right, frame, bytes, block, rest) {
@@ -226,13 +226,13 @@ fn element(
     cell: &Cell,
     frame: &Frame<'_>,
     bytes: &[u8],
-    block: Block,
+    block: &Block,
     columns: &mut [i64],
 ) -> Option<Line>
-    requires counted { IsCounted block }
+    requires counted { IsCounted block.now }
     requires near { length bytes.now < 2 ^ 62 }
     requires inside { All (IsInside (length bytes.now)) frame.now.views }
-    ensures { IfSome result (λ l. Gives block frame.now.counters bytes.now
+    ensures { IfSome result (λ l. Gives block.now frame.now.counters bytes.now
         (λ ks c. running.load_from (running.run_cell cell.now frame.now.views ks c) c) l columns.new) }
 {
     match at(frame.views(), cell.array) {
@@ -245,13 +245,19 @@ fn element(
 }
 
 /// The line of the numbers at these elements of a view. None: one may be written by an earlier turn of the block.
-fn loaded(spots: Line, view: &View, bytes: &[u8], block: Block, columns: &mut [i64]) -> Option<Line>
-    requires counted { IsCounted block }
+fn loaded(
+    spots: Line,
+    view: &View,
+    bytes: &[u8],
+    block: &Block,
+    columns: &mut [i64],
+) -> Option<Line>
+    requires counted { IsCounted block.now }
     requires one { IsInside (length bytes.now) view.now }
-    requires lies { (j : ℕ) → j < block.turns → LiesIn view.now.at (view.now.at + width view.now.elem *
+    requires lies { (j : ℕ) → j < block.now.turns → LiesIn view.now.at (view.now.at + width view.now.elem *
         (spec.reach view.now.extents view.now.strides + 1)) view.now.elem spots columns.old j }
-    ensures { (ks : List ℤ) (f : Read Spot) → Places block ks bytes.now f view.now.elem spots columns.old
-        → IfSome result (λ l. Gives block ks bytes.now (λ k c. running.load_from (f k c) c) l columns.new) }
+    ensures { (ks : List ℤ) (f : Read Spot) → Places block.now ks bytes.now f view.now.elem spots columns.old
+        → IfSome result (λ l. Gives block.now ks bytes.now (λ k c. running.load_from (f k c) c) l columns.new) }
 {
     let high = end_of(view, bytes.len());
     if columns.len() < COLUMN {
@@ -265,10 +271,10 @@ fn loaded(spots: Line, view: &View, bytes: &[u8], block: Block, columns: &mut [i
 }
 
 /// The line of a counter.
-fn counter(k: usize, frame: &Frame<'_>, block: Block) -> Line
-    requires { IsCounted block }
-    ensures { (column : List ℤ) (j : ℕ) → j < block.turns → running.counter (counters_at block frame.now.counters j) k
-        ≡ line_at result column j }
+fn counter(k: usize, frame: &Frame<'_>, block: &Block) -> Line
+    requires { IsCounted block.now }
+    ensures { (column : List ℤ) (j : ℕ) → j < block.now.turns
+        → running.counter (counters_at block.now frame.now.counters j) k ≡ line_at result column j }
 {
     if k == frame.depth() {
         Line::Ramp(block.from, 1)
@@ -284,17 +290,17 @@ pub(crate) fn spots(
     view: &View,
     frame: &Frame<'_>,
     bytes: &[u8],
-    block: Block,
+    block: &Block,
     columns: &mut [i64],
 ) -> Option<Line>
-    requires counted { IsCounted block }
+    requires counted { IsCounted block.now }
     requires near { length bytes.now < 2 ^ 62 }
     requires inside { All (IsInside (length bytes.now)) frame.now.views }
     requires one { IsInside (length bytes.now) view.now }
     requires there { Some view.now ≡ slice_get frame.now.views cell.now.array }
-    ensures places { IfSome result (λ l. Places block frame.now.counters bytes.now
+    ensures places { IfSome result (λ l. Places block.now frame.now.counters bytes.now
         (running.run_cell cell.now frame.now.views) view.now.elem l columns.new) }
-    ensures lies { IfSome result (λ l. (j : ℕ) → j < block.turns → LiesIn view.now.at
+    ensures lies { IfSome result (λ l. (j : ℕ) → j < block.now.turns → LiesIn view.now.at
         (view.now.at + width view.now.elem * (spec.reach view.now.extents view.now.strides + 1)) view.now.elem l
         columns.new j) }
 {
@@ -326,14 +332,14 @@ fn places_one(
     elem: Elem,
     frame: &Frame<'_>,
     bytes: &[u8],
-    block: Block,
+    block: &Block,
     columns: &mut [i64],
 ) -> Option<Line>
-    requires counted { IsCounted block }
+    requires counted { IsCounted block.now }
     requires near { length bytes.now < 2 ^ 62 }
     requires inside { All (IsInside (length bytes.now)) frame.now.views }
     ensures { at + width elem * spec.reach extents.now strides.now < 2 ^ 62
-        → IfSome result (λ l. AreSpots block frame.now.counters bytes.now
+        → IfSome result (λ l. AreSpots block.now frame.now.counters bytes.now
         (offset_of extents.now strides.now index.now frame.now.views) at (width elem)
         (spec.reach extents.now strides.now) l columns.new) }
 {
@@ -353,14 +359,14 @@ fn places_two(
     elem: Elem,
     frame: &Frame<'_>,
     bytes: &[u8],
-    block: Block,
+    block: &Block,
     columns: &mut [i64],
 ) -> Option<Line>
-    requires counted { IsCounted block }
+    requires counted { IsCounted block.now }
     requires near { length bytes.now < 2 ^ 62 }
     requires inside { All (IsInside (length bytes.now)) frame.now.views }
     ensures { at + width elem * spec.reach extents.now strides.now < 2 ^ 62
-        → IfSome result (λ l. AreSpots block frame.now.counters bytes.now
+        → IfSome result (λ l. AreSpots block.now frame.now.counters bytes.now
         (offset_of extents.now strides.now index.now frame.now.views) at (width elem)
         (spec.reach extents.now strides.now) l columns.new) }
 {
@@ -381,14 +387,14 @@ fn places_three(
     elem: Elem,
     frame: &Frame<'_>,
     bytes: &[u8],
-    block: Block,
+    block: &Block,
     columns: &mut [i64],
 ) -> Option<Line>
-    requires counted { IsCounted block }
+    requires counted { IsCounted block.now }
     requires near { length bytes.now < 2 ^ 62 }
     requires inside { All (IsInside (length bytes.now)) frame.now.views }
     ensures { at + width elem * spec.reach extents.now strides.now < 2 ^ 62
-        → IfSome result (λ l. AreSpots block frame.now.counters bytes.now
+        → IfSome result (λ l. AreSpots block.now frame.now.counters bytes.now
         (offset_of extents.now strides.now index.now frame.now.views) at (width elem)
         (spec.reach extents.now strides.now) l columns.new) }
 {
@@ -418,15 +424,15 @@ fn along(
     elem: Elem,
     frame: &Frame<'_>,
     bytes: &[u8],
-    block: Block,
+    block: &Block,
     columns: &mut [i64],
 ) -> Option<Line>
-    requires counted { IsCounted block }
+    requires counted { IsCounted block.now }
     requires near { length bytes.now < 2 ^ 62 }
     requires inside { All (IsInside (length bytes.now)) frame.now.views }
     ensures { (at most : ℕ) (off : Offset) → at + width elem * ((extent - 1) * stride + most) < 2 ^ 62
-        → AreSpots block frame.now.counters bytes.now off at (width elem) most spots columns.old
-        → IfSome result (λ l. AreSpots block frame.now.counters bytes.now
+        → AreSpots block.now frame.now.counters bytes.now off at (width elem) most spots columns.old
+        → IfSome result (λ l. AreSpots block.now frame.now.counters bytes.now
         (λ ks c. along_value (running.run_code code.now frame.now.views ks c) extent stride (off ks c)) at (width elem)
         ((extent - 1) * stride + most) l columns.new) }
 {
@@ -449,18 +455,18 @@ fn along_in(
     elem: Elem,
     frame: &Frame<'_>,
     bytes: &[u8],
-    block: Block,
+    block: &Block,
     front: &mut [i64],
     rest: &mut [i64],
 ) -> Option<Line>
-    requires counted { IsCounted block }
+    requires counted { IsCounted block.now }
     requires near { length bytes.now < 2 ^ 62 }
     requires inside { All (IsInside (length bytes.now)) frame.now.views }
-    requires front { block.turns ≤ length front.old }
-    requires rest { block.turns ≤ length rest.old }
+    requires front { block.now.turns ≤ length front.old }
+    requires rest { block.now.turns ≤ length rest.old }
     ensures { (at most : ℕ) (off : Offset) → at + width elem * ((extent - 1) * stride + most) < 2 ^ 62
-        → AreSpots block frame.now.counters bytes.now off at (width elem) most spots front.old
-        → IfSome result (λ l. AreSpots block frame.now.counters bytes.now
+        → AreSpots block.now frame.now.counters bytes.now off at (width elem) most spots front.old
+        → IfSome result (λ l. AreSpots block.now frame.now.counters bytes.now
         (λ ks c. along_value (running.run_code code.now frame.now.views ks c) extent stride (off ks c)) at (width elem)
         ((extent - 1) * stride + most) l front.new) }
 {

@@ -2,6 +2,7 @@
 
 ghost use Rattle.std.specs.Prelude.{◌≡◌, ◌+◌, ◌*◌, ◌^◌, ◌<◌, ◌≤◌, ℕ, length};
 ghost use Rattle.sq_num.specs.Elements.{width};
+ghost use Rattle.sq_ast.specs.declared.leaf.AssignOp.TheVariants as ops;
 ghost use Rattle.sq_leaf.specs.Source as source;
 ghost use Rattle.sq_leaf.specs.Spots as running;
 ghost use Rattle.sq_columns.specs.Lines.{line_at, first_byte};
@@ -55,64 +56,108 @@ pub(crate) fn put_all(
     ensures { bytes.new ≡ puts elem (source.assigned op) (first_byte spots places.now) (line_at x numbers.now) turns 0
         bytes.old }
 {
-    match elem {
-        Elem::Byte => put_by_op(Elem::Byte, op, spots, places, x, numbers, turns, bytes),
-        Elem::Int => put_by_op(Elem::Int, op, spots, places, x, numbers, turns, bytes),
-        Elem::Long => put_by_op(Elem::Long, op, spots, places, x, numbers, turns, bytes),
-    }
-}
-
-#[inline(always)]
-fn put_by_op(
-    elem: Elem,
-    op: AssignOp,
-    spots: Line,
-    places: &[i64],
-    x: Line,
-    numbers: &[i64],
-    turns: usize,
-    bytes: &mut [u8],
-)
-    requires few { turns ≤ 256 }
-    requires places { turns ≤ length places.now }
-    requires numbers { turns ≤ length numbers.now }
-    requires lies { (j : ℕ) → j < turns → LiesIn 0 (length bytes.old) elem spots places.now j }
-    ensures { bytes.new ≡ puts elem (source.assigned op) (first_byte spots places.now) (line_at x numbers.now) turns 0
-        bytes.old }
-{
-    match op {
-        AssignOp::Set => put_by_spots(elem, AssignOp::Set, spots, places, x, numbers, turns, bytes),
-        AssignOp::Add => put_by_spots(elem, AssignOp::Add, spots, places, x, numbers, turns, bytes),
-        AssignOp::Sub => put_by_spots(elem, AssignOp::Sub, spots, places, x, numbers, turns, bytes),
-        AssignOp::Mul => put_by_spots(elem, AssignOp::Mul, spots, places, x, numbers, turns, bytes),
-    }
-}
-
-#[inline(always)]
-fn put_by_spots(
-    elem: Elem,
-    op: AssignOp,
-    spots: Line,
-    places: &[i64],
-    x: Line,
-    numbers: &[i64],
-    turns: usize,
-    bytes: &mut [u8],
-)
-    requires few { turns ≤ 256 }
-    requires places { turns ≤ length places.now }
-    requires numbers { turns ≤ length numbers.now }
-    requires lies { (j : ℕ) → j < turns → LiesIn 0 (length bytes.old) elem spots places.now j }
-    ensures { bytes.new ≡ puts elem (source.assigned op) (first_byte spots places.now) (line_at x numbers.now) turns 0
-        bytes.old }
-{
     match rise_of(spots) {
-        Some(rise) => put_rise(elem, op, rise, x, numbers, turns, bytes),
+        Some(rise) => put_rises(elem, op, rise, x, numbers, turns, bytes),
         None => put_each(elem, op, spots, places, x, numbers, turns, bytes),
     }
 }
 
-/// Elements that go up by the same step: rows and single elements by loops of their own.
+/// Each turn's number is put at its element, and the elements go up by the same step.
+pub(crate) fn put_rises(
+    elem: Elem,
+    op: AssignOp,
+    rise: Rise,
+    x: Line,
+    numbers: &[i64],
+    turns: usize,
+    bytes: &mut [u8],
+)
+    requires few { turns ≤ 256 }
+    requires near { rise.at < 2 ^ 62 }
+    requires slow { rise.step ≤ 2 ^ 32 }
+    requires numbers { turns ≤ length numbers.now }
+    requires room { (j : ℕ) → j < turns → rise.at + rise.step * j + width elem ≤ length bytes.old }
+    ensures { bytes.new ≡ puts elem (source.assigned op) (λ j. rise.at + rise.step * j) (line_at x numbers.now) turns 0
+        bytes.old }
+{
+    match op {
+        AssignOp::Set => put_set(elem, rise, x, numbers, turns, bytes),
+        AssignOp::Add => put_add(elem, rise, x, numbers, turns, bytes),
+        AssignOp::Sub => put_sub(elem, rise, x, numbers, turns, bytes),
+        AssignOp::Mul => put_mul(elem, rise, x, numbers, turns, bytes),
+    }
+}
+
+// A function for each operator: `inline(always)` counts for nothing on what would grow large, as all of them in one.
+#[inline(never)]
+fn put_set(elem: Elem, rise: Rise, x: Line, numbers: &[i64], turns: usize, bytes: &mut [u8])
+    requires few { turns ≤ 256 }
+    requires near { rise.at < 2 ^ 62 }
+    requires slow { rise.step ≤ 2 ^ 32 }
+    requires numbers { turns ≤ length numbers.now }
+    requires room { (j : ℕ) → j < turns → rise.at + rise.step * j + width elem ≤ length bytes.old }
+    ensures { bytes.new ≡ puts elem (source.assigned ops.Set) (λ j. rise.at + rise.step * j) (line_at x numbers.now)
+        turns 0 bytes.old }
+{
+    match elem {
+        Elem::Byte => put_rise(Elem::Byte, AssignOp::Set, rise, x, numbers, turns, bytes),
+        Elem::Int => put_rise(Elem::Int, AssignOp::Set, rise, x, numbers, turns, bytes),
+        Elem::Long => put_rise(Elem::Long, AssignOp::Set, rise, x, numbers, turns, bytes),
+    }
+}
+
+#[inline(never)]
+fn put_add(elem: Elem, rise: Rise, x: Line, numbers: &[i64], turns: usize, bytes: &mut [u8])
+    requires few { turns ≤ 256 }
+    requires near { rise.at < 2 ^ 62 }
+    requires slow { rise.step ≤ 2 ^ 32 }
+    requires numbers { turns ≤ length numbers.now }
+    requires room { (j : ℕ) → j < turns → rise.at + rise.step * j + width elem ≤ length bytes.old }
+    ensures { bytes.new ≡ puts elem (source.assigned ops.Add) (λ j. rise.at + rise.step * j) (line_at x numbers.now)
+        turns 0 bytes.old }
+{
+    match elem {
+        Elem::Byte => put_rise(Elem::Byte, AssignOp::Add, rise, x, numbers, turns, bytes),
+        Elem::Int => put_rise(Elem::Int, AssignOp::Add, rise, x, numbers, turns, bytes),
+        Elem::Long => put_rise(Elem::Long, AssignOp::Add, rise, x, numbers, turns, bytes),
+    }
+}
+
+#[inline(never)]
+fn put_sub(elem: Elem, rise: Rise, x: Line, numbers: &[i64], turns: usize, bytes: &mut [u8])
+    requires few { turns ≤ 256 }
+    requires near { rise.at < 2 ^ 62 }
+    requires slow { rise.step ≤ 2 ^ 32 }
+    requires numbers { turns ≤ length numbers.now }
+    requires room { (j : ℕ) → j < turns → rise.at + rise.step * j + width elem ≤ length bytes.old }
+    ensures { bytes.new ≡ puts elem (source.assigned ops.Sub) (λ j. rise.at + rise.step * j) (line_at x numbers.now)
+        turns 0 bytes.old }
+{
+    match elem {
+        Elem::Byte => put_rise(Elem::Byte, AssignOp::Sub, rise, x, numbers, turns, bytes),
+        Elem::Int => put_rise(Elem::Int, AssignOp::Sub, rise, x, numbers, turns, bytes),
+        Elem::Long => put_rise(Elem::Long, AssignOp::Sub, rise, x, numbers, turns, bytes),
+    }
+}
+
+#[inline(never)]
+fn put_mul(elem: Elem, rise: Rise, x: Line, numbers: &[i64], turns: usize, bytes: &mut [u8])
+    requires few { turns ≤ 256 }
+    requires near { rise.at < 2 ^ 62 }
+    requires slow { rise.step ≤ 2 ^ 32 }
+    requires numbers { turns ≤ length numbers.now }
+    requires room { (j : ℕ) → j < turns → rise.at + rise.step * j + width elem ≤ length bytes.old }
+    ensures { bytes.new ≡ puts elem (source.assigned ops.Mul) (λ j. rise.at + rise.step * j) (line_at x numbers.now)
+        turns 0 bytes.old }
+{
+    match elem {
+        Elem::Byte => put_rise(Elem::Byte, AssignOp::Mul, rise, x, numbers, turns, bytes),
+        Elem::Int => put_rise(Elem::Int, AssignOp::Mul, rise, x, numbers, turns, bytes),
+        Elem::Long => put_rise(Elem::Long, AssignOp::Mul, rise, x, numbers, turns, bytes),
+    }
+}
+
+/// Rows and single elements by loops of their own.
 #[inline(always)]
 fn put_rise(
     elem: Elem,
@@ -204,7 +249,7 @@ fn place_at(elem: Elem, spots: Line, places: &[i64], j: usize, size: usize) -> u
 
 /// A number is put at an element.
 #[inline(always)]
-fn put(elem: Elem, op: AssignOp, at: usize, x: i64, bytes: &mut [u8])
+pub(crate) fn put(elem: Elem, op: AssignOp, at: usize, x: i64, bytes: &mut [u8])
     requires { at + width elem ≤ length bytes.old }
     ensures { bytes.new ≡ running.store (record { elem = elem; at = at })
         (source.assigned op (running.load (record { elem = elem; at = at }) bytes.old) x) bytes.old }

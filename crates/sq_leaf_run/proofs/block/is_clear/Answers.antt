@@ -1,5 +1,11 @@
-use Rattle.sq_leaf_run.proofs.Meeting.{clear_rise}
+use Rattle.sq_leaf_run.specs.declared.block.Write.{Write}
+use Rattle.std.proofs.Common.{List, subst}
+use Rattle.sq_columns.specs.Lines.{first_byte}
+use Rattle.sq_leaf_run.specs.Blocks.{AreClearOfEach}
+use Rattle.sq_leaf_run.proofs.Meeting.{are_clear}
 use Rattle.sq_leaf_run.proofs.block.is_clear.Goals as goal
 
-pub returns-in-Some : goal.returns-in-Some
-returns-in-Some c = λ clear. clear_rise c.args.block c.args.elem c.args.spots c.args.column.now c.in-Some.rise c.in-Some.ensures c.requires.few (c.is_clear_rise.ensures clear)
+pub returns : goal.returns
+returns c = λ clear.
+    are_clear c.args.block.now c.args.elem (first_byte c.args.spots c.args.column.now)
+    (subst (λ (ws : List Write). AreClearOfEach ws c.args.block.now.turns c.args.elem (first_byte c.args.spots c.args.column.now)) c.as_slice.ensures.value (c.is_clear_of_each.ensures clear))

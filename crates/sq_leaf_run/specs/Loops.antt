@@ -1,0 +1,69 @@
+-- Loops over the turns of a block whose turns are all of one form.
+use Rattle.std.specs.Prelude.{◌≡◌, ℕ, zero, suc, ◌+◌, ◌<◌, slice_set, Bool, true, false, List, ◌∷◌, [], Some, None, ℤ, if◌then◌else◌}
+use Rattle.sq_num.specs.declared.Elem.{Elem}
+use Rattle.sq_ast.specs.declared.leaf.AssignOp.{AssignOp}
+use Rattle.sq_leaf.specs.Numbers.{is_zero}
+use Rattle.sq_leaf.specs.Source.{assigned}
+use Rattle.sq_leaf.specs.Spots.{load, store}
+use Rattle.sq_leaf_run.specs.declared.block.Rise.{Rise}
+use Rattle.sq_leaf_run.specs.declared.deeds.Numbers.{Numbers}
+use Rattle.sq_leaf_run.specs.declared.deeds.Link.{Link}
+use Rattle.sq_leaf_run.specs.declared.deeds.Link.TheVariants.{Unary, Onto, Under, Least, Most}
+use Rattle.sq_leaf_run.specs.declared.deeds.Put.{Put}
+use Rattle.sq_leaf_run.specs.declared.deeds.Deed.{Deed}
+use Rattle.sq_leaf_run.specs.declared.deeds.Deed.TheVariants.{Choice}
+use Rattle.sq_leaf_run.specs.Deeds.{number_at, byte_at, along_links}
+
+-- n turns from turn j on, each of which does this to the bytes
+abbrev pub in_turn : (ℕ → List ℕ → List ℕ) → ℕ → ℕ → List ℕ → List ℕ
+in_turn f zero j c = c
+in_turn f (suc n) j c = in_turn f n (suc j) (f j c)
+
+-- the second number where the test is 0, else the first
+abbrev pub chosen : ℤ → ℤ → ℤ → ℤ
+chosen test x y = if is_zero test then y else x
+
+-- the same where it is told at which test the first one counts
+abbrev pub picked : Bool → ℤ → ℤ → ℤ → ℤ
+picked true test x y = chosen test y x
+picked false test x y = chosen test x y
+
+-- a turn puts what operators make of an element as it meets it
+abbrev pub carry_turn : List ℤ → Elem → AssignOp → Rise → Elem → Rise → List Link → ℕ → List ℕ → List ℕ
+carry_turn columns e op to from read links j c =
+    store (record { elem = e; at = byte_at to j })
+    (assigned op (load (record { elem = e; at = byte_at to j }) c)
+    (along_links columns links j (load (record { elem = from; at = byte_at read j }) c))) c
+
+-- the same where the element is the next one of those that are read
+abbrev pub next_turn : List ℤ → Elem → Rise → List Link → ℕ → List ℕ → List ℕ
+next_turn columns e r links j c =
+    store (record { elem = e; at = byte_at r (j + 1) }) (along_links columns links j (load (record { elem = e; at = byte_at r j }) c)) c
+
+-- a turn puts its number, or leaves the element as it was
+abbrev pub where_turn : List ℤ → Bool → Numbers → Elem → AssignOp → Rise → Numbers → ℕ → List ℕ → List ℕ
+where_turn columns at_zero test e op to x j c =
+    store (record { elem = e; at = byte_at to j })
+    (picked at_zero (number_at columns test j)
+    (assigned op (load (record { elem = e; at = byte_at to j }) c) (number_at columns x j))
+    (load (record { elem = e; at = byte_at to j }) c)) c
+
+-- what is put for turn j from this place of the columns on changes none of these numbers at a later turn
+pub record IsReadFirst (at : ℕ) (x : Numbers) : Type 0 where
+  pub stays : (columns : List ℤ) (v : ℤ) (i j : ℕ) → j < i → i < 256 → number_at (slice_set columns (at + j) v) x i ≡ number_at columns x i
+
+-- an assignment where the test is 0, or where it isn't, and nothing else
+abbrev pub only_where : Bool → Numbers → Put → Deed
+only_where true test p = Choice test None (Some p)
+only_where false test p = Choice test (Some p) None
+
+abbrev pub IsLinkFirst : ℕ → Link → Type 0
+IsLinkFirst at (Unary op) = Unit
+IsLinkFirst at (Onto op y) = IsReadFirst at y
+IsLinkFirst at (Under op y) = IsReadFirst at y
+IsLinkFirst at (Least y) = IsReadFirst at y
+IsLinkFirst at (Most y) = IsReadFirst at y
+
+abbrev pub AreLinksFirst : ℕ → List Link → Type 0
+AreLinksFirst at [] = Unit
+AreLinksFirst at (l ∷ ls) = IsLinkFirst at l × AreLinksFirst at ls

@@ -1,0 +1,89 @@
+//! Numbers that an assignment reads where another one of the same turn has put them.
+
+ghost use Rattle.std.specs.Prelude.{◌≡◌, ◌+◌, ◌^◌, ◌<◌, ◌≤◌, ℕ, pos, true, length, get_or};
+ghost use Rattle.std.specs.List.{All};
+ghost use Rattle.sq_num.specs.Elements as elements;
+ghost use Rattle.sq_ast.specs.declared.leaf.AssignOp.TheVariants as ops;
+ghost use Rattle.sq_leaf_run.specs.Deeds as spec;
+ghost use Rattle.sq_leaf_run.specs.Deeds.{HasColumn, LinkFits};
+ghost use Rattle.sq_leaf_run.specs.Loops.{AreLinksFirst, IsLinkFirst};
+
+use crate::choose::is_read_first;
+use crate::deeds::{Carried, Link, Numbers, Put};
+use crate::turn::{along_links, number_at};
+use sq_ast::AssignOp;
+use sq_num::{Elem, cut};
+
+/// Whether the second reads what the first sets in the same turn, and what it makes of it can be put in the place of the
+/// first one's numbers.
+pub(crate) fn is_forward(first: &Put, x: Numbers, carried: &Carried) -> bool
+    ensures op { result ≡ true → first.now.op ≡ ops.Set }
+    ensures elem { result ≡ true → carried.now.elem ≡ first.now.elem }
+    ensures at { result ≡ true → carried.now.read.at ≡ first.now.to.at }
+    ensures step { result ≡ true → carried.now.read.step ≡ first.now.to.step }
+    ensures links { result ≡ true → AreLinksFirst x.from carried.now.links.items }
+{
+    first.op == AssignOp::Set
+        && carried.elem == first.elem
+        && carried.read.at == first.to.at
+        && carried.read.step == first.to.step
+        && are_links_first(x.from, carried.links.as_slice())
+}
+
+fn are_links_first(at: usize, links: &[Link]) -> bool
+    ensures { result ≡ true → AreLinksFirst at links.now }
+{
+    match links {
+        [] => true,
+        [link, rest @ ..] => is_link_first(at, *link) && are_links_first(at, rest),
+    }
+}
+
+fn is_link_first(at: usize, link: Link) -> bool
+    ensures { result ≡ true → IsLinkFirst at link }
+{
+    match link {
+        Link::Unary(_) => true,
+        Link::Onto(_, y) => is_read_first(at, y),
+        Link::Under(_, y) => is_read_first(at, y),
+        Link::Least(y) => is_read_first(at, y),
+        Link::Most(y) => is_read_first(at, y),
+    }
+}
+
+/// Puts into the column of these numbers, at each turn, what the operators make of the number as the element holds it.
+pub(crate) fn forward(elem: Elem, x: Numbers, carried: &Carried, columns: &mut [i64], turns: usize)
+    requires few { turns ≤ 256 }
+    requires number { HasColumn (length columns.old) x }
+    requires links { All (LinkFits (length columns.old)) carried.now.links.items }
+    requires first { AreLinksFirst x.from carried.now.links.items }
+    ensures size { length columns.new ≡ length columns.old }
+    ensures each { (j : ℕ) → j < turns → get_or columns.new (x.from + j) (pos 0) ≡ spec.along_links columns.old
+        carried.now.links.items j (elements.cut elem (spec.number_at columns.old x j)) }
+{
+    forward_along(elem, x, carried.links.as_slice(), columns, turns);
+}
+
+fn forward_along(elem: Elem, x: Numbers, links: &[Link], columns: &mut [i64], turns: usize)
+    requires few { turns ≤ 256 }
+    requires number { HasColumn (length columns.old) x }
+    requires links { All (LinkFits (length columns.old)) links.now }
+    requires first { AreLinksFirst x.from links.now }
+    ensures size { length columns.new ≡ length columns.old }
+    ensures each { (j : ℕ) → j < turns → get_or columns.new (x.from + j) (pos 0) ≡ spec.along_links columns.old
+        links.now j (elements.cut elem (spec.number_at columns.old x j)) }
+{
+    for j in 0..turns {
+        columns[x.from + j] = forwarded(elem, x, links, columns, j);
+    }
+}
+
+#[inline(always)]
+fn forwarded(elem: Elem, x: Numbers, links: &[Link], columns: &[i64], j: usize) -> i64
+    requires few { j < 256 }
+    requires number { HasColumn (length columns.now) x }
+    requires links { All (LinkFits (length columns.now)) links.now }
+    ensures { result ≡ spec.along_links columns.now links.now j (elements.cut elem (spec.number_at columns.now x j)) }
+{
+    along_links(links, cut(elem, number_at(x, columns, j)), columns, j)
+}
