@@ -72,6 +72,48 @@ abbrev pub carried_all : (level : ℕ → ℕ) → List Event → List Carried �
 carried_all level [] edges = edges
 carried_all level (e ∷ es) edges = carried_all level es (carried level e edges)
 
+-- ---- what one event adds
+
+-- the bytes that an event carries down over an edge: those of a copy from its upper level to its lower one
+abbrev pub down_by : (level : ℕ → ℕ) → (edge : ℕ) → Event → ℕ
+down_by level edge (Copy from to bytes) = if is_edge (level from.node) (level to.node) edge then bytes else 0
+down_by level edge (Fill to e count v) = 0
+down_by level edge (Accumulate op e from to count) = 0
+down_by level edge (Leaf node code vs path) = 0
+
+-- and up: those of a copy or an accumulation from its lower level to its upper one
+abbrev pub up_by : (level : ℕ → ℕ) → (edge : ℕ) → Event → ℕ
+up_by level edge (Copy from to bytes) = if is_edge (level to.node) (level from.node) edge then bytes else 0
+up_by level edge (Fill to e count v) = 0
+up_by level edge (Accumulate op e from to count) =
+    if is_edge (level to.node) (level from.node) edge then count * width e else 0
+up_by level edge (Leaf node code vs path) = 0
+
+-- one event of its kind
+abbrev pub copies_by : Event → ℕ
+copies_by (Copy from to bytes) = 1
+copies_by (Fill to e count v) = 0
+copies_by (Accumulate op e from to count) = 0
+copies_by (Leaf node code vs path) = 0
+
+abbrev pub fills_by : Event → ℕ
+fills_by (Copy from to bytes) = 0
+fills_by (Fill to e count v) = 1
+fills_by (Accumulate op e from to count) = 0
+fills_by (Leaf node code vs path) = 0
+
+abbrev pub accumulations_by : Event → ℕ
+accumulations_by (Copy from to bytes) = 0
+accumulations_by (Fill to e count v) = 0
+accumulations_by (Accumulate op e from to count) = 1
+accumulations_by (Leaf node code vs path) = 0
+
+abbrev pub leaves_by : Event → ℕ
+leaves_by (Copy from to bytes) = 0
+leaves_by (Fill to e count v) = 0
+leaves_by (Accumulate op e from to count) = 0
+leaves_by (Leaf node code vs path) = 1
+
 -- ---- levels
 
 abbrev pub level_in : List PlanNode → (node : ℕ) → ℕ

@@ -91,12 +91,13 @@ pub record IsGoodFor (r : Resolved) (choices : List Choice) (nodes : List PlanNo
   pub calls : HasLeafCalls r choices p
   pub at_home : LeavesAreAtHome r choices p
 
--- What leaves loops may leave these: it is the same in all of a loop, apart from the other arguments.
+-- Each argument that leaves a loop by these choices may: it is the same in all turns of the loop, and apart from the
+-- other arguments.
 abbrev pub MayLeave : Resolved → List Choice → Type 0
 MayLeave r choices =
     HoldsFit (body_of r.typed.now.tasks r.mapping.now.instances r.found.entries) (homes_in (homes_of r choices))
 
--- What an iteration of a loop that overlaps its transfers writes is clear of the next two.
+-- Each loop that overlaps its transfers by these choices may: what an iteration writes is clear of the next two.
 abbrev pub MayOverlap : Resolved → List Choice → Type 0
 MayOverlap r choices =
     PipesFit (body_of r.typed.now.tasks r.mapping.now.instances r.found.entries) (homes_in (homes_of r choices))

@@ -6,6 +6,7 @@ use Rattle.sq_ir.specs.Written.{at_root}
 use Rattle.sq_ir.specs.Events.{Event}
 use Rattle.sq_ir.specs.Machines.{AreNodes}
 use Rattle.sq_ir.specs.Plans.{AskedOfActions, IsBuffer, Meets, of_buffer, setting_of}
+use Rattle.sq_ir.specs.Traffic as traffic
 use Rattle.sq_ir.specs.Traffic.{is_edge}
 use Rattle.sq_ir.specs.declared.num.Num.{Num}
 use Rattle.sq_ir.specs.declared.term.Action.{Action}
@@ -21,7 +22,6 @@ use Rattle.sq_nums.specs.Words.{value, count}
 use Rattle.sq_sums.specs.declared.toll.Kind.{Kind}
 use Rattle.sq_sums.specs.declared.toll.Kind.TheVariants.{Down, Up, Copies, Fills, Accumulations, Leaves}
 use Rattle.sq_sums.specs.Tops.{Stand, at_turn, at_other, child_at, env_at}
-use Rattle.sq_sums.specs.Totals as totals
 
 -- ---- actions
 
@@ -61,12 +61,12 @@ module _ (buffers : List Buffer) where
 
 -- what an event adds
 abbrev pub event_toll : (level : ℕ → ℕ) → Kind → Event → ℕ
-event_toll level (Down edge) = totals.down_by level edge
-event_toll level (Up edge) = totals.up_by level edge
-event_toll level Copies = totals.copies_by
-event_toll level Fills = totals.fills_by
-event_toll level Accumulations = totals.accumulations_by
-event_toll level Leaves = totals.leaves_by
+event_toll level (Down edge) = traffic.down_by level edge
+event_toll level (Up edge) = traffic.up_by level edge
+event_toll level Copies = traffic.copies_by
+event_toll level Fills = traffic.fills_by
+event_toll level Accumulations = traffic.accumulations_by
+event_toll level Leaves = traffic.leaves_by
 
 -- ---- terms
 

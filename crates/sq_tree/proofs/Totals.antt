@@ -13,7 +13,7 @@ use Rattle.sq_ir.specs.Runs as runs
 use Rattle.sq_ir.specs.Runs.{Meaning, End, State, exec, in_turn, beside, least}
 use Rattle.sq_ir.specs.Unordered.{IsFresh}
 use Rattle.sq_ir.specs.Events.{Event, Copy, Fill, Accumulate, Leaf}
-use Rattle.sq_ir.specs.Traffic.{more_by, is_edge, with_event, each_edge, carried, carried_all, nothing_carried, no_counts, counted, counted_all}
+use Rattle.sq_ir.specs.Traffic.{more_by, is_edge, with_event, each_edge, carried, carried_all, nothing_carried, no_counts, counted, counted_all, down_by, up_by, copies_by, fills_by, accumulations_by, leaves_by}
 use Rattle.sq_ir.specs.declared.traffic.Carried.{Carried}
 use Rattle.sq_ir.specs.declared.traffic.EventCounts.{EventCounts}
 use Rattle.sq_ir.specs.Events.{meaning}
@@ -22,7 +22,7 @@ use Rattle.sq_ir.specs.Plans.{setting_of, tree_of}
 use Rattle.sq_ir.specs.PlanLaws.{EndByForm, PerformOnce}
 use Rattle.sq_ir.proofs.Fresh.{fresh-entry}
 use Rattle.sq_tree.specs.Bank.{leaves_in}
-use Rattle.sq_tree.specs.Totals.{HaveThePlansSums, total, stopped, down_by, up_by, carried_by, copies_by, fills_by, accumulations_by, leaves_by, counts_of}
+use Rattle.sq_tree.specs.Totals.{HaveThePlansSums, total, stopped, carried_by, counts_of}
 
 -- ---- sums that stop
 

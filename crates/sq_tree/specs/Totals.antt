@@ -1,15 +1,14 @@
 -- What runs carry over the edges between levels, and how many events they perform, as sums over the plan's events.
-use Rattle.std.specs.Prelude.{◌≡◌, ℕ, ◌+◌, ◌*◌, ◌<◌, ◌^◌, ◌-◌, min, if◌then◌else◌, List, [], ◌∷◌, get_or, replicate}
+use Rattle.std.specs.Prelude.{◌≡◌, ℕ, ◌+◌, ◌<◌, ◌^◌, ◌-◌, min, List, [], ◌∷◌, get_or, replicate}
 use Rattle.std.specs.Prelude.{None}
-use Rattle.sq_num.specs.Elements.{width}
 use Rattle.sq_leaf.specs.declared.trap.Trap.{Trap}
 use Rattle.sq_ir.specs.Tree.{waiting_events}
 use Rattle.sq_ir.specs.Runs.{State}
 use Rattle.sq_ir.specs.Scopes.{Scope}
-use Rattle.sq_ir.specs.Events.{Bytes, Event, Copy, Fill, Accumulate, Leaf}
+use Rattle.sq_ir.specs.Events.{Bytes, Event}
 use Rattle.sq_ir.specs.Plans.{tree_of, IsGood}
 use Rattle.sq_ir.specs.PlanLaws.{Ends}
-use Rattle.sq_ir.specs.Traffic.{is_edge, no_counts, counted_all, nothing_carried, carried_all}
+use Rattle.sq_ir.specs.Traffic.{no_counts, counted_all, nothing_carried, carried_all, down_by, up_by, copies_by, fills_by, accumulations_by, leaves_by}
 use Rattle.sq_ir.specs.declared.plan.Plan.{Plan}
 use Rattle.sq_ir.specs.declared.traffic.Carried.{Carried}
 use Rattle.sq_ir.specs.declared.traffic.EventCounts.{EventCounts}
@@ -23,52 +22,9 @@ total f (e ∷ es) = f e + total f es
 abbrev pub stopped : ℕ → ℕ
 stopped n = min n (2 ^ 64 - 1)
 
--- ---- bytes over an edge
-
--- the bytes that an event carries down over an edge: those of a copy from its upper level to its lower one
-abbrev pub down_by : (level : ℕ → ℕ) → (edge : ℕ) → Event → ℕ
-down_by level edge (Copy from to bytes) = if is_edge (level from.node) (level to.node) edge then bytes else 0
-down_by level edge (Fill to elem count value) = 0
-down_by level edge (Accumulate op elem from to count) = 0
-down_by level edge (Leaf node code views path) = 0
-
--- and up: those of a copy or an accumulation from its lower level to its upper one
-abbrev pub up_by : (level : ℕ → ℕ) → (edge : ℕ) → Event → ℕ
-up_by level edge (Copy from to bytes) = if is_edge (level to.node) (level from.node) edge then bytes else 0
-up_by level edge (Fill to elem count value) = 0
-up_by level edge (Accumulate op elem from to count) =
-    if is_edge (level to.node) (level from.node) edge then count * width elem else 0
-up_by level edge (Leaf node code views path) = 0
-
 abbrev pub carried_by : (level : ℕ → ℕ) → (edge : ℕ) → List Event → Carried
 carried_by level edge es =
     record { down = stopped (total (down_by level edge) es); up = stopped (total (up_by level edge) es) }
-
--- ---- events by kind
-
-abbrev pub copies_by : Event → ℕ
-copies_by (Copy from to bytes) = 1
-copies_by (Fill to elem count value) = 0
-copies_by (Accumulate op elem from to count) = 0
-copies_by (Leaf node code views path) = 0
-
-abbrev pub fills_by : Event → ℕ
-fills_by (Copy from to bytes) = 0
-fills_by (Fill to elem count value) = 1
-fills_by (Accumulate op elem from to count) = 0
-fills_by (Leaf node code views path) = 0
-
-abbrev pub accumulations_by : Event → ℕ
-accumulations_by (Copy from to bytes) = 0
-accumulations_by (Fill to elem count value) = 0
-accumulations_by (Accumulate op elem from to count) = 1
-accumulations_by (Leaf node code views path) = 0
-
-abbrev pub leaves_by : Event → ℕ
-leaves_by (Copy from to bytes) = 0
-leaves_by (Fill to elem count value) = 0
-leaves_by (Accumulate op elem from to count) = 0
-leaves_by (Leaf node code views path) = 1
 
 abbrev pub counts_of : List Event → EventCounts
 counts_of es =
