@@ -26,9 +26,6 @@ use sq_leaf::{Action, Cell, Code, Trap};
 use sq_num::Elem;
 use sqlite_items::at;
 
-/// The least number of turns that are worth a block.
-const LEAST: usize = 5;
-
 /// Runs the assignment for each number from `from` up to but not including `end`.
 pub(crate) fn blocks(
     body: &[Action],
@@ -93,14 +90,17 @@ fn some_turns(
         (λ k. running.assigns cell.now op code.now frame.old.views (frame.old.counters ++ k ∷ [])) bytes.old }
     ensures kept { frame.new ≡ frame.old }
 {
-    if count < LEAST {
+    if count == 0 || !frame.is_due(body, count) {
         return one_by_one(cell, op, code, i, count, frame, bytes);
     }
     if run_block(cell, op, code, i, count, frame, bytes, columns) {
+        frame.note(body, true);
         Ok(())
     } else if try_deeds(body, i, count, frame, bytes, columns) {
+        frame.note(body, true);
         Ok(())
     } else {
+        frame.note(body, false);
         one_by_one(cell, op, code, i, count, frame, bytes)
     }
 }

@@ -7,15 +7,11 @@ ghost use Rattle.sq_leaf.specs.Views.{CanRun, Keeps, Shows, shape_of};
 
 use crate::act::act_all;
 use crate::frame::Frame;
-use crate::lines::COLUMN;
 use sq_leaf::{LeafCode, Trap};
 use sq_rect::Views;
 
-/// How many columns a run has.
-const COLUMNS: usize = 8;
-
 /// Runs the leaf over the bytes of one memory. It keeps its loop counters by itself.
-// Built into a caller that recurses, it would put its columns into each of that caller's frames.
+// What it keeps isn't to lie in the frames of callers that recurse.
 #[inline(never)]
 pub fn run_leaf(code: &LeafCode, bytes: &mut [u8], views: &Views) -> Result<(), Trap>
     requires { CanRun (length bytes.old) views.now (written_of code.now.variant) }
@@ -24,6 +20,5 @@ pub fn run_leaf(code: &LeafCode, bytes: &mut [u8], views: &Views) -> Result<(), 
     ensures kept { Keeps views.now (written_of code.now.variant) bytes.old bytes.new }
 {
     let mut frame = Frame::new(views.as_slice());
-    let mut columns = [0; COLUMNS * COLUMN];
-    act_all(code.body(), &mut frame, bytes, &mut columns)
+    act_all(code.body(), &mut frame, bytes, &mut [])
 }

@@ -12,6 +12,8 @@ mod forward;
 mod frame;
 mod leaf;
 mod lines;
+mod memory;
+mod outlook;
 mod pairs;
 mod perform;
 mod plan;

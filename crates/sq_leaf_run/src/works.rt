@@ -15,37 +15,22 @@ use sq_leaf::Action;
 /// The least number of turns that are worth a plan.
 const LEAST: usize = 12;
 
-/// From so many turns on a plan that comes to nothing costs little beside them.
-const LONG: usize = 64;
-
 /// Runs the turns from this value of the counter on, or changes nothing.
 pub(crate) fn try_deeds(
     body: &[Action],
     from: i64,
     turns: usize,
-    frame: &mut Frame<'_>,
+    frame: &Frame<'_>,
     bytes: &mut [u8],
     columns: &mut [i64],
 ) -> bool
     requires few { turns ≤ 256 }
     requires last { (from +ℤ pos turns) ≤ℤ pos 9223372036854775807 }
-    requires inside { All (IsInside (length bytes.old)) frame.old.views }
-    ensures ran { running.Goes bytes.new ≡ block_or_nothing result turns from (running.run_actions body.now)
-        frame.old.views frame.old.counters bytes.old }
-    ensures kept { frame.new ≡ frame.old }
+    requires inside { All (IsInside (length bytes.old)) frame.now.views }
+    ensures { running.Goes bytes.new ≡ block_or_nothing result turns from (running.run_actions body.now)
+        frame.now.views frame.now.counters bytes.old }
 {
-    if turns < LEAST || !is_worth(turns, frame) {
-        return false;
-    }
-    let done = run_deeds(body, from, turns, frame, bytes, columns);
-    frame.note_plan(done);
-    done
-}
-
-fn is_worth(turns: usize, frame: &mut Frame<'_>) -> bool
-    ensures { frame.new ≡ frame.old }
-{
-    LONG <= turns || frame.is_worth_a_plan()
+    LEAST <= turns && run_deeds(body, from, turns, frame, bytes, columns)
 }
 
 // The deeds aren't to lie in the frames of callers that recurse.

@@ -1,0 +1,163 @@
+//! What the loops of a run have come to so far. No contract sees it: it decides which way turns are run, and all ways
+//! give the same.
+
+use crate::outlook::{Outlook, look};
+use arrayvec::ArrayVec;
+use sq_leaf::Action;
+use sq_text::Place;
+
+/// How many loops of a run are told apart.
+const LOOPS: usize = 4;
+
+/// The least number of turns that are worth a block.
+pub(crate) const FEW: usize = 8;
+
+/// The same where an element may be carried.
+const SOME: usize = 12;
+
+/// From so many turns on a block that comes to nothing costs little beside them.
+const LONG: usize = 192;
+
+/// So many turns that could have been run by blocks are worth columns for the loops round them.
+const WORTH: usize = 64;
+
+/// After blocks that came to nothing up to two to the power of this are left out.
+const MOST: u32 = 4;
+
+/// What is known of a loop.
+#[derive(Clone, Copy, Default)]
+struct Memo {
+    /// Where its first assignment stands.
+    name: u64,
+    /// The least number of turns that are worth a block.
+    least: usize,
+    /// So many blocks are still left out.
+    pause: u32,
+    /// How many blocks in a row came to nothing.
+    misses: u32,
+}
+
+/// What is known of all loops of a run.
+#[derive(Drop)]
+pub(crate) struct Memory {
+    memos: ArrayVec<Memo, LOOPS>,
+    /// Turns that could have been run by blocks.
+    wanted: usize,
+}
+
+impl Memory {
+    pub fn new() -> Memory {
+        Memory {
+            memos: ArrayVec::new(),
+            wanted: 0,
+        }
+    }
+
+    /// Whether so many turns of the loop with this counter are to be run by a block.
+    pub fn is_due(&mut self, body: &[Action], turns: usize, counter: usize) -> bool {
+        let name = name_of(body);
+        for memo in self.memos.as_mut_slice() {
+            if memo.name == name {
+                return memo.is_due(turns);
+            }
+        }
+        let mut memo = Memo::new(name, look(body, counter), turns);
+        let due = memo.is_due(turns);
+        self.learn(memo);
+        due
+    }
+
+    /// The last one gives way where there are too many.
+    fn learn(&mut self, memo: Memo) {
+        if self.memos.is_full() {
+            let _ = self.memos.pop();
+        }
+        let _ = self.memos.try_push(memo);
+    }
+
+    /// Whether a block of the loop came to something.
+    pub fn note(&mut self, body: &[Action], done: bool) {
+        let name = name_of(body);
+        for memo in self.memos.as_mut_slice() {
+            if memo.name == name {
+                memo.note(done);
+            }
+        }
+    }
+
+    /// So many turns could have been run by blocks.
+    pub fn want(&mut self, turns: usize) {
+        self.wanted = self.wanted.saturating_add(turns);
+    }
+
+    /// Whether there are enough of them for columns in the loops round them.
+    pub fn is_worth_columns(&self) -> bool {
+        WORTH <= self.wanted
+    }
+}
+
+impl Memo {
+    /// What a look at a loop says of it.
+    fn new(name: u64, outlook: Outlook, turns: usize) -> Memo {
+        let is_open = outlook == Outlook::Open && turns < LONG;
+        Memo {
+            name,
+            least: match outlook {
+                Outlook::Clear => FEW,
+                Outlook::Carried | Outlook::Open => SOME,
+                Outlook::Hopeless => usize::MAX,
+            },
+            pause: if is_open { 1 << MOST } else { 0 },
+            misses: if is_open { MOST } else { 0 },
+        }
+    }
+
+    fn is_due(&mut self, turns: usize) -> bool {
+        if turns < self.least {
+            false
+        } else if self.pause == 0 {
+            true
+        } else {
+            self.pause -= 1;
+            false
+        }
+    }
+
+    fn note(&mut self, done: bool) {
+        if done {
+            self.misses = 0;
+        } else {
+            self.misses = MOST.min(self.misses.saturating_add(1));
+            self.pause = 1 << self.misses;
+        }
+    }
+}
+
+/// A number by which a body is known: where its first assignment stands.
+fn name_of(body: &[Action]) -> u64 {
+    for action in body {
+        match place_in(action) {
+            Some(place) => return (u64::from(place.line) << 32) | u64::from(place.col),
+            None => {}
+        }
+    }
+    0
+}
+
+fn place_in(action: &Action) -> Option<Place> {
+    match action {
+        Action::Assign(cell, _, _) => Some(cell.place),
+        Action::If(_, taken, other) => match first_place(taken.as_slice()) {
+            Some(place) => Some(place),
+            None => first_place(other.as_slice()),
+        },
+        Action::For(_, _, _) => None,
+    }
+}
+
+fn first_place(list: &[Action]) -> Option<Place> {
+    match list {
+        [Action::Assign(cell, _, _), ..] => Some(cell.place),
+        _ => None,
+    }
+}
