@@ -4,6 +4,7 @@ use Rattle.std.specs.Int.{int_min, int_max}
 use Rattle.std.specs.List.{All}
 use Rattle.sq_num.specs.declared.Elem.{Elem}
 use Rattle.sq_num.specs.Elements.{width}
+use Rattle.sq_columns.specs.declared.line.Line.TheVariants.{Column}
 use Rattle.sq_columns.specs.Lines.{line_at}
 use Rattle.sq_leaf.specs.Numbers.{is_zero, unary, binary}
 use Rattle.sq_leaf.specs.Source.{assigned}
@@ -22,6 +23,10 @@ use Rattle.sq_leaf_run.specs.declared.deeds.Deed.TheVariants.{Always, Choice}
 
 abbrev pub number_at : List ℤ → Numbers → ℕ → ℤ
 number_at columns x j = line_at x.line (drop x.from columns) j
+
+-- those of the column that begins with this number of all columns
+abbrev pub column : ℕ → Numbers
+column from = record { line = Column; from = from }
 
 -- the first byte of a turn's element
 abbrev pub byte_at : Rise → ℕ → ℕ
