@@ -10,7 +10,7 @@ use Rattle.sq_leaf_run.specs.declared.block.Rise.{Rise}
 use Rattle.sq_leaf_run.specs.declared.deeds.Numbers.{Numbers}
 use Rattle.sq_leaf_run.specs.declared.deeds.Tested.{Tested}
 use Rattle.sq_leaf_run.specs.declared.deeds.Link.{Link}
-use Rattle.sq_leaf_run.specs.declared.deeds.Link.TheVariants.{Unary, Onto, Under, Least, Most}
+use Rattle.sq_leaf_run.specs.declared.deeds.Link.TheVariants.{Unary, Onto, Under, Least, Most, Itself}
 use Rattle.sq_leaf_run.specs.declared.deeds.Put.{Put}
 use Rattle.sq_leaf_run.specs.declared.deeds.Deed.{Deed}
 use Rattle.sq_leaf_run.specs.declared.deeds.Deed.TheVariants.{Choice}
@@ -87,6 +87,7 @@ IsLinkFirst at (Onto op y) = IsReadFirst at y
 IsLinkFirst at (Under op y) = IsReadFirst at y
 IsLinkFirst at (Least y) = IsReadFirst at y
 IsLinkFirst at (Most y) = IsReadFirst at y
+IsLinkFirst at (Itself op) = Unit
 
 abbrev pub AreLinksFirst : ℕ → List Link → Type 0
 AreLinksFirst at [] = Unit

@@ -228,7 +228,7 @@ fn next_each(elem: Elem, rise: Rise, link: Link, columns: &[i64], turns: usize, 
 {
     let mut x = load(elem, rise.at, bytes);
     for j in 0..turns {
-        x = cut(elem, linked(link, x, columns, j));
+        x = cut(elem, linked(link, x, x, columns, j));
         let at = byte_at(elem, rise, turns + 1, j + 1, bytes.len());
         store(elem, at, x, bytes);
     }

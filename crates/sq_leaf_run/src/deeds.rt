@@ -47,6 +47,8 @@ pub(crate) enum Link {
     Under(BinOp, Numbers),
     Least(Numbers),
     Most(Numbers),
+    /// The number so far stands on the left, the element with which the operators began on the right.
+    Itself(BinOp),
 }
 
 /// One that changes nothing.

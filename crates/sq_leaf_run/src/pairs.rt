@@ -164,8 +164,8 @@ fn pair_each(
 {
     let mut x = load(elem, rise.at, bytes);
     for j in 0..turns {
-        let y = linked(first, x, columns, j);
-        x = cut(elem, linked(second, y, columns, j));
+        let y = linked(first, x, x, columns, j);
+        x = cut(elem, linked(second, x, y, columns, j));
         let at = byte_at(elem, rise, turns + 1, j + 1, bytes.len());
         store(elem, at, x, bytes);
     }
