@@ -9,7 +9,7 @@ use Rattle.sq_leaf.specs.Source.{assigned}
 use Rattle.sq_leaf.specs.Spots.{load, store}
 use Rattle.sq_leaf_run.specs.declared.deeds.Numbers.{Numbers}
 use Rattle.sq_leaf_run.specs.declared.deeds.Link.{Link}
-use Rattle.sq_leaf_run.specs.declared.deeds.Link.TheVariants.{Unary, Onto, Under, Least, Most}
+use Rattle.sq_leaf_run.specs.declared.deeds.Link.TheVariants.{Unary, Onto, Under, Least, Most, Itself}
 use Rattle.sq_leaf_run.specs.declared.deeds.Carried.{Carried}
 use Rattle.sq_leaf_run.specs.declared.deeds.Value.{Value}
 use Rattle.sq_leaf_run.specs.declared.deeds.Value.TheVariants.{Known}
@@ -17,27 +17,28 @@ use Rattle.sq_leaf_run.specs.declared.deeds.Value.TheVariants as value
 use Rattle.sq_leaf_run.specs.declared.deeds.Put.{Put}
 use Rattle.sq_leaf_run.specs.declared.deeds.Deed.TheVariants.{Always}
 use Rattle.sq_leaf_run.specs.Blocks.{puts}
-use Rattle.sq_leaf_run.specs.Deeds.{number_at, byte_at, linked, along_links, value_at, put_at_turn, turns_done, HasColumn, PutFits}
+use Rattle.sq_leaf_run.specs.Deeds.{number_at, byte_at, linked, along_from, along_links, value_at, put_at_turn, turns_done, HasColumn, PutFits}
 use Rattle.sq_leaf_run.specs.Loops.{IsLinkFirst, AreLinksFirst}
 use Rattle.sq_leaf_run.specs.Reaches.{RiseLies, ValueLies, PutLies}
 use Rattle.sq_leaf_run.proofs.Carrying.{stored_load}
 use Rattle.sq_leaf_run.proofs.Reaching.{Within, commute, put_within, turns_within}
 
-link_stays : (at : ℕ) (l : Link) (now : List ℤ) (v : ℤ) (i j : ℕ) → IsLinkFirst at l → j < i → i < 256 → (z : ℤ) → linked (slice_set now (at + j) v) l i z ≡ linked now l i z
-link_stays at (Unary op) now v i j h less few z = refl
-link_stays at (Onto op y) now v i j h less few z = ap (λ (w : ℤ). binary op z w) (h.stays now v i j less few)
-link_stays at (Under op y) now v i j h less few z = ap (λ (w : ℤ). binary op w z) (h.stays now v i j less few)
-link_stays at (Least y) now v i j h less few z = ap (λ (w : ℤ). int_min z w) (h.stays now v i j less few)
-link_stays at (Most y) now v i j h less few z = ap (λ (w : ℤ). int_max z w) (h.stays now v i j less few)
+link_stays : (at : ℕ) (l : Link) (now : List ℤ) (v : ℤ) (i j : ℕ) → IsLinkFirst at l → j < i → i < 256 → (e z : ℤ) → linked (slice_set now (at + j) v) l i e z ≡ linked now l i e z
+link_stays at (Unary op) now v i j h less few e z = refl
+link_stays at (Onto op y) now v i j h less few e z = ap (λ (w : ℤ). binary op z w) (h.stays now v i j less few)
+link_stays at (Under op y) now v i j h less few e z = ap (λ (w : ℤ). binary op w z) (h.stays now v i j less few)
+link_stays at (Least y) now v i j h less few e z = ap (λ (w : ℤ). int_min z w) (h.stays now v i j less few)
+link_stays at (Most y) now v i j h less few e z = ap (λ (w : ℤ). int_max z w) (h.stays now v i j less few)
+link_stays at (Itself op) now v i j h less few e z = refl
 
-links_stay : (at : ℕ) (ls : List Link) (now : List ℤ) (v : ℤ) (i j : ℕ) → AreLinksFirst at ls → j < i → i < 256 → (z : ℤ) → along_links (slice_set now (at + j) v) ls i z ≡ along_links now ls i z
-links_stay at [] now v i j h less few z = refl
-links_stay at (l ∷ ls) now v i j h less few z =
-    links_stay at ls now v i j h.1 less few (linked (slice_set now (at + j) v) l i z) ∙ ap (λ (w : ℤ). along_links now ls i w) (link_stays at l now v i j h.0 less few z)
+links_stay : (at : ℕ) (ls : List Link) (now : List ℤ) (v : ℤ) (i j : ℕ) → AreLinksFirst at ls → j < i → i < 256 → (e z : ℤ) → along_from (slice_set now (at + j) v) ls i e z ≡ along_from now ls i e z
+links_stay at [] now v i j h less few e z = refl
+links_stay at (l ∷ ls) now v i j h less few e z =
+    links_stay at ls now v i j h.1 less few e (linked (slice_set now (at + j) v) l i e z) ∙ ap (λ (w : ℤ). along_from now ls i e w) (link_stays at l now v i j h.0 less few e z)
 
 pub next_along : (at : ℕ) (ls : List Link) (old now : List ℤ) (v : ℤ) (j : ℕ) → AreLinksFirst at ls → ((i : ℕ) → j ≤ i → i < 256 → (z : ℤ) → along_links now ls i z ≡ along_links old ls i z)
     → (i : ℕ) → j + 1 ≤ i → i < 256 → (z : ℤ) → along_links (slice_set now (at + j) v) ls i z ≡ along_links old ls i z
-next_along at ls old now v j first along i past few z = links_stay at ls now v i j first (omega (arith, past)) few z ∙ along i (omega (arith, past)) few z
+next_along at ls old now v j first along i past few z = links_stay at ls now v i j first (omega (arith, past)) few z z ∙ along i (omega (arith, past)) few z
 
 module _ (columns new : List ℤ) (p q : Put) (x y : Numbers) (r : Carried) (pv : p.value ≡ Known x) (qv : q.value ≡ value.Carried r) (set : p.op ≡ Set) (elem : r.elem ≡ p.elem) (at : r.read.at ≡ p.to.at) (step : r.read.step ≡ p.to.step)
     (n most size low high from to : ℕ) (hp : PutFits n most size p) (lp : PutLies n p low high) (hq : PutFits n most size (record { elem = q.elem; op = q.op; to = q.to; value = Known y })) (lq : PutLies n (record { elem = q.elem; op = q.op; to = q.to; value = Known y }) from to)

@@ -25,11 +25,11 @@ use Rattle.sq_leaf_run.specs.declared.setting.Setting.{Setting}
 use Rattle.sq_leaf_run.specs.declared.block.Rise.{Rise}
 use Rattle.sq_leaf_run.specs.declared.deeds.Numbers.{Numbers}
 use Rattle.sq_leaf_run.specs.declared.deeds.Link.{Link}
-use Rattle.sq_leaf_run.specs.declared.deeds.Link.TheVariants.{Unary, Onto, Under, Least, Most}
+use Rattle.sq_leaf_run.specs.declared.deeds.Link.TheVariants.{Unary, Onto, Under, Least, Most, Itself}
 use Rattle.sq_leaf_run.specs.declared.values.Hole.{Hole}
 use Rattle.sq_leaf_run.specs.Blocks.{LiesIn, IsRise}
-use Rattle.sq_leaf_run.specs.Settings.{counters_at, Gives, Follows, value_alone, extreme, extreme_of}
-use Rattle.sq_leaf_run.specs.Deeds.{number_at, byte_at, linked, along_links, HasColumn, IsRoomy, LinkFits, AreKept}
+use Rattle.sq_leaf_run.specs.Settings.{Read, counters_at, Gives, Follows, value_alone, extreme, extreme_of}
+use Rattle.sq_leaf_run.specs.Deeds.{number_at, byte_at, linked, along_from, along_links, HasColumn, IsRoomy, LinkFits, AreKept}
 use Rattle.sq_leaf_run.specs.Values.{AreNumbers, IsCarried, Leads, Starts, IsPath, IsLonger, path_at, extreme_link, unary_of}
 use Rattle.sq_leaf_run.proofs.Spotting.{some_after}
 use Rattle.sq_leaf_run.proofs.Linking.{linked_is, step_is, next_follows}
@@ -91,36 +91,41 @@ kept_then k m n first old new one two before after = record {
 
 -- ---- links
 
-link_kept : (free : ℕ) (l : Link) (old new : List ℤ) (j : ℕ) (x : ℤ) → LinkFits free l → AreKept free old new → j < 256 → linked new l j x ≡ linked old l j x
-link_kept free (Unary o) old new j x fits kept below = refl
-link_kept free (Onto o y) old new j x fits kept below = ap (binary o x) (number_kept free y old new j fits kept below)
-link_kept free (Under o y) old new j x fits kept below = ap (λ (w : ℤ). binary o w x) (number_kept free y old new j fits kept below)
-link_kept free (Least y) old new j x fits kept below = ap (int_min x) (number_kept free y old new j fits kept below)
-link_kept free (Most y) old new j x fits kept below = ap (int_max x) (number_kept free y old new j fits kept below)
+link_kept : (free : ℕ) (l : Link) (old new : List ℤ) (j : ℕ) (e x : ℤ) → LinkFits free l → AreKept free old new → j < 256 → linked new l j e x ≡ linked old l j e x
+link_kept free (Unary o) old new j e x fits kept below = refl
+link_kept free (Onto o y) old new j e x fits kept below = ap (binary o x) (number_kept free y old new j fits kept below)
+link_kept free (Under o y) old new j e x fits kept below = ap (λ (w : ℤ). binary o w x) (number_kept free y old new j fits kept below)
+link_kept free (Least y) old new j e x fits kept below = ap (int_min x) (number_kept free y old new j fits kept below)
+link_kept free (Most y) old new j e x fits kept below = ap (int_max x) (number_kept free y old new j fits kept below)
+link_kept free (Itself o) old new j e x fits kept below = refl
 
-links_kept : (free : ℕ) (ls : List Link) (old new : List ℤ) (j : ℕ) (x : ℤ) → All (LinkFits free) ls → AreKept free old new → j < 256 → along_links new ls j x ≡ along_links old ls j x
-links_kept free [] old new j x fits kept below = refl
-links_kept free (l ∷ ls) old new j x fits kept below =
-    ap (along_links new ls j) (link_kept free l old new j x (All-head (LinkFits free) l ls fits) kept below)
-    ∙ links_kept free ls old new j (linked old l j x) (All-tail (LinkFits free) l ls fits) kept below
+links_kept : (free : ℕ) (ls : List Link) (old new : List ℤ) (j : ℕ) (e x : ℤ) → All (LinkFits free) ls → AreKept free old new → j < 256 → along_from new ls j e x ≡ along_from old ls j e x
+links_kept free [] old new j e x fits kept below = refl
+links_kept free (l ∷ ls) old new j e x fits kept below =
+    ap (along_from new ls j e) (link_kept free l old new j e x (All-head (LinkFits free) l ls fits) kept below)
+    ∙ links_kept free ls old new j e (linked old l j e x) (All-tail (LinkFits free) l ls fits) kept below
 
-links_longer : (columns : List ℤ) (ls : List Link) (l : Link) (j : ℕ) (x : ℤ) → along_links columns (ls ++ l ∷ []) j x ≡ linked columns l j (along_links columns ls j x)
-links_longer columns [] l j x = refl
-links_longer columns (k ∷ ls) l j x = links_longer columns ls l j (linked columns k j x)
+links_longer : (columns : List ℤ) (ls : List Link) (l : Link) (j : ℕ) (e x : ℤ) → along_from columns (ls ++ l ∷ []) j e x ≡ linked columns l j e (along_from columns ls j e x)
+links_longer columns [] l j e x = refl
+links_longer columns (k ∷ ls) l j e x = links_longer columns ls l j e (linked columns k j e x)
 
 -- ---- paths
 
+-- the element with which a path begins
+abbrev pub path_first : Hole → ℕ → List ℕ → ℤ
+path_first h j c = load (record { elem = h.elem; at = byte_at h.read j }) c
+
 path_longer : (size : ℕ) (l : Link) (h : Hole) (ls : List Link) (n : Hole) (more : List Link) → IsLonger size l h ls n more → (columns : List ℤ) (j : ℕ) (c : List ℕ)
-    → path_at columns n more j c ≡ linked columns l j (path_at columns h ls j c)
+    → path_at columns n more j c ≡ linked columns l j (path_first h j c) (path_at columns h ls j c)
 path_longer size l h ls n more is columns j c =
-    ap (λ (ms : List Link). along_links columns ms j (load (record { elem = n.elem; at = byte_at n.read j }) c)) is.items
-    ∙ (links_longer columns ls l j (load (record { elem = n.elem; at = byte_at n.read j }) c)
-    ∙ (ap (λ (e : Elem). linked columns l j (along_links columns ls j (load (record { elem = e; at = byte_at n.read j }) c))) is.elem
-    ∙ ap (λ (r : Rise). linked columns l j (along_links columns ls j (load (record { elem = h.elem; at = byte_at r j }) c))) is.read))
+    ap (λ (ms : List Link). along_links columns ms j (path_first n j c)) is.items
+    ∙ (links_longer columns ls l j (path_first n j c) (path_first n j c)
+    ∙ (ap (λ (e : Elem). linked columns l j (load (record { elem = e; at = byte_at n.read j }) c) (along_links columns ls j (load (record { elem = e; at = byte_at n.read j }) c))) is.elem
+    ∙ ap (λ (r : Rise). linked columns l j (load (record { elem = h.elem; at = byte_at r j }) c) (along_links columns ls j (load (record { elem = h.elem; at = byte_at r j }) c))) is.read))
 
 path_kept : (t : Setting) (next : ℕ) (h : Hole) (ls : List Link) (old new : List ℤ) → IsPath t next old h ls → AreKept h.free old new → (j : ℕ) (c : List ℕ) → j < 256
     → path_at new h ls j c ≡ path_at old h ls j c
-path_kept t next h ls old new path kept j c below = links_kept h.free ls old new j _ path.fit kept below
+path_kept t next h ls old new path kept j c below = links_kept h.free ls old new j _ _ path.fit kept below
 
 -- ---- an element
 
@@ -167,9 +172,9 @@ onto_leads t next s y h ls old new (Some n) more path kept right longer safe = r
       ∙ sym (step_is s t.frame.now.views (counters_at t j) d (path_at old h ls j d))));
 }
 
-extreme_is : (columns : List ℤ) (most : Bool) (y : Numbers) (j : ℕ) (x : ℤ) → linked columns (extreme_link most y) j x ≡ extreme most x (number_at columns y j)
-extreme_is columns true y j x = refl
-extreme_is columns false y j x = refl
+extreme_is : (columns : List ℤ) (most : Bool) (y : Numbers) (j : ℕ) (e x : ℤ) → linked columns (extreme_link most y) j e x ≡ extreme most x (number_at columns y j)
+extreme_is columns true y j e x = refl
+extreme_is columns false y j e x = refl
 
 least_swaps : (x y : ℤ) → int_min x y ≡ int_min y x
 least_swaps x y = omega (arith, ints, clamps)
@@ -190,7 +195,7 @@ onto_extreme_leads t next most f y h ls old new l o more path kept right e longe
     go n is = record {
       each = λ j d below met.
           ap Ok (path_longer (length new) l h ls n more is new j d
-          ∙ (ap (λ (k : Link). linked new k j (path_at new h ls j d)) e ∙ extreme_is new most y j (path_at new h ls j d)
+          ∙ (ap (λ (k : Link). linked new k j (path_first h j d) (path_at new h ls j d)) e ∙ extreme_is new most y j (path_first h j d) (path_at new h ls j d)
           ∙ ap (λ (w : ℤ). extreme most w (number_at new y j)) (path_kept t next h ls old new path kept j d (omega (arith, below, t.few)))))
           ∙ ap (λ (r : Result ℤ Trap). and_then r (λ w. Ok (extreme most (path_at old h ls j d) w))) (sym (right.each j d below met));
     }
@@ -204,7 +209,7 @@ under_extreme_starts t most f x free h ls old new size l o more has kept carried
     go n is = record {
       each = λ j d below met.
           ap Ok (path_longer size l h ls n more is new j d
-          ∙ (ap (λ (k : Link). linked new k j (path_at new h ls j d)) e ∙ extreme_is new most x j (path_at new h ls j d)
+          ∙ (ap (λ (k : Link). linked new k j (path_first h j d) (path_at new h ls j d)) e ∙ extreme_is new most x j (path_first h j d) (path_at new h ls j d)
           ∙ (extreme_swaps most (path_at new h ls j d) (number_at new x j)
           ∙ ap (λ (w : ℤ). extreme most w (path_at new h ls j d)) (number_kept free x old new j has kept (omega (arith, below, t.few))))))
           ∙ ap (λ (r : Result ℤ Trap). and_then r (λ w. Ok (extreme most (number_at old x j) w))) (sym (carried.each j d below met));

@@ -18,6 +18,7 @@ use Rattle.sq_leaf_run.specs.declared.deeds.Value.{Value}
 use Rattle.sq_leaf_run.specs.declared.deeds.Value.TheVariants.{Known}
 use Rattle.sq_leaf_run.specs.declared.deeds.Value.TheVariants as value
 use Rattle.sq_leaf_run.specs.declared.deeds.Put.{Put}
+use Rattle.sq_leaf_run.specs.declared.deeds.Tested.{Tested}
 use Rattle.sq_leaf_run.specs.declared.deeds.Deed.{Deed}
 use Rattle.sq_leaf_run.specs.declared.deeds.Deed.TheVariants.{Always, Choice}
 use Rattle.sq_leaf_run.specs.Blocks.{put_turn, puts}
@@ -139,8 +140,11 @@ store_load e at c h fits =
     let long : length (take (width e) (drop at c)) ≡ width e = omega (arith, length-take (width e) (drop at c), length-drop at c, fits) in
     ap (λ (piece : List ℕ). put_at at piece c) (cell-value e (take (width e) (drop at c)) long (take_bytes (width e) (drop at c) (drop_bytes at c h))) ∙ put_back (width e) at c fits
 
+abbrev pub tested_as : Bool → Numbers → AssignOp → Numbers → Tested
+tested_as at_zero test op x = record { at_zero = at_zero; test = test; op = op; x = x }
+
 where_is : (columns : List ℤ) (at_zero : Bool) (test : Numbers) (p : Put) (x : Numbers) → p.value ≡ Known x → (j : ℕ) (c : List ℕ) → AreBytes c → byte_at p.to j + width p.elem ≤ length c
-    → where_turn columns at_zero test p.elem p.op p.to x j c ≡ done columns (only_where at_zero test p) j c
+    → where_turn columns p.elem p.to (tested_as at_zero test p.op x) j c ≡ done columns (only_where at_zero test p) j c
 where_is columns true test p x is j c h fits = go (is_zero (number_at columns test j))
   where
     go : (b : Bool) → store (record { elem = p.elem; at = byte_at p.to j })
@@ -157,17 +161,17 @@ where_is columns false test p x is j c h fits = go (is_zero (number_at columns t
     go false = known_turn columns p x is j c
 
 where_from : (columns : List ℤ) (at_zero : Bool) (test : Numbers) (p : Put) (x : Numbers) → p.value ≡ Known x → (most size : ℕ) → IsRoomy most size p.elem p.to
-    → (n j : ℕ) (c : List ℕ) → AreBytes c → length c ≡ size → j + n ≤ most → in_turn (where_turn columns at_zero test p.elem p.op p.to x) n j c ≡ turns_done columns (only_where at_zero test p ∷ []) n j c
+    → (n j : ℕ) (c : List ℕ) → AreBytes c → length c ≡ size → j + n ≤ most → in_turn (where_turn columns p.elem p.to (tested_as at_zero test p.op x)) n j c ≡ turns_done columns (only_where at_zero test p ∷ []) n j c
 where_from columns at_zero test p x is most size roomy zero j c h long within = refl
 where_from columns at_zero test p x is most size roomy (suc n) j c h long within =
     let room : byte_at p.to j + width p.elem ≤ size = roomy.room j (omega (arith, within)) in
     let fits : byte_at p.to j + width p.elem ≤ length c = omega (arith, room, long) in
-    where_from columns at_zero test p x is most size roomy n (suc j) (where_turn columns at_zero test p.elem p.op p.to x j c)
+    where_from columns at_zero test p x is most size roomy n (suc j) (where_turn columns p.elem p.to (tested_as at_zero test p.op x) j c)
     (store_bytes p.elem (byte_at p.to j) _ c h) (store_size p.elem (byte_at p.to j) _ c fits ∙ long) (omega (arith, within))
     ∙ ap (turns_done columns (only_where at_zero test p ∷ []) n (suc j)) (where_is columns at_zero test p x is j c h fits)
 
 pub where_turns : (columns : List ℤ) (at_zero : Bool) (test : Numbers) (p : Put) (x : Numbers) → p.value ≡ Known x → (n : ℕ) (c : List ℕ) → AreBytes c → IsRoomy n (length c) p.elem p.to
-    → in_turn (where_turn columns at_zero test p.elem p.op p.to x) n 0 c ≡ turns_done columns (only_where at_zero test p ∷ []) n 0 c
+    → in_turn (where_turn columns p.elem p.to (tested_as at_zero test p.op x)) n 0 c ≡ turns_done columns (only_where at_zero test p ∷ []) n 0 c
 where_turns columns at_zero test p x is n c h roomy = where_from columns at_zero test p x is n (length c) roomy n 0 c h refl (omega arith)
 
 -- ---- nothing either way

@@ -27,7 +27,7 @@ use Rattle.sq_leaf_run.specs.declared.block.Block.{Block}
 use Rattle.sq_leaf_run.specs.declared.block.Rise.{Rise}
 use Rattle.sq_leaf_run.specs.declared.deeds.Numbers.{Numbers}
 use Rattle.sq_leaf_run.specs.declared.deeds.Link.{Link}
-use Rattle.sq_leaf_run.specs.declared.deeds.Link.TheVariants.{Unary, Onto, Under, Least, Most}
+use Rattle.sq_leaf_run.specs.declared.deeds.Link.TheVariants.{Unary, Onto, Under, Least, Most, Itself}
 use Rattle.sq_leaf_run.specs.declared.deeds.Value.{Value}
 use Rattle.sq_leaf_run.specs.declared.deeds.Value.TheVariants as value
 use Rattle.sq_leaf_run.specs.declared.deeds.Put.{Put}
@@ -36,7 +36,7 @@ use Rattle.sq_leaf_run.specs.declared.deeds.Deed.TheVariants.{Always, Choice}
 use Rattle.sq_leaf_run.specs.declared.setting.Setting.{Setting}
 use Rattle.sq_leaf_run.specs.Blocks.{IsClearOf, Below, Above, Ahead, AllClear, IsClear, IsMet, LiesIn, IsRise, turn_by_turn}
 use Rattle.sq_leaf_run.specs.Settings.{counters_at, at_turn, all_turns, Places}
-use Rattle.sq_leaf_run.specs.Deeds.{number_at, byte_at, linked, along_links, value_at, put_at_turn, put_or_not, done, all_done, turns_done, HasColumn, IsRoomy, LinkFits, ValueFits, PutFits, MayFit, DeedFits, AreKept}
+use Rattle.sq_leaf_run.specs.Deeds.{number_at, byte_at, linked, along_from, value_at, put_at_turn, put_or_not, done, all_done, turns_done, HasColumn, IsRoomy, LinkFits, ValueFits, PutFits, MayFit, DeedFits, AreKept}
 use Rattle.sq_leaf_run.specs.Values.{AreNumbers, IsValue}
 use Rattle.sq_leaf_run.specs.Plans.{passed, past, block_past, chooses, AimsAt, StaysIn, MayStay, DeedStays, IsPut, IsBranch, IsDeed, IsNext, AreDeeds}
 use Rattle.sq_leaf_run.proofs.Meeting.{stored, side, all_sooner}
@@ -62,12 +62,13 @@ number_kept k old new x j kept has few = go x.line
     go (Ramp a d) = refl
     go Column = get_or-drop x.from new j (pos 0) ∙ (kept.same (x.from + j) (omega (arith, has, few)) ∙ sym (get_or-drop x.from old j (pos 0)))
 
-link_kept : (k : ℕ) (old new : List ℤ) (l : Link) (j : ℕ) (x : ℤ) → AreKept k old new → LinkFits k l → j < 256 → linked new l j x ≡ linked old l j x
-link_kept k old new (Unary op) j x kept fits few = refl
-link_kept k old new (Onto op y) j x kept fits few = ap (binary op x) (number_kept k old new y j kept fits few)
-link_kept k old new (Under op y) j x kept fits few = ap (λ (z : ℤ). binary op z x) (number_kept k old new y j kept fits few)
-link_kept k old new (Least y) j x kept fits few = ap (int_min x) (number_kept k old new y j kept fits few)
-link_kept k old new (Most y) j x kept fits few = ap (int_max x) (number_kept k old new y j kept fits few)
+link_kept : (k : ℕ) (old new : List ℤ) (l : Link) (j : ℕ) (e x : ℤ) → AreKept k old new → LinkFits k l → j < 256 → linked new l j e x ≡ linked old l j e x
+link_kept k old new (Unary op) j e x kept fits few = refl
+link_kept k old new (Onto op y) j e x kept fits few = ap (binary op x) (number_kept k old new y j kept fits few)
+link_kept k old new (Under op y) j e x kept fits few = ap (λ (z : ℤ). binary op z x) (number_kept k old new y j kept fits few)
+link_kept k old new (Least y) j e x kept fits few = ap (int_min x) (number_kept k old new y j kept fits few)
+link_kept k old new (Most y) j e x kept fits few = ap (int_max x) (number_kept k old new y j kept fits few)
+link_kept k old new (Itself op) j e x kept fits few = refl
 
 first_of_all : {A : Type 0} (P : A → Type 0) (x : A) (xs : List A) → All P (x ∷ xs) → P x
 first_of_all P x xs h = h 0 x (omega arith)
@@ -75,16 +76,16 @@ first_of_all P x xs h = h 0 x (omega arith)
 others_of_all : {A : Type 0} (P : A → Type 0) (x : A) (xs : List A) → All P (x ∷ xs) → All P xs
 others_of_all P x xs h = λ k d below. h (suc k) d (omega (arith, below))
 
-links_kept : (k : ℕ) (old new : List ℤ) (ls : List Link) (j : ℕ) (x : ℤ) → AreKept k old new → All (LinkFits k) ls → j < 256 → along_links new ls j x ≡ along_links old ls j x
-links_kept k old new [] j x kept fits few = refl
-links_kept k old new (l ∷ ls) j x kept fits few =
-    ap (along_links new ls j) (link_kept k old new l j x kept (first_of_all (LinkFits k) l ls fits) few)
-    ∙ links_kept k old new ls j (linked old l j x) kept (others_of_all (LinkFits k) l ls fits) few
+links_kept : (k : ℕ) (old new : List ℤ) (ls : List Link) (j : ℕ) (e x : ℤ) → AreKept k old new → All (LinkFits k) ls → j < 256 → along_from new ls j e x ≡ along_from old ls j e x
+links_kept k old new [] j e x kept fits few = refl
+links_kept k old new (l ∷ ls) j e x kept fits few =
+    ap (along_from new ls j e) (link_kept k old new l j e x kept (first_of_all (LinkFits k) l ls fits) few)
+    ∙ links_kept k old new ls j e (linked old l j e x) kept (others_of_all (LinkFits k) l ls fits) few
 
 value_kept : (k n size : ℕ) (old new : List ℤ) (v : Value) (j : ℕ) (c : List ℕ) → AreKept k old new → ValueFits n k size v → j < 256 → value_at new v j c ≡ value_at old v j c
 value_kept k n size old new (value.Known x) j c kept fits few = number_kept k old new x j kept fits few
 value_kept k n size old new (value.Carried r) j c kept fits few =
-    links_kept k old new r.links.items j (load (record { elem = r.elem; at = byte_at r.read j }) c) kept fits.1 few
+    links_kept k old new r.links.items j (load (record { elem = r.elem; at = byte_at r.read j }) c) (load (record { elem = r.elem; at = byte_at r.read j }) c) kept fits.1 few
 
 put_kept : (k n size : ℕ) (old new : List ℤ) (p : Put) (j : ℕ) (c : List ℕ) → AreKept k old new → PutFits n k size p → j < 256 → put_at_turn new p j c ≡ put_at_turn old p j c
 put_kept k n size old new p j c kept fits few =
@@ -116,6 +117,7 @@ link_more k m (Onto op y) less h = omega (arith, less, h)
 link_more k m (Under op y) less h = omega (arith, less, h)
 link_more k m (Least y) less h = omega (arith, less, h)
 link_more k m (Most y) less h = omega (arith, less, h)
+link_more k m (Itself op) less h = tt
 
 value_more : (k m n size : ℕ) (v : Value) → k ≤ m → ValueFits n k size v → ValueFits n m size v
 value_more k m n size (value.Known x) less h = omega (arith, less, h)

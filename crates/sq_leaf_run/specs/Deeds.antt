@@ -4,6 +4,7 @@ use Rattle.std.specs.Int.{int_min, int_max}
 use Rattle.std.specs.List.{All}
 use Rattle.sq_num.specs.declared.Elem.{Elem}
 use Rattle.sq_num.specs.Elements.{width}
+use Rattle.sq_columns.specs.declared.line.Line.TheVariants.{Column}
 use Rattle.sq_columns.specs.Lines.{line_at}
 use Rattle.sq_leaf.specs.Numbers.{is_zero, unary, binary}
 use Rattle.sq_leaf.specs.Source.{assigned}
@@ -11,7 +12,7 @@ use Rattle.sq_leaf.specs.Spots.{load, store}
 use Rattle.sq_leaf_run.specs.declared.block.Rise.{Rise}
 use Rattle.sq_leaf_run.specs.declared.deeds.Numbers.{Numbers}
 use Rattle.sq_leaf_run.specs.declared.deeds.Link.{Link}
-use Rattle.sq_leaf_run.specs.declared.deeds.Link.TheVariants.{Unary, Onto, Under, Least, Most}
+use Rattle.sq_leaf_run.specs.declared.deeds.Link.TheVariants.{Unary, Onto, Under, Least, Most, Itself}
 use Rattle.sq_leaf_run.specs.declared.deeds.Value.{Value}
 use Rattle.sq_leaf_run.specs.declared.deeds.Value.TheVariants as value
 use Rattle.sq_leaf_run.specs.declared.deeds.Put.{Put}
@@ -23,21 +24,30 @@ use Rattle.sq_leaf_run.specs.declared.deeds.Deed.TheVariants.{Always, Choice}
 abbrev pub number_at : List ℤ → Numbers → ℕ → ℤ
 number_at columns x j = line_at x.line (drop x.from columns) j
 
+-- those of the column that begins with this number of all columns
+abbrev pub column : ℕ → Numbers
+column from = record { line = Column; from = from }
+
 -- the first byte of a turn's element
 abbrev pub byte_at : Rise → ℕ → ℕ
 byte_at r j = r.at + r.step * j
 
--- what an operator makes of a number
-abbrev pub linked : List ℤ → Link → ℕ → ℤ → ℤ
-linked columns (Unary op) j x = unary op x
-linked columns (Onto op y) j x = binary op x (number_at columns y j)
-linked columns (Under op y) j x = binary op (number_at columns y j) x
-linked columns (Least y) j x = int_min x (number_at columns y j)
-linked columns (Most y) j x = int_max x (number_at columns y j)
+-- what an operator makes of a number, where operators began with the first
+abbrev pub linked : List ℤ → Link → ℕ → ℤ → ℤ → ℤ
+linked columns (Unary op) j first x = unary op x
+linked columns (Onto op y) j first x = binary op x (number_at columns y j)
+linked columns (Under op y) j first x = binary op (number_at columns y j) x
+linked columns (Least y) j first x = int_min x (number_at columns y j)
+linked columns (Most y) j first x = int_max x (number_at columns y j)
+linked columns (Itself op) j first x = binary op x first
 
+abbrev pub along_from : List ℤ → List Link → ℕ → ℤ → ℤ → ℤ
+along_from columns [] j first x = x
+along_from columns (l ∷ ls) j first x = along_from columns ls j first (linked columns l j first x)
+
+-- what they make of the first
 abbrev pub along_links : List ℤ → List Link → ℕ → ℤ → ℤ
-along_links columns [] j x = x
-along_links columns (l ∷ ls) j x = along_links columns ls j (linked columns l j x)
+along_links columns ls j first = along_from columns ls j first first
 
 -- the number that turn j puts, by the bytes that it meets
 abbrev pub value_at : List ℤ → Value → ℕ → List ℕ → ℤ
@@ -86,6 +96,7 @@ LinkFits most (Onto op y) = HasColumn most y
 LinkFits most (Under op y) = HasColumn most y
 LinkFits most (Least y) = HasColumn most y
 LinkFits most (Most y) = HasColumn most y
+LinkFits most (Itself op) = Unit
 
 abbrev pub ValueFits : ℕ → ℕ → ℕ → Value → Type 0
 ValueFits n most size (value.Known x) = HasColumn most x

@@ -6,14 +6,12 @@ ghost use Rattle.sq_ast.specs.declared.leaf.AssignOp.TheVariants as ops;
 ghost use Rattle.sq_leaf_run.specs.Deeds.{LinkFits, IsRoomy};
 ghost use Rattle.sq_leaf_run.specs.Loops.{in_turn, carry_turn};
 
-use crate::block::Rise;
 use crate::chain::chain;
-use crate::deeds::{Carried, Link, Put};
+use crate::deeds::{Carried, Link, Put, Row};
 use crate::puts::put;
 use crate::spot::load;
 use crate::turn::{along_links, byte_at};
 use sq_ast::AssignOp;
-use sq_num::Elem;
 
 /// Each turn puts what the operators make of an element as it meets it.
 pub(crate) fn carry(put: &Put, carried: &Carried, columns: &[i64], turns: usize, bytes: &mut [u8])
@@ -24,12 +22,18 @@ pub(crate) fn carry(put: &Put, carried: &Carried, columns: &[i64], turns: usize,
     ensures { bytes.new ≡ in_turn (carry_turn columns.now put.now.elem put.now.op put.now.to carried.now.elem
         carried.now.read carried.now.links.items) turns 0 bytes.old }
 {
+    let to = Row {
+        elem: put.elem,
+        rise: put.to,
+    };
+    let from = Row {
+        elem: carried.elem,
+        rise: carried.read,
+    };
     carry_along(
-        put.elem,
+        to,
         put.op,
-        put.to,
-        carried.elem,
-        carried.read,
+        from,
         carried.links.as_slice(),
         columns,
         turns,
@@ -38,70 +42,69 @@ pub(crate) fn carry(put: &Put, carried: &Carried, columns: &[i64], turns: usize,
 }
 
 fn carry_along(
-    elem: Elem,
+    to: Row,
     op: AssignOp,
-    to: Rise,
-    from: Elem,
-    read: Rise,
+    from: Row,
     links: &[Link],
     columns: &[i64],
     turns: usize,
     bytes: &mut [u8],
 )
     requires few { turns ≤ 256 }
-    requires to { IsRoomy turns (length bytes.old) elem to }
-    requires read { IsRoomy turns (length bytes.old) from read }
+    requires to { IsRoomy turns (length bytes.old) to.elem to.rise }
+    requires read { IsRoomy turns (length bytes.old) from.elem from.rise }
     requires links { All (LinkFits (length columns.now)) links.now }
-    ensures { bytes.new ≡ in_turn (carry_turn columns.now elem op to from read links.now) turns 0 bytes.old }
+    ensures { bytes.new ≡ in_turn (carry_turn columns.now to.elem op to.rise from.elem from.rise links.now) turns 0
+        bytes.old }
 {
-    if turns != 0 && is_next(elem, op, to, from, read) {
-        chain(elem, read, links, columns, turns, bytes);
+    if turns != 0 && is_next(to, op, from) {
+        chain(from, links, columns, turns, bytes);
     } else {
-        carry_each(elem, op, to, from, read, links, columns, turns, bytes);
+        carry_each(to, op, from, links, columns, turns, bytes);
     }
 }
 
 /// Whether each turn puts the element that the next one reads.
-fn is_next(elem: Elem, op: AssignOp, to: Rise, from: Elem, read: Rise) -> bool
-    requires near { read.at < 2 ^ 62 }
-    requires slow { read.step ≤ 2 ^ 32 }
-    ensures elem { result ≡ true → from ≡ elem }
+fn is_next(to: Row, op: AssignOp, from: Row) -> bool
+    requires near { from.rise.at < 2 ^ 62 }
+    requires slow { from.rise.step ≤ 2 ^ 32 }
+    ensures elem { result ≡ true → from.elem ≡ to.elem }
     ensures op { result ≡ true → op ≡ ops.Set }
-    ensures at { result ≡ true → to.at ≡ read.at + read.step }
-    ensures step { result ≡ true → to.step ≡ read.step }
+    ensures at { result ≡ true → to.rise.at ≡ from.rise.at + from.rise.step }
+    ensures step { result ≡ true → to.rise.step ≡ from.rise.step }
 {
-    elem == from && op == AssignOp::Set && to.at == read.at + read.step && to.step == read.step
+    to.elem == from.elem
+        && op == AssignOp::Set
+        && to.rise.at == from.rise.at + from.rise.step
+        && to.rise.step == from.rise.step
 }
 
 fn carry_each(
-    elem: Elem,
+    to: Row,
     op: AssignOp,
-    to: Rise,
-    from: Elem,
-    read: Rise,
+    from: Row,
     links: &[Link],
     columns: &[i64],
     turns: usize,
     bytes: &mut [u8],
 )
     requires few { turns ≤ 256 }
-    requires to { IsRoomy turns (length bytes.old) elem to }
-    requires read { IsRoomy turns (length bytes.old) from read }
+    requires to { IsRoomy turns (length bytes.old) to.elem to.rise }
+    requires read { IsRoomy turns (length bytes.old) from.elem from.rise }
     requires links { All (LinkFits (length columns.now)) links.now }
-    ensures { bytes.new ≡ in_turn (carry_turn columns.now elem op to from read links.now) turns 0 bytes.old }
+    ensures { bytes.new ≡ in_turn (carry_turn columns.now to.elem op to.rise from.elem from.rise links.now) turns 0
+        bytes.old }
 {
     for j in 0..turns {
-        carry_one(elem, op, to, from, read, links, columns, turns, j, bytes);
+        carry_one(to, op, from, links, columns, turns, j, bytes);
     }
 }
 
 #[inline(always)]
 fn carry_one(
-    elem: Elem,
+    to: Row,
     op: AssignOp,
-    to: Rise,
-    from: Elem,
-    read: Rise,
+    from: Row,
     links: &[Link],
     columns: &[i64],
     turns: usize,
@@ -110,12 +113,18 @@ fn carry_one(
 )
     requires few { turns ≤ 256 }
     requires here { j < turns }
-    requires to { IsRoomy turns (length bytes.old) elem to }
-    requires read { IsRoomy turns (length bytes.old) from read }
+    requires to { IsRoomy turns (length bytes.old) to.elem to.rise }
+    requires read { IsRoomy turns (length bytes.old) from.elem from.rise }
     requires links { All (LinkFits (length columns.now)) links.now }
-    ensures { bytes.new ≡ carry_turn columns.now elem op to from read links.now j bytes.old }
+    ensures { bytes.new ≡ carry_turn columns.now to.elem op to.rise from.elem from.rise links.now j bytes.old }
 {
-    let first = load(from, byte_at(from, read, turns, j, bytes.len()), bytes);
-    let x = along_links(links, first, columns, j);
-    put(elem, op, byte_at(elem, to, turns, j, bytes.len()), x, bytes);
+    let at = byte_at(from.elem, from.rise, turns, j, bytes.len());
+    let x = along_links(links, load(from.elem, at, bytes), columns, j);
+    put(
+        to.elem,
+        op,
+        byte_at(to.elem, to.rise, turns, j, bytes.len()),
+        x,
+        bytes,
+    );
 }

@@ -1,10 +1,10 @@
 //! Numbers of turns that depend on a test.
 
-ghost use Rattle.std.specs.Prelude.{◌≡◌, ◌+◌, ◌^◌, ◌<◌, ◌≤◌, ℕ, pos, true, length, get_or};
+ghost use Rattle.std.specs.Prelude.{◌≡◌, ◌+◌, ◌^◌, ◌<◌, ◌≤◌, ℕ, true, length};
 ghost use Rattle.sq_leaf_run.specs.Deeds.{HasColumn};
 ghost use Rattle.sq_leaf_run.specs.Deeds as spec;
 ghost use Rattle.sq_leaf_run.specs.Loops as loops;
-ghost use Rattle.sq_leaf_run.specs.Loops.{IsReadFirst};
+ghost use Rattle.sq_leaf_run.specs.Loops.{IsReadFirst, MayChoose, AreChosen};
 
 use crate::deeds::Numbers;
 use crate::turn::number_at;
@@ -24,28 +24,11 @@ pub(crate) fn is_read_first(at: usize, x: Numbers) -> bool
 /// Puts into the test's column, at each turn, the second number where the test is 0, else the first.
 pub(crate) fn choose(test: Numbers, x: Numbers, y: Numbers, columns: &mut [i64], turns: usize)
     requires few { turns ≤ 256 }
-    requires test { HasColumn (length columns.old) test }
-    requires left { HasColumn (length columns.old) x }
-    requires right { HasColumn (length columns.old) y }
-    requires left_first { IsReadFirst test.from x }
-    requires right_first { IsReadFirst test.from y }
-    ensures size { length columns.new ≡ length columns.old }
-    ensures each { (j : ℕ) → j < turns → get_or columns.new (test.from + j) (pos 0) ≡ loops.chosen
-        (spec.number_at columns.old test j) (spec.number_at columns.old x j) (spec.number_at columns.old y j) }
+    requires may { MayChoose (length columns.old) test x y }
+    ensures { AreChosen turns test x y columns.old columns.new }
 {
     match test.line {
-        Line::Column => {
-            choose_from(
-                Numbers {
-                    line: Line::Column,
-                    from: test.from,
-                },
-                x,
-                y,
-                columns,
-                turns,
-            );
-        }
+        Line::Column => choose_from(Numbers::column(test.from), x, y, columns, turns),
         _ => choose_each(test, x, y, columns, turns),
     }
 }
@@ -54,39 +37,14 @@ pub(crate) fn choose(test: Numbers, x: Numbers, y: Numbers, columns: &mut [i64],
 #[inline(always)]
 fn choose_from(test: Numbers, x: Numbers, y: Numbers, columns: &mut [i64], turns: usize)
     requires few { turns ≤ 256 }
-    requires test { HasColumn (length columns.old) test }
-    requires left { HasColumn (length columns.old) x }
-    requires right { HasColumn (length columns.old) y }
-    requires left_first { IsReadFirst test.from x }
-    requires right_first { IsReadFirst test.from y }
-    ensures size { length columns.new ≡ length columns.old }
-    ensures each { (j : ℕ) → j < turns → get_or columns.new (test.from + j) (pos 0) ≡ loops.chosen
-        (spec.number_at columns.old test j) (spec.number_at columns.old x j) (spec.number_at columns.old y j) }
+    requires may { MayChoose (length columns.old) test x y }
+    ensures { AreChosen turns test x y columns.old columns.new }
 {
     match x.line {
-        Line::Column => {
-            choose_right(
-                test,
-                Numbers {
-                    line: Line::Column,
-                    from: x.from,
-                },
-                y,
-                columns,
-                turns,
-            );
-        }
+        Line::Column => choose_right(test, Numbers::column(x.from), y, columns, turns),
         Line::Same(n) => {
-            choose_right(
-                test,
-                Numbers {
-                    line: Line::Same(n),
-                    from: x.from,
-                },
-                y,
-                columns,
-                turns,
-            );
+            let line = Line::Same(n);
+            choose_right(test, Numbers { line, ..x }, y, columns, turns);
         }
         Line::Ramp(_, _) => choose_each(test, x, y, columns, turns),
     }
@@ -95,39 +53,14 @@ fn choose_from(test: Numbers, x: Numbers, y: Numbers, columns: &mut [i64], turns
 #[inline(always)]
 fn choose_right(test: Numbers, x: Numbers, y: Numbers, columns: &mut [i64], turns: usize)
     requires few { turns ≤ 256 }
-    requires test { HasColumn (length columns.old) test }
-    requires left { HasColumn (length columns.old) x }
-    requires right { HasColumn (length columns.old) y }
-    requires left_first { IsReadFirst test.from x }
-    requires right_first { IsReadFirst test.from y }
-    ensures size { length columns.new ≡ length columns.old }
-    ensures each { (j : ℕ) → j < turns → get_or columns.new (test.from + j) (pos 0) ≡ loops.chosen
-        (spec.number_at columns.old test j) (spec.number_at columns.old x j) (spec.number_at columns.old y j) }
+    requires may { MayChoose (length columns.old) test x y }
+    ensures { AreChosen turns test x y columns.old columns.new }
 {
     match y.line {
-        Line::Column => {
-            choose_each(
-                test,
-                x,
-                Numbers {
-                    line: Line::Column,
-                    from: y.from,
-                },
-                columns,
-                turns,
-            );
-        }
+        Line::Column => choose_each(test, x, Numbers::column(y.from), columns, turns),
         Line::Same(n) => {
-            choose_each(
-                test,
-                x,
-                Numbers {
-                    line: Line::Same(n),
-                    from: y.from,
-                },
-                columns,
-                turns,
-            );
+            let line = Line::Same(n);
+            choose_each(test, x, Numbers { line, ..y }, columns, turns);
         }
         Line::Ramp(_, _) => choose_each(test, x, y, columns, turns),
     }
@@ -136,14 +69,8 @@ fn choose_right(test: Numbers, x: Numbers, y: Numbers, columns: &mut [i64], turn
 #[inline(always)]
 fn choose_each(test: Numbers, x: Numbers, y: Numbers, columns: &mut [i64], turns: usize)
     requires few { turns ≤ 256 }
-    requires test { HasColumn (length columns.old) test }
-    requires left { HasColumn (length columns.old) x }
-    requires right { HasColumn (length columns.old) y }
-    requires left_first { IsReadFirst test.from x }
-    requires right_first { IsReadFirst test.from y }
-    ensures size { length columns.new ≡ length columns.old }
-    ensures each { (j : ℕ) → j < turns → get_or columns.new (test.from + j) (pos 0) ≡ loops.chosen
-        (spec.number_at columns.old test j) (spec.number_at columns.old x j) (spec.number_at columns.old y j) }
+    requires may { MayChoose (length columns.old) test x y }
+    ensures { AreChosen turns test x y columns.old columns.new }
 {
     for j in 0..turns {
         columns[test.from + j] = chosen_at(test, x, y, columns, j);

@@ -9,11 +9,32 @@ use sq_num::Elem;
 /// How many operators may stand behind an element that turns carry.
 pub(crate) const LINKS: usize = 4;
 
+/// The elements of a type whose first bytes go up by the same step from turn to turn.
+#[derive(Clone, Copy)]
+pub(crate) struct Row {
+    pub elem: Elem,
+    pub rise: Rise,
+}
+
 /// The numbers of a line; its column begins with this number of all columns.
 #[derive(Clone, Copy)]
 pub(crate) struct Numbers {
     pub line: Line,
     pub from: usize,
+}
+
+impl Numbers {
+    ghost use Rattle.std.specs.Prelude.{◌≡◌};
+    ghost use Rattle.sq_leaf_run.specs.Deeds as spec;
+
+    /// Those of the column that begins with this number of all columns.
+    #[inline(always)]
+    pub fn column(from: usize) -> Numbers
+        ensures { result ≡ spec.column from }
+    {
+        let line = Line::Column;
+        Numbers { line, from }
+    }
 }
 
 /// An operator, and its other side.
@@ -26,17 +47,22 @@ pub(crate) enum Link {
     Under(BinOp, Numbers),
     Least(Numbers),
     Most(Numbers),
+    /// The number so far stands on the left, the element with which the operators began on the right.
+    Itself(BinOp),
 }
 
+/// One that changes nothing.
 impl Default for Link {
-    ghost use Rattle.std.specs.Prelude.{◌≡◌};
-    ghost use Rattle.sq_ast.specs.declared.expr.UnOp.TheVariants as unary;
+    ghost use Rattle.std.specs.Prelude.{◌≡◌, pos};
+    ghost use Rattle.sq_ast.specs.declared.expr.BinOp.TheVariants as binary;
+    ghost use Rattle.sq_columns.specs.declared.line.Line.TheVariants as line;
     ghost use Rattle.sq_leaf_run.specs.declared.deeds.Link.TheVariants as link;
 
-    ghost is_default = { λ l. l ≡ link.Unary unary.Inv };
+    ghost is_default = { λ l. l ≡ link.Onto binary.Add (record { line = line.Same (pos 0); from = 0 }) };
 
     fn default() -> Link {
-        Link::Unary(UnOp::Inv)
+        let line = Line::Same(0);
+        Link::Onto(BinOp::Add, Numbers { line, from: 0 })
     }
 }
 
@@ -64,6 +90,16 @@ pub(crate) struct Put {
     pub value: Value,
 }
 
+/// Assigned numbers, and a test of which it depends at each turn whether they are assigned: where it is 0, or where it
+/// isn't.
+#[derive(Clone, Copy)]
+pub(crate) struct Tested {
+    pub at_zero: bool,
+    pub test: Numbers,
+    pub op: AssignOp,
+    pub x: Numbers,
+}
+
 /// A statement.
 #[derive(Drop)]
 pub(crate) enum Deed {
@@ -72,6 +108,7 @@ pub(crate) enum Deed {
     Choice(Numbers, Option<Put>, Option<Put>),
 }
 
+/// One that puts nothing.
 impl Default for Deed {
     ghost use Rattle.std.specs.Prelude.{◌≡◌, None, pos};
     ghost use Rattle.sq_columns.specs.declared.line.Line.TheVariants as line;
@@ -80,10 +117,7 @@ impl Default for Deed {
     ghost is_default = { λ d. d ≡ deed.Choice (record { line = line.Same (pos 0); from = 0 }) None None };
 
     fn default() -> Deed {
-        let numbers = Numbers {
-            line: Line::Same(0),
-            from: 0,
-        };
-        Deed::Choice(numbers, None, None)
+        let line = Line::Same(0);
+        Deed::Choice(Numbers { line, from: 0 }, None, None)
     }
 }

@@ -43,7 +43,7 @@ fn is_link_first(at: usize, link: Link) -> bool
     ensures { result ≡ true → IsLinkFirst at link }
 {
     match link {
-        Link::Unary(_) => true,
+        Link::Unary(_) | Link::Itself(_) => true,
         Link::Onto(_, y) => is_read_first(at, y),
         Link::Under(_, y) => is_read_first(at, y),
         Link::Least(y) => is_read_first(at, y),

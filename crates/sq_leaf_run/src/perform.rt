@@ -11,13 +11,12 @@ ghost use Rattle.sq_leaf_run.specs.Loops.{IsReadFirst, only_where};
 
 use crate::carry::carry;
 use crate::choose::{choose, is_read_first};
-use crate::deeds::{Deed, Numbers, Put, Value};
+use crate::deeds::{Deed, Numbers, Put, Row, Tested, Value};
 use crate::forward::{forward, is_forward};
-use crate::puts::put_rises;
+use crate::puts::put_row;
 use crate::reach::{are_puts_apart, are_targets_apart, is_alone};
 use crate::tested::put_where;
 use crate::turn::{do_all, do_put, number_at};
-use sq_columns::Line;
 
 /// Performs the deeds at each turn, in their order. The columns are used up.
 ///
@@ -76,11 +75,7 @@ fn two(first: &Put, second: &Put, columns: &mut [i64], turns: usize, bytes: &mut
                 {
                     put_known(first, *x, columns, turns, bytes);
                     forward(first.elem, *x, carried, columns, turns);
-                    let numbers = Numbers {
-                        line: Line::Column,
-                        from: x.from,
-                    };
-                    put_known(second, numbers, columns, turns, bytes);
+                    put_known(second, Numbers::column(x.from), columns, turns, bytes);
                 } else {
                     two_each(first, second, columns, turns, bytes);
                 }
@@ -158,15 +153,12 @@ fn put_known(put: &Put, x: Numbers, columns: &[i64], turns: usize, bytes: &mut [
     ensures { bytes.new ≡ puts put.now.elem (assigned put.now.op) (byte_at put.now.to) (spec.number_at columns.now x)
         turns 0 bytes.old }
 {
-    put_rises(
-        put.elem,
-        put.op,
-        put.to,
-        x.line,
-        column_from(columns, x.from),
-        turns,
-        bytes,
-    );
+    let row = Row {
+        elem: put.elem,
+        rise: put.to,
+    };
+    let numbers = column_from(columns, x.from);
+    put_row(put.op, row, x.line, numbers, turns, bytes);
 }
 
 /// The column that begins with this number of all columns.
@@ -263,11 +255,7 @@ fn either(
             Value::Known(y) => {
                 if may_choose(test, first, *x, second, *y) {
                     choose(test, *x, *y, columns, turns);
-                    let chosen = Numbers {
-                        line: Line::Column,
-                        from: test.from,
-                    };
-                    put_known(first, chosen, columns, turns, bytes);
+                    put_known(first, Numbers::column(test.from), columns, turns, bytes);
                 } else {
                     sides(test, first, second, columns, turns, bytes);
                 }
@@ -367,9 +355,17 @@ fn only(at_zero: bool, test: Numbers, put: &Put, columns: &[i64], turns: usize, 
     match &put.value {
         Value::Known(x) => {
             are_bytes(bytes);
-            put_where(
-                at_zero, test, put.elem, put.op, put.to, *x, columns, turns, bytes,
-            );
+            let row = Row {
+                elem: put.elem,
+                rise: put.to,
+            };
+            let it = Tested {
+                at_zero,
+                test,
+                op: put.op,
+                x: *x,
+            };
+            put_where(row, it, columns, turns, bytes);
         }
         Value::Carried(_) => only_each(at_zero, test, put, columns, turns, bytes),
     }

@@ -7,9 +7,12 @@ ghost use Rattle.sq_leaf.specs.Source as source;
 ghost use Rattle.sq_leaf.specs.Spots as running;
 ghost use Rattle.sq_columns.specs.Lines.{line_at, first_byte};
 ghost use Rattle.sq_leaf_run.specs.Blocks.{LiesIn, puts};
+ghost use Rattle.sq_leaf_run.specs.Deeds.{IsRoomy, byte_at};
 
 use crate::block::{Rise, rise_of};
+use crate::deeds::Row;
 use crate::spot::{load, store};
+use crate::turn::byte_at;
 use sq_ast::AssignOp;
 use sq_columns::Line;
 use sq_num::{Elem, width};
@@ -57,109 +60,98 @@ pub(crate) fn put_all(
         bytes.old }
 {
     match rise_of(spots) {
-        Some(rise) => put_rises(elem, op, rise, x, numbers, turns, bytes),
+        Some(rise) => put_row(op, Row { elem, rise }, x, numbers, turns, bytes),
         None => put_each(elem, op, spots, places, x, numbers, turns, bytes),
     }
 }
 
 /// Each turn's number is put at its element, and the elements go up by the same step.
-pub(crate) fn put_rises(
-    elem: Elem,
+pub(crate) fn put_row(
     op: AssignOp,
-    rise: Rise,
+    row: Row,
     x: Line,
     numbers: &[i64],
     turns: usize,
     bytes: &mut [u8],
 )
     requires few { turns ≤ 256 }
-    requires near { rise.at < 2 ^ 62 }
-    requires slow { rise.step ≤ 2 ^ 32 }
     requires numbers { turns ≤ length numbers.now }
-    requires room { (j : ℕ) → j < turns → rise.at + rise.step * j + width elem ≤ length bytes.old }
-    ensures { bytes.new ≡ puts elem (source.assigned op) (λ j. rise.at + rise.step * j) (line_at x numbers.now) turns 0
+    requires room { IsRoomy turns (length bytes.old) row.elem row.rise }
+    ensures { bytes.new ≡ puts row.elem (source.assigned op) (byte_at row.rise) (line_at x numbers.now) turns 0
         bytes.old }
 {
     match op {
-        AssignOp::Set => put_set(elem, rise, x, numbers, turns, bytes),
-        AssignOp::Add => put_add(elem, rise, x, numbers, turns, bytes),
-        AssignOp::Sub => put_sub(elem, rise, x, numbers, turns, bytes),
-        AssignOp::Mul => put_mul(elem, rise, x, numbers, turns, bytes),
+        AssignOp::Set => put_set(row, x, numbers, turns, bytes),
+        AssignOp::Add => put_add(row, x, numbers, turns, bytes),
+        AssignOp::Sub => put_sub(row, x, numbers, turns, bytes),
+        AssignOp::Mul => put_mul(row, x, numbers, turns, bytes),
     }
 }
 
 // A function for each operator: `inline(always)` counts for nothing on what would grow large, as all of them in one.
 #[inline(never)]
-fn put_set(elem: Elem, rise: Rise, x: Line, numbers: &[i64], turns: usize, bytes: &mut [u8])
+fn put_set(row: Row, x: Line, numbers: &[i64], turns: usize, bytes: &mut [u8])
     requires few { turns ≤ 256 }
-    requires near { rise.at < 2 ^ 62 }
-    requires slow { rise.step ≤ 2 ^ 32 }
     requires numbers { turns ≤ length numbers.now }
-    requires room { (j : ℕ) → j < turns → rise.at + rise.step * j + width elem ≤ length bytes.old }
-    ensures { bytes.new ≡ puts elem (source.assigned ops.Set) (λ j. rise.at + rise.step * j) (line_at x numbers.now)
-        turns 0 bytes.old }
+    requires room { IsRoomy turns (length bytes.old) row.elem row.rise }
+    ensures { bytes.new ≡ puts row.elem (source.assigned ops.Set) (byte_at row.rise) (line_at x numbers.now) turns 0
+        bytes.old }
 {
-    match elem {
-        Elem::Byte => put_rise(Elem::Byte, AssignOp::Set, rise, x, numbers, turns, bytes),
-        Elem::Int => put_rise(Elem::Int, AssignOp::Set, rise, x, numbers, turns, bytes),
-        Elem::Long => put_rise(Elem::Long, AssignOp::Set, rise, x, numbers, turns, bytes),
-    }
+    put_types(AssignOp::Set, row, x, numbers, turns, bytes);
 }
 
 #[inline(never)]
-fn put_add(elem: Elem, rise: Rise, x: Line, numbers: &[i64], turns: usize, bytes: &mut [u8])
+fn put_add(row: Row, x: Line, numbers: &[i64], turns: usize, bytes: &mut [u8])
     requires few { turns ≤ 256 }
-    requires near { rise.at < 2 ^ 62 }
-    requires slow { rise.step ≤ 2 ^ 32 }
     requires numbers { turns ≤ length numbers.now }
-    requires room { (j : ℕ) → j < turns → rise.at + rise.step * j + width elem ≤ length bytes.old }
-    ensures { bytes.new ≡ puts elem (source.assigned ops.Add) (λ j. rise.at + rise.step * j) (line_at x numbers.now)
-        turns 0 bytes.old }
+    requires room { IsRoomy turns (length bytes.old) row.elem row.rise }
+    ensures { bytes.new ≡ puts row.elem (source.assigned ops.Add) (byte_at row.rise) (line_at x numbers.now) turns 0
+        bytes.old }
 {
-    match elem {
-        Elem::Byte => put_rise(Elem::Byte, AssignOp::Add, rise, x, numbers, turns, bytes),
-        Elem::Int => put_rise(Elem::Int, AssignOp::Add, rise, x, numbers, turns, bytes),
-        Elem::Long => put_rise(Elem::Long, AssignOp::Add, rise, x, numbers, turns, bytes),
-    }
+    put_types(AssignOp::Add, row, x, numbers, turns, bytes);
 }
 
 #[inline(never)]
-fn put_sub(elem: Elem, rise: Rise, x: Line, numbers: &[i64], turns: usize, bytes: &mut [u8])
+fn put_sub(row: Row, x: Line, numbers: &[i64], turns: usize, bytes: &mut [u8])
     requires few { turns ≤ 256 }
-    requires near { rise.at < 2 ^ 62 }
-    requires slow { rise.step ≤ 2 ^ 32 }
     requires numbers { turns ≤ length numbers.now }
-    requires room { (j : ℕ) → j < turns → rise.at + rise.step * j + width elem ≤ length bytes.old }
-    ensures { bytes.new ≡ puts elem (source.assigned ops.Sub) (λ j. rise.at + rise.step * j) (line_at x numbers.now)
-        turns 0 bytes.old }
+    requires room { IsRoomy turns (length bytes.old) row.elem row.rise }
+    ensures { bytes.new ≡ puts row.elem (source.assigned ops.Sub) (byte_at row.rise) (line_at x numbers.now) turns 0
+        bytes.old }
 {
-    match elem {
-        Elem::Byte => put_rise(Elem::Byte, AssignOp::Sub, rise, x, numbers, turns, bytes),
-        Elem::Int => put_rise(Elem::Int, AssignOp::Sub, rise, x, numbers, turns, bytes),
-        Elem::Long => put_rise(Elem::Long, AssignOp::Sub, rise, x, numbers, turns, bytes),
-    }
+    put_types(AssignOp::Sub, row, x, numbers, turns, bytes);
 }
 
 #[inline(never)]
-fn put_mul(elem: Elem, rise: Rise, x: Line, numbers: &[i64], turns: usize, bytes: &mut [u8])
+fn put_mul(row: Row, x: Line, numbers: &[i64], turns: usize, bytes: &mut [u8])
     requires few { turns ≤ 256 }
-    requires near { rise.at < 2 ^ 62 }
-    requires slow { rise.step ≤ 2 ^ 32 }
     requires numbers { turns ≤ length numbers.now }
-    requires room { (j : ℕ) → j < turns → rise.at + rise.step * j + width elem ≤ length bytes.old }
-    ensures { bytes.new ≡ puts elem (source.assigned ops.Mul) (λ j. rise.at + rise.step * j) (line_at x numbers.now)
-        turns 0 bytes.old }
+    requires room { IsRoomy turns (length bytes.old) row.elem row.rise }
+    ensures { bytes.new ≡ puts row.elem (source.assigned ops.Mul) (byte_at row.rise) (line_at x numbers.now) turns 0
+        bytes.old }
 {
-    match elem {
-        Elem::Byte => put_rise(Elem::Byte, AssignOp::Mul, rise, x, numbers, turns, bytes),
-        Elem::Int => put_rise(Elem::Int, AssignOp::Mul, rise, x, numbers, turns, bytes),
-        Elem::Long => put_rise(Elem::Long, AssignOp::Mul, rise, x, numbers, turns, bytes),
-    }
+    put_types(AssignOp::Mul, row, x, numbers, turns, bytes);
 }
 
-/// Rows and single elements by loops of their own.
+/// Each type by loops of its own.
 #[inline(always)]
-fn put_rise(
+fn put_types(op: AssignOp, row: Row, x: Line, numbers: &[i64], turns: usize, bytes: &mut [u8])
+    requires few { turns ≤ 256 }
+    requires numbers { turns ≤ length numbers.now }
+    requires room { IsRoomy turns (length bytes.old) row.elem row.rise }
+    ensures { bytes.new ≡ puts row.elem (source.assigned op) (byte_at row.rise) (line_at x numbers.now) turns 0
+        bytes.old }
+{
+    match row.elem {
+        Elem::Byte => put_steps(Elem::Byte, op, row.rise, x, numbers, turns, bytes),
+        Elem::Int => put_steps(Elem::Int, op, row.rise, x, numbers, turns, bytes),
+        Elem::Long => put_steps(Elem::Long, op, row.rise, x, numbers, turns, bytes),
+    }
+}
+
+/// Elements beside one another, and a single one, by loops of their own.
+#[inline(always)]
+fn put_steps(
     elem: Elem,
     op: AssignOp,
     rise: Rise,
@@ -169,68 +161,71 @@ fn put_rise(
     bytes: &mut [u8],
 )
     requires few { turns ≤ 256 }
-    requires near { rise.at < 2 ^ 62 }
-    requires slow { rise.step ≤ 2 ^ 32 }
     requires numbers { turns ≤ length numbers.now }
-    requires room { (j : ℕ) → j < turns → rise.at + rise.step * j + width elem ≤ length bytes.old }
-    ensures { bytes.new ≡ puts elem (source.assigned op) (λ j. rise.at + rise.step * j) (line_at x numbers.now) turns 0
+    requires room { IsRoomy turns (length bytes.old) elem rise }
+    ensures { bytes.new ≡ puts elem (source.assigned op) (byte_at rise) (line_at x numbers.now) turns 0
         bytes.old }
 {
+    let wide = width(elem);
     if rise.step == 0 {
-        put_steps(elem, op, rise.at, 0, x, numbers, turns, bytes);
-    } else if rise.step == width(elem) {
-        put_steps(elem, op, rise.at, width(elem), x, numbers, turns, bytes);
+        put_line(elem, op, Rise { step: 0, ..rise }, x, numbers, turns, bytes);
+    } else if rise.step == wide {
+        put_line(
+            elem,
+            op,
+            Rise { step: wide, ..rise },
+            x,
+            numbers,
+            turns,
+            bytes,
+        );
     } else {
-        put_steps(elem, op, rise.at, rise.step, x, numbers, turns, bytes);
+        put_line(elem, op, rise, x, numbers, turns, bytes);
     }
 }
 
+/// The numbers of a column by a loop of their own.
 #[inline(always)]
-fn put_steps(
+fn put_line(
     elem: Elem,
     op: AssignOp,
-    at: usize,
-    step: usize,
+    rise: Rise,
     x: Line,
     numbers: &[i64],
     turns: usize,
     bytes: &mut [u8],
 )
     requires few { turns ≤ 256 }
-    requires near { at < 2 ^ 62 }
-    requires slow { step ≤ 2 ^ 32 }
     requires numbers { turns ≤ length numbers.now }
-    requires room { (j : ℕ) → j < turns → at + step * j + width elem ≤ length bytes.old }
-    ensures { bytes.new ≡ puts elem (source.assigned op) (λ j. at + step * j) (line_at x numbers.now) turns 0
+    requires room { IsRoomy turns (length bytes.old) elem rise }
+    ensures { bytes.new ≡ puts elem (source.assigned op) (byte_at rise) (line_at x numbers.now) turns 0
         bytes.old }
 {
     match x {
-        Line::Column => put_column(elem, op, at, step, Line::Column, numbers, turns, bytes),
-        x => put_column(elem, op, at, step, x, numbers, turns, bytes),
+        Line::Column => put_loop(elem, op, rise, Line::Column, numbers, turns, bytes),
+        _ => put_loop(elem, op, rise, x, numbers, turns, bytes),
     }
 }
 
 #[inline(always)]
-fn put_column(
+fn put_loop(
     elem: Elem,
     op: AssignOp,
-    at: usize,
-    step: usize,
+    rise: Rise,
     x: Line,
     numbers: &[i64],
     turns: usize,
     bytes: &mut [u8],
 )
     requires few { turns ≤ 256 }
-    requires near { at < 2 ^ 62 }
-    requires slow { step ≤ 2 ^ 32 }
     requires numbers { turns ≤ length numbers.now }
-    requires room { (j : ℕ) → j < turns → at + step * j + width elem ≤ length bytes.old }
-    ensures { bytes.new ≡ puts elem (source.assigned op) (λ j. at + step * j) (line_at x numbers.now) turns 0
+    requires room { IsRoomy turns (length bytes.old) elem rise }
+    ensures { bytes.new ≡ puts elem (source.assigned op) (byte_at rise) (line_at x numbers.now) turns 0
         bytes.old }
 {
     for j in 0..turns {
-        put(elem, op, at + step * j, x.at(numbers, j), bytes);
+        let at = byte_at(elem, rise, turns, j, bytes.len());
+        put(elem, op, at, x.at(numbers, j), bytes);
     }
 }
 

@@ -39,12 +39,12 @@ pub(crate) fn byte_at(elem: Elem, rise: Rise, turns: usize, j: usize, size: usiz
     rise.at + rise.step * j
 }
 
-/// What an operator makes of a number.
+/// What an operator makes of a number, where operators began with the first.
 #[inline(always)]
-pub(crate) fn linked(link: Link, x: i64, columns: &[i64], j: usize) -> i64
+pub(crate) fn linked(link: Link, first: i64, x: i64, columns: &[i64], j: usize) -> i64
     requires few { j < 256 }
     requires room { LinkFits (length columns.now) link }
-    ensures { result ≡ spec.linked columns.now link j x }
+    ensures { result ≡ spec.linked columns.now link j first x }
 {
     match link {
         Link::Unary(op) => unary(op, x),
@@ -52,6 +52,7 @@ pub(crate) fn linked(link: Link, x: i64, columns: &[i64], j: usize) -> i64
         Link::Under(op, y) => binary(op, number_at(y, columns, j), x),
         Link::Least(y) => x.min(number_at(y, columns, j)),
         Link::Most(y) => x.max(number_at(y, columns, j)),
+        Link::Itself(op) => binary(op, x, first),
     }
 }
 
@@ -64,7 +65,7 @@ pub(crate) fn along_links(links: &[Link], first: i64, columns: &[i64], j: usize)
 {
     let mut x = first;
     for link in links {
-        x = linked(*link, x, columns, j);
+        x = linked(*link, first, x, columns, j);
     }
     x
 }

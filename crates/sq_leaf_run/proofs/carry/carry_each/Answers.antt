@@ -5,4 +5,4 @@ use Rattle.sq_leaf_run.proofs.carry.carry_each.Goals as goal
 
 pub loop-j-preserved : goal.loop-j-preserved
 loop-j-preserved c =
-    next_in_turn (carry_turn c.args.columns.now c.args.elem c.args.op c.args.to c.args.from c.args.read c.args.links.now) c.args.turns c.loop-j.j c.loop-j.bytes c.carry_one.new.bytes _ (search rules) c.carry_one.ensures c.loop-j.invariant
+    next_in_turn (carry_turn c.args.columns.now c.args.to.elem c.args.op c.args.to.rise c.args.from.elem c.args.from.rise c.args.links.now) c.args.turns c.loop-j.j c.loop-j.bytes c.carry_one.new.bytes _ (search rules) c.carry_one.ensures c.loop-j.invariant

@@ -4,5 +4,5 @@ use Rattle.sq_leaf_run.proofs.carry.carry_each.Given as goal
 
 abbrev pub invariant-loop-j : goal.invariant-loop-j
 invariant-loop-j l =
-    in_turn (carry_turn l.columns l.elem l.op l.to l.from l.read l.links) (l.turns - l.j) l.j l.bytes
-    ≡ in_turn (carry_turn l.columns l.elem l.op l.to l.from l.read l.links) l.turns 0 l.fn.bytes
+    in_turn (carry_turn l.columns l.to.elem l.op l.to.rise l.from.elem l.from.rise l.links) (l.turns - l.j) l.j l.bytes
+    ≡ in_turn (carry_turn l.columns l.to.elem l.op l.to.rise l.from.elem l.from.rise l.links) l.turns 0 l.fn.bytes

@@ -15,7 +15,7 @@ loop-j-preserved c =
     let v : ℤ = to_z w64 (of_z w64 c.chosen_at.result) in
     let old = c.args.columns.now in
     let size : length c.loop-j.columns ≡ length old = c.loop-j.invariant.size in
-    let inside : c.args.test.from + c.loop-j.j < length c.loop-j.columns = omega (arith, few, size, c.requires.test) in
+    let inside : c.args.test.from + c.loop-j.j < length c.loop-j.columns = omega (arith, few, size, c.requires.may.test) in
     let number : v ≡ chosen (number_at old c.args.test c.loop-j.j) (number_at old c.args.x c.loop-j.j) (number_at old c.args.y c.loop-j.j) =
     to_z-of_z w64 c.chosen_at.result fits ∙ (c.chosen_at.ensures
     ∙ chosen_same _ _ _ _ _ _ (c.loop-j.invariant.test c.loop-j.j at few) (c.loop-j.invariant.left c.loop-j.j at few) (c.loop-j.invariant.right c.loop-j.j at few)) in
@@ -23,6 +23,6 @@ loop-j-preserved c =
       size = length-set c.loop-j.columns (c.args.test.from + c.loop-j.j) v ∙ size;
       done = next_chosen c.args.test.from c.loop-j.j (λ i. chosen (number_at old c.args.test i) (number_at old c.args.x i) (number_at old c.args.y i)) c.loop-j.columns v inside number c.loop-j.invariant.done;
       test = next_stays c.args.test.from c.args.test old c.loop-j.columns v c.loop-j.j (own_first c.args.test) c.loop-j.invariant.test;
-      left = next_stays c.args.test.from c.args.x old c.loop-j.columns v c.loop-j.j c.requires.left_first c.loop-j.invariant.left;
-      right = next_stays c.args.test.from c.args.y old c.loop-j.columns v c.loop-j.j c.requires.right_first c.loop-j.invariant.right;
+      left = next_stays c.args.test.from c.args.x old c.loop-j.columns v c.loop-j.j c.requires.may.left_first c.loop-j.invariant.left;
+      right = next_stays c.args.test.from c.args.y old c.loop-j.columns v c.loop-j.j c.requires.may.right_first c.loop-j.invariant.right;
     }
