@@ -28,7 +28,7 @@ use Rattle.sq_leaf_run.specs.declared.deeds.Link.{Link}
 use Rattle.sq_leaf_run.specs.declared.deeds.Link.TheVariants.{Unary, Onto, Under, Least, Most, Itself}
 use Rattle.sq_leaf_run.specs.declared.values.Hole.{Hole}
 use Rattle.sq_leaf_run.specs.Blocks.{LiesIn, IsRise}
-use Rattle.sq_leaf_run.specs.Settings.{Read, counters_at, Gives, Follows, value_alone, extreme, extreme_of}
+use Rattle.sq_leaf_run.specs.Settings.{counters_at, Gives, Follows, value_alone, extreme, extreme_of}
 use Rattle.sq_leaf_run.specs.Deeds.{number_at, byte_at, linked, along_from, along_links, HasColumn, IsRoomy, LinkFits, AreKept}
 use Rattle.sq_leaf_run.specs.Values.{AreNumbers, IsCarried, Leads, Starts, IsPath, IsLonger, path_at, extreme_link, unary_of}
 use Rattle.sq_leaf_run.proofs.Spotting.{some_after}
