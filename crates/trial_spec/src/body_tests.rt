@@ -690,6 +690,178 @@ const TRAPPED: [Case; 20] = [
     ),
 ];
 
+// Loops of some 30 turns, and loops within loops, of few turns each.
+const NESTS: [Case; 28] = [
+    (
+        "task t::leaf(out int A[N], out int B[N]) { for (int i = 0; i < N; i++) A[i] = (i * 37 + 11) % 251 - 100; for (int i = 0; i < N; i++) if (A[i] > 20) B[i] = A[i] - 20; else B[i] = 3 * i; }",
+        "N=31",
+        "int 31 ; int 31",
+        "ok#-5521548575617362609",
+    ),
+    (
+        "task t::leaf(out int A[N], out int B[N]) { for (int i = 0; i < N; i++) A[i] = (i * 37 + 11) % 251 - 100; for (int i = 0; i < N; i++) if (A[i] > 20) B[i] = A[i] - 20; else B[i] = 3 * i; }",
+        "N=32",
+        "int 32 ; int 32",
+        "ok#-4768979488188437129",
+    ),
+    (
+        "task t::leaf(out int A[N], out int B[N]) { for (int i = 0; i < N; i++) A[i] = (i * 37 + 11) % 251 - 100; for (int i = 0; i < N; i++) if (A[i] > 20) B[i] = A[i] - 20; else B[i] = 3 * i; }",
+        "N=33",
+        "int 33 ; int 33",
+        "ok#154065336158266773",
+    ),
+    (
+        "task t::leaf(out int A[N], out int B[N]) { for (int i = 0; i < N; i++) A[i] = (i * 37 + 11) % 251 - 100; for (int i = 1; i < N; i++) B[i] = max(B[i - 1] + A[i], 0); }",
+        "N=32",
+        "int 32 ; int 32",
+        "ok#-7642733623513199082",
+    ),
+    (
+        "task t::leaf(out int A[N], out int B[N]) { for (int i = 0; i < N; i++) A[i] = (i * 37 + 11) % 251 - 100; for (int i = 1; i < N; i++) B[i] = max(B[i - 1] + A[i], 0); }",
+        "N=33",
+        "int 33 ; int 33",
+        "ok#-2175371182712161232",
+    ),
+    (
+        "task t::leaf(out int A[N], out int B[N]) { for (int i = 0; i < N; i++) A[i] = (i * 37 + 11) % 251 - 100; for (int i = 1; i < N; i++) B[i] = max(B[i - 1] + A[i], 0); }",
+        "N=34",
+        "int 34 ; int 34",
+        "ok#2912729198640792390",
+    ),
+    (
+        "task t::leaf(out int A[N][N], out int B[N][N], out int C[N][N]) { for (int i = 0; i < N; i++) for (int j = 0; j < N; j++) { A[i][j] = i * 37 - j * 11; B[i][j] = i * 5 + j * 3 - 40; } for (int i = 0; i < N; i++) for (int j = 0; j < N; j++) for (int k = 0; k < N; k++) C[i][j] += A[i][k] * B[k][j]; }",
+        "N=3",
+        "int 3 3 ; int 3 3 ; int 3 3",
+        "ok#-8713897139712608824",
+    ),
+    (
+        "task t::leaf(out int A[N][N], out int B[N][N], out int C[N][N]) { for (int i = 0; i < N; i++) for (int j = 0; j < N; j++) { A[i][j] = i * 37 - j * 11; B[i][j] = i * 5 + j * 3 - 40; } for (int i = 0; i < N; i++) for (int j = 0; j < N; j++) for (int k = 0; k < N; k++) C[i][j] += A[i][k] * B[k][j]; }",
+        "N=7",
+        "int 7 7 ; int 7 7 ; int 7 7",
+        "ok#2328492467346951530",
+    ),
+    (
+        "task t::leaf(out int A[N][N], out int B[N][N], out int C[N][N]) { for (int i = 0; i < N; i++) for (int j = 0; j < N; j++) { A[i][j] = i * 37 - j * 11; B[i][j] = i * 5 + j * 3 - 40; } for (int i = 0; i < N; i++) for (int j = 0; j < N; j++) for (int k = 0; k < N; k++) C[i][j] += A[i][k] * B[k][j]; }",
+        "N=8",
+        "int 8 8 ; int 8 8 ; int 8 8",
+        "ok#-7086070969129926823",
+    ),
+    (
+        "task t::leaf(out int A[N][N], out int B[N][N], out int C[N][N]) { for (int i = 0; i < N; i++) for (int j = 0; j < N; j++) { A[i][j] = i * 37 - j * 11; B[i][j] = i * 5 + j * 3 - 40; } for (int i = 0; i < N; i++) for (int j = 0; j < N; j++) for (int k = 0; k < N; k++) C[i][j] += A[i][k] * B[k][j]; }",
+        "N=9",
+        "int 9 9 ; int 9 9 ; int 9 9",
+        "ok#5472303130359130981",
+    ),
+    (
+        "task t::leaf(out int A[N], out int B[N]) { for (int i = 0; i < N; i++) A[i] = (i * 37 + 11) % 251 - 100; for (int k = 0; k < 20; k++) for (int i = 1; i < N; i++) B[i] = B[i - 1] * 3 + A[i]; }",
+        "N=12",
+        "int 12 ; int 12",
+        "ok#3217795808570433720",
+    ),
+    (
+        "task t::leaf(out int A[N], out int B[N]) { for (int i = 0; i < N; i++) A[i] = (i * 37 + 11) % 251 - 100; for (int k = 0; k < 20; k++) for (int i = 1; i < N; i++) B[i] = B[i - 1] * 3 + A[i]; }",
+        "N=13",
+        "int 13 ; int 13",
+        "ok#-1848105809862991915",
+    ),
+    (
+        "task t::leaf(out int A[N], out int B[N]) { for (int i = 0; i < N; i++) A[i] = (i * 37 + 11) % 251 - 100; for (int k = 0; k < 20; k++) for (int i = 1; i < N; i++) B[i] = B[i - 1] * 3 + A[i]; }",
+        "N=14",
+        "int 14 ; int 14",
+        "ok#-5080570048612981878",
+    ),
+    (
+        "task t::leaf(out int A[N], out int B[N]) { for (int i = 0; i < N; i++) A[i] = (i * 37 + 11) % 251 - 100; B[0] = 1; B[1] = 1; for (int k = 0; k < 60; k++) { for (int i = 2; i < N; i++) B[i] = B[i - 1] + B[i - 2] + A[i]; B[1] = B[N - 1] + k; } }",
+        "N=14",
+        "int 14 ; int 14",
+        "ok#9000277658624470728",
+    ),
+    (
+        "task t::leaf(out int A[N], out int B[N]) { for (int i = 0; i < N; i++) A[i] = (i * 37 + 11) % 251 - 100; B[0] = 1; B[1] = 1; for (int k = 0; k < 60; k++) { for (int i = 2; i < N; i++) B[i] = B[i - 1] + B[i - 2] + A[i]; B[1] = B[N - 1] + k; } }",
+        "N=40",
+        "int 40 ; int 40",
+        "ok#4201328082966529691",
+    ),
+    (
+        "task t::leaf(out int A[N], out long B[N]) { for (int i = 0; i < N; i++) A[i] = (i * 37 + 11) % 251 - 100; for (int i = 0; i < N; i++) B[i] = A[i]; for (int k = 0; k < 40; k++) for (int i = 0; i < N - 2; i++) B[i] = B[i + 1] + B[i + 2] - k; }",
+        "N=14",
+        "int 14 ; long 14",
+        "ok#-4060011819887576013",
+    ),
+    (
+        "task t::leaf(out int A[N], out long B[N]) { for (int i = 0; i < N; i++) A[i] = (i * 37 + 11) % 251 - 100; for (int i = 0; i < N; i++) B[i] = A[i]; for (int k = 0; k < 40; k++) for (int i = 0; i < N - 2; i++) B[i] = B[i + 1] + B[i + 2] - k; }",
+        "N=30",
+        "int 30 ; long 30",
+        "ok#-5263856774152978198",
+    ),
+    (
+        "task t::leaf(out int A[N], out long B[N]) { for (int i = 0; i < N; i++) A[i] = (i * 37 + 11) % 251 - 100; for (int i = 0; i < N; i++) B[i] = A[i]; for (int k = 0; k < 40; k++) for (int i = 0; i < N - 2; i++) B[i] = B[i + 1] + B[i + 2] - k; }",
+        "N=200",
+        "int 200 ; long 200",
+        "ok#8038305276699837923",
+    ),
+    (
+        "task t::leaf(out int B[N][N]) { for (int i = 0; i < N; i++) for (int j = 0; j < N; j++) B[i][j] = i * 100 - j * 77; for (int r = 0; r < 3; r++) for (int i = 1; i < N - 1; i++) for (int j = 1; j < N - 1; j++) B[i][j] = (B[i - 1][j] + B[i][j - 1] + B[i][j + 1] + B[i + 1][j]) >> 2; }",
+        "N=20",
+        "int 20 20",
+        "ok#1882639429458879398",
+    ),
+    (
+        "task t::leaf(out int A[N], out int B[N], out int C[N]) { for (int i = 0; i < N; i++) A[i] = (i * 37 + 11) % 251 - 100; for (int k = 0; k < 12; k++) { for (int i = 0; i < N; i++) B[i] = A[i] + k; for (int i = 0; i < N; i++) C[i] += B[i]; for (int i = 1; i < N; i++) B[i] = B[i - 1] + C[i]; for (int i = 0; i < N; i++) if (B[i] < 0) C[i] = C[i] - B[i]; for (int i = 0; i < N; i++) A[N - 1 - i] = A[N - 1 - i] + (C[i] & 7); for (int i = 0; i < N; i++) { C[0] = A[i]; B[i] = C[0] * C[0] - B[i]; } } }",
+        "N=7",
+        "int 7 ; int 7 ; int 7",
+        "ok#1552743720721630329",
+    ),
+    (
+        "task t::leaf(out int A[N], out int B[N], out int C[N]) { for (int i = 0; i < N; i++) A[i] = (i * 37 + 11) % 251 - 100; for (int k = 0; k < 12; k++) { for (int i = 0; i < N; i++) B[i] = A[i] + k; for (int i = 0; i < N; i++) C[i] += B[i]; for (int i = 1; i < N; i++) B[i] = B[i - 1] + C[i]; for (int i = 0; i < N; i++) if (B[i] < 0) C[i] = C[i] - B[i]; for (int i = 0; i < N; i++) A[N - 1 - i] = A[N - 1 - i] + (C[i] & 7); for (int i = 0; i < N; i++) { C[0] = A[i]; B[i] = C[0] * C[0] - B[i]; } } }",
+        "N=12",
+        "int 12 ; int 12 ; int 12",
+        "ok#1519326501376696979",
+    ),
+    (
+        "task t::leaf(out int A[N], out int B[N], out int C[N]) { for (int i = 0; i < N; i++) A[i] = (i * 37 + 11) % 251 - 100; for (int k = 0; k < 12; k++) { for (int i = 0; i < N; i++) B[i] = A[i] + k; for (int i = 0; i < N; i++) C[i] += B[i]; for (int i = 1; i < N; i++) B[i] = B[i - 1] + C[i]; for (int i = 0; i < N; i++) if (B[i] < 0) C[i] = C[i] - B[i]; for (int i = 0; i < N; i++) A[N - 1 - i] = A[N - 1 - i] + (C[i] & 7); for (int i = 0; i < N; i++) { C[0] = A[i]; B[i] = C[0] * C[0] - B[i]; } } }",
+        "N=13",
+        "int 13 ; int 13 ; int 13",
+        "ok#-5270269789532308616",
+    ),
+    (
+        "task t::leaf(out int A[N], out int B[N], out int C[N]) { for (int i = 0; i < N; i++) A[i] = (i * 37 + 11) % 251 - 100; for (int k = 0; k < 12; k++) { for (int i = 0; i < N; i++) B[i] = A[i] + k; for (int i = 0; i < N; i++) C[i] += B[i]; for (int i = 1; i < N; i++) B[i] = B[i - 1] + C[i]; for (int i = 0; i < N; i++) if (B[i] < 0) C[i] = C[i] - B[i]; for (int i = 0; i < N; i++) A[N - 1 - i] = A[N - 1 - i] + (C[i] & 7); for (int i = 0; i < N; i++) { C[0] = A[i]; B[i] = C[0] * C[0] - B[i]; } } }",
+        "N=40",
+        "int 40 ; int 40 ; int 40",
+        "ok#-4715039639623937114",
+    ),
+    (
+        "task t::leaf(out int A[N], out byte C[1], out int B[N]) { for (int i = 0; i < N; i++) A[i] = (i * 37 + 11) % 251 - 100; for (int i = 0; i < N; i++) { C[0] = A[i] - 100; B[i] = (C[0] * C[0] - C[0]) * C[0]; } }",
+        "N=300",
+        "int 300 ; byte 1 ; int 300",
+        "ok#5455799698324027686",
+    ),
+    (
+        "task t::leaf(out int A[N], out int B[N]) { for (int i = 0; i < N; i++) A[i] = (i * 37 + 11) % 251 - 100; B[0] = 3; for (int i = 1; i < N; i++) B[i] = B[i - 1] * B[i - 1] + A[i]; }",
+        "N=300",
+        "int 300 ; int 300",
+        "ok#-7983118598139529165",
+    ),
+    (
+        "task t::leaf(out int A[N], out int B[N]) { for (int i = 0; i < N; i++) A[i] = (i * 37 + 11) % 251 - 100; B[0] = 3; for (int i = 1; i < N; i++) B[i] = (B[i - 1] ^ (B[i - 1] >> 3)) + max(A[i], 0); }",
+        "N=300",
+        "int 300 ; int 300",
+        "ok#7788495737482366068",
+    ),
+    (
+        "task t::leaf(out int A[N], out int B[N]) { for (int i = 0; i < N; i++) A[i] = (i * 37 + 11) % 251 - 100; for (int k = 0; k < 20; k++) for (int i = 0; i < 13; i++) B[i + k] = A[i] + k; }",
+        "N=28",
+        "int 28 ; int 28",
+        "Index 1:164#7965175910684316389",
+    ),
+    (
+        "task t::leaf(out int A[N], out int B[N]) { for (int i = 0; i < N; i++) A[i] = (i * 37 + 11) % 251 - 100; for (int k = 0; k < 20; k++) for (int i = 0; i < 13; i++) B[i + k] = A[i] + k; }",
+        "N=20",
+        "int 20 ; int 20",
+        "Index 1:164#1261639334133744895",
+    ),
+];
+
 #[test]
 fn any_number_of_turns_leaves_these_bytes(rt: HostRuntime) -> Result<(), AllocError> {
     all_are_so(&rt, rt.alloc(), &TURNS)
@@ -713,4 +885,9 @@ fn each_turn_reads_what_the_one_before_it_assigned(rt: HostRuntime) -> Result<()
 #[test]
 fn what_was_written_before_a_trap_stays(rt: HostRuntime) -> Result<(), AllocError> {
     all_are_so(&rt, rt.alloc(), &TRAPPED)
+}
+
+#[test]
+fn loops_within_loops_end_as_turn_after_turn(rt: HostRuntime) -> Result<(), AllocError> {
+    all_are_so(&rt, rt.alloc(), &NESTS)
 }
