@@ -13,8 +13,8 @@ use Rattle.sq_leaf.specs.Numbers.{truth, is_zero, binary}
 use Rattle.sq_leaf.specs.Outcome.{and_then}
 use Rattle.sq_leaf.specs.Source.{linked}
 use Rattle.sq_leaf.specs.Running.{run_code, run_step, CodeRun, CellRun, StepRun, code_step, cell_step, step_step}
-use Rattle.sq_leaf_run.specs.declared.block.Block.{Block}
-use Rattle.sq_leaf_run.specs.Blocks.{Read, counters_at, Gives, Follows, value_alone, extreme, extreme_of}
+use Rattle.sq_leaf_run.specs.declared.setting.Setting.{Setting}
+use Rattle.sq_leaf_run.specs.Settings.{counters_at, Gives, Follows, value_alone, extreme, extreme_of}
 use Rattle.sq_leaf_run.proofs.Spotting.{line_front}
 
 abbrev Right : ℤ → Result ℤ Trap
@@ -56,34 +56,34 @@ linked_is op.Mul place x y h = refl
 pub step_is : (s : Step) (vs : List View) (ks : List ℤ) (b : List ℕ) (x : ℤ) → run_step s vs ks b x ≡ linked (out-Step s).op (out-Step s).place x (run_code (out-Step s).right vs ks b)
 step_is s vs ks b x = ap (λ (f : StepRun). f vs ks b x) (fold_out-Step CodeRun CellRun StepRun code_step cell_step step_step s)
 
-step_follows : (t : Block) (ks : List ℤ) (b : List ℕ) (s : Step) (vs : List View) (x y l : Line) (xs ys zs : List ℤ) → Gives t ks b (run_code (out-Step s).right vs) y ys
-    → ((j : ℕ) → j < t.turns → line_at l zs j ≡ binary (out-Step s).op (line_at x xs j) (line_at y ys j)) → (divides (out-Step s).op ≡ true → (j : ℕ) → j < t.turns → is_zero (line_at y ys j) ≡ false)
-    → Follows t ks b value_alone (run_step s vs) l zs x xs
-step_follows t ks b s vs x y l xs ys zs right h g = record {
+step_follows : (t : Setting) (s : Step) (x y l : Line) (xs ys zs : List ℤ) → Gives t (run_code (out-Step s).right) y ys
+    → ((j : ℕ) → j < t.block.now.turns → line_at l zs j ≡ binary (out-Step s).op (line_at x xs j) (line_at y ys j)) → (divides (out-Step s).op ≡ true → (j : ℕ) → j < t.block.now.turns → is_zero (line_at y ys j) ≡ false)
+    → Follows t value_alone (run_step s) l zs x xs
+step_follows t s x y l xs ys zs right h g = record {
   each = λ j d below met.
       ap Ok (h j below) ∙ (sym (linked_is (out-Step s).op (out-Step s).place (line_at x xs j) (line_at y ys j) (λ e. g e j below))
-      ∙ (ap (linked (out-Step s).op (out-Step s).place (line_at x xs j)) (sym (right.each j d below met)) ∙ sym (step_is s vs (counters_at t ks j) d (line_at x xs j))));
+      ∙ (ap (linked (out-Step s).op (out-Step s).place (line_at x xs j)) (sym (right.each j d below met)) ∙ sym (step_is s t.frame.now.views (counters_at t j) d (line_at x xs j))));
 }
 
-pub next_follows : (t : Block) (ks : List ℤ) (b : List ℕ) (s : Step) (vs : List View) (x y : Line) (o : Option Line) (xs ys zs : List ℤ) → Gives t ks b (run_code (out-Step s).right vs) y ys
-    → IfSome o (λ l. (j : ℕ) → j < t.turns → line_at l zs j ≡ binary (out-Step s).op (line_at x xs j) (line_at y ys j)) → IfSome o (λ l. divides (out-Step s).op ≡ true → (j : ℕ) → j < t.turns → is_zero (line_at y ys j) ≡ false)
-    → IfSome o (λ l. Follows t ks b value_alone (run_step s vs) l zs x xs)
-next_follows t ks b s vs x y (Some l) xs ys zs right h g = step_follows t ks b s vs x y l xs ys zs right h g
-next_follows t ks b s vs x y None xs ys zs right h g = h
+pub next_follows : (t : Setting) (s : Step) (x y : Line) (o : Option Line) (xs ys zs : List ℤ) → Gives t (run_code (out-Step s).right) y ys
+    → IfSome o (λ l. (j : ℕ) → j < t.block.now.turns → line_at l zs j ≡ binary (out-Step s).op (line_at x xs j) (line_at y ys j)) → IfSome o (λ l. divides (out-Step s).op ≡ true → (j : ℕ) → j < t.block.now.turns → is_zero (line_at y ys j) ≡ false)
+    → IfSome o (λ l. Follows t value_alone (run_step s) l zs x xs)
+next_follows t s x y (Some l) xs ys zs right h g = step_follows t s x y l xs ys zs right h g
+next_follows t s x y None xs ys zs right h g = h
 
 -- in the first of the columns
-pub follows_front : (t : Block) (ks : List ℤ) (b : List ℕ) (f : List ℤ → List ℕ → ℤ → Result ℤ Trap) (x : Line) (o : Option Line) (all front rest new_front new_rest : List ℤ)
-    → all ≡ front ++ rest → t.turns ≤ length front → t.turns ≤ length new_front
-    → IfSome o (λ l. Follows t ks b value_alone f l new_front x front) → IfSome o (λ l. Follows t ks b value_alone f l (new_front ++ new_rest) x all)
-follows_front t ks b f x None all front rest new_front new_rest e room new_room h = h
-follows_front t ks b f x (Some l) all front rest new_front new_rest e room new_room h = record {
+pub follows_front : (t : Setting) (f : StepRun) (x : Line) (o : Option Line) (all front rest new_front new_rest : List ℤ)
+    → all ≡ front ++ rest → t.block.now.turns ≤ length front → t.block.now.turns ≤ length new_front
+    → IfSome o (λ l. Follows t value_alone f l new_front x front) → IfSome o (λ l. Follows t value_alone f l (new_front ++ new_rest) x all)
+follows_front t f x None all front rest new_front new_rest e room new_room h = h
+follows_front t f x (Some l) all front rest new_front new_rest e room new_room h = record {
   each = λ j d below met.
       ap Ok (line_front l (new_front ++ new_rest) new_front new_rest j refl (omega (arith, below, new_room)))
-      ∙ (h.each j d below met ∙ ap (f (counters_at t ks j) d) (sym (line_front x all front rest j e (omega (arith, below, room)))));
+      ∙ (h.each j d below met ∙ ap (f t.frame.now.views (counters_at t j) d) (sym (line_front x all front rest j e (omega (arith, below, room)))));
 }
 
-pub extreme_follows : (t : Block) (ks : List ℤ) (b : List ℕ) (most : Bool) (f : Read ℤ) (x y l : Line) (xs ys zs : List ℤ) → Gives t ks b f y ys
-    → ((j : ℕ) → j < t.turns → line_at l zs j ≡ extreme most (line_at x xs j) (line_at y ys j)) → Follows t ks b value_alone (extreme_of most f) l zs x xs
-extreme_follows t ks b most f x y l xs ys zs right h = record {
+pub extreme_follows : (t : Setting) (most : Bool) (f : CodeRun) (x y l : Line) (xs ys zs : List ℤ) → Gives t f y ys
+    → ((j : ℕ) → j < t.block.now.turns → line_at l zs j ≡ extreme most (line_at x xs j) (line_at y ys j)) → Follows t value_alone (extreme_of most f) l zs x xs
+extreme_follows t most f x y l xs ys zs right h = record {
   each = λ j d below met. ap Ok (h j below) ∙ ap (λ (r : Result ℤ Trap). and_then r (λ w. Ok (extreme most (line_at x xs j) w))) (sym (right.each j d below met));
 }

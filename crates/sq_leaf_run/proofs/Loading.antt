@@ -7,26 +7,27 @@ use Rattle.sq_columns.specs.Lines.{line_at, first_byte, IsFirst}
 use Rattle.sq_leaf.specs.declared.trap.Trap.{Trap}
 use Rattle.sq_leaf.specs.declared.spot.Spot.{Spot}
 use Rattle.sq_leaf.specs.Spots.{load}
-use Rattle.sq_leaf.specs.Running.{load_from}
-use Rattle.sq_leaf_run.specs.declared.block.Block.{Block}
-use Rattle.sq_leaf_run.specs.Blocks.{Read, Gives, Places, LiesIn, AreClear}
+use Rattle.sq_leaf.specs.Running.{CellRun, load_from}
+use Rattle.sq_leaf_run.specs.declared.setting.Setting.{Setting}
+use Rattle.sq_leaf_run.specs.Blocks.{LiesIn, AreClear}
+use Rattle.sq_leaf_run.specs.Settings.{Gives, Places, load_of}
 use Rattle.sq_leaf_run.proofs.Meeting.{load_clear}
 
-pub are_first : (t : Block) (e : Elem) (spots : Line) (column : List ℤ) (low high size : ℕ) → ((j : ℕ) → j < t.turns → LiesIn low high e spots column j) → high ≤ size
-    → (j : ℕ) → j < t.turns → IsFirst (width e) size (line_at spots column j)
+pub are_first : (t : Setting) (e : Elem) (spots : Line) (column : List ℤ) (low high size : ℕ) → ((j : ℕ) → j < t.block.now.turns → LiesIn low high e spots column j) → high ≤ size
+    → (j : ℕ) → j < t.block.now.turns → IsFirst (width e) size (line_at spots column j)
 are_first t e spots column low high size lies within j below =
     let here : LiesIn low high e spots column j = lies j below in
     let end : first_byte spots column j + width e ≤ high = here.ends in
     record { natural = here.is; ends = omega (arith, end, within) }
 
-pub loaded_gives : (t : Block) (ks : List ℤ) (b : List ℕ) (f : Read Spot) (e : Elem) (spots : Line) (old : List ℤ) (l : Line) (new : List ℤ) (low high : ℕ) → Places t ks b f e spots old
-    → AreClear t e (first_byte spots old) → ((j : ℕ) → j < t.turns → LiesIn low high e spots old j) → high ≤ length b
-    → ((j : ℕ) → j < t.turns → line_at l new j ≡ load (record { elem = e; at = first_byte spots old j }) b) → Gives t ks b (λ k c. load_from (f k c) c) l new
-loaded_gives t ks b f e spots old l new low high places clear lies within loaded = record {
+pub loaded_gives : (t : Setting) (f : CellRun) (e : Elem) (spots : Line) (old : List ℤ) (l : Line) (new : List ℤ) (low high : ℕ) → Places t f e spots old
+    → AreClear t.block.now e (first_byte spots old) → ((j : ℕ) → j < t.block.now.turns → LiesIn low high e spots old j) → high ≤ length t.bytes.now
+    → ((j : ℕ) → j < t.block.now.turns → line_at l new j ≡ load (record { elem = e; at = first_byte spots old j }) t.bytes.now) → Gives t (load_of f) l new
+loaded_gives t f e spots old l new low high places clear lies within loaded = record {
   each = λ j c below met.
       let here : LiesIn low high e spots old j = lies j below in
       let end : first_byte spots old j + width e ≤ high = here.ends in
-      let fits : first_byte spots old j + width e ≤ length b = omega (arith, end, within) in
+      let fits : first_byte spots old j + width e ≤ length t.bytes.now = omega (arith, end, within) in
       ap (λ (r : Result Spot Trap). load_from r c) (places.each j c below met)
-      ∙ (ap Ok (load_clear t j b c e (first_byte spots old j) met fits (λ k from less. clear.each j k below from less)) ∙ ap Ok (sym (loaded j below)));
+      ∙ (ap Ok (load_clear t.block.now j t.bytes.now c e (first_byte spots old j) met fits (λ k from less. clear.each j k below from less)) ∙ ap Ok (sym (loaded j below)));
 }

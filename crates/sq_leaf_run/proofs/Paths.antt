@@ -9,7 +9,6 @@ use Rattle.std.proofs.lemmas.List.Elements.{All-nil, All-head, All-tail}
 use Rattle.std.proofs.Math.Seq.{drop-append_seam, drop-append-add}
 use Rattle.sq_num.specs.declared.Elem.{Elem}
 use Rattle.sq_num.specs.Elements.{width}
-use Rattle.sq_rect.specs.declared.view.View.{View}
 use Rattle.sq_ast.specs.declared.expr.UnOp.{UnOp}
 use Rattle.sq_ast.specs.declared.expr.BinOp.{BinOp}
 use Rattle.sq_columns.specs.declared.line.Line.{Line}
@@ -21,14 +20,15 @@ use Rattle.sq_leaf.specs.Numbers.{is_zero, binary}
 use Rattle.sq_leaf.specs.Outcome.{and_then}
 use Rattle.sq_leaf.specs.Source as source
 use Rattle.sq_leaf.specs.Spots.{load}
-use Rattle.sq_leaf.specs.Running.{run_code, run_step, run_each_step}
-use Rattle.sq_leaf_run.specs.declared.block.Block.{Block}
+use Rattle.sq_leaf.specs.Running.{CodeRun, run_code, run_step, run_each_step}
+use Rattle.sq_leaf_run.specs.declared.setting.Setting.{Setting}
 use Rattle.sq_leaf_run.specs.declared.block.Rise.{Rise}
 use Rattle.sq_leaf_run.specs.declared.deeds.Numbers.{Numbers}
 use Rattle.sq_leaf_run.specs.declared.deeds.Link.{Link}
 use Rattle.sq_leaf_run.specs.declared.deeds.Link.TheVariants.{Unary, Onto, Under, Least, Most, Itself}
 use Rattle.sq_leaf_run.specs.declared.values.Hole.{Hole}
-use Rattle.sq_leaf_run.specs.Blocks.{Read, counters_at, Gives, Follows, LiesIn, IsRise, value_alone, extreme, extreme_of}
+use Rattle.sq_leaf_run.specs.Blocks.{LiesIn, IsRise}
+use Rattle.sq_leaf_run.specs.Settings.{counters_at, Gives, Follows, value_alone, extreme, extreme_of}
 use Rattle.sq_leaf_run.specs.Deeds.{number_at, byte_at, linked, along_from, along_links, HasColumn, IsRoomy, LinkFits, AreKept}
 use Rattle.sq_leaf_run.specs.Values.{AreNumbers, IsCarried, Leads, Starts, IsPath, IsLonger, path_at, extreme_link, unary_of}
 use Rattle.sq_leaf_run.proofs.Spotting.{some_after}
@@ -123,53 +123,53 @@ path_longer size l h ls n more is columns j c =
     ∙ (ap (λ (e : Elem). linked columns l j (load (record { elem = e; at = byte_at n.read j }) c) (along_links columns ls j (load (record { elem = e; at = byte_at n.read j }) c))) is.elem
     ∙ ap (λ (r : Rise). linked columns l j (load (record { elem = h.elem; at = byte_at r j }) c) (along_links columns ls j (load (record { elem = h.elem; at = byte_at r j }) c))) is.read))
 
-path_kept : (t : Block) (size next : ℕ) (h : Hole) (ls : List Link) (old new : List ℤ) → IsPath t size next old h ls → AreKept h.free old new → (j : ℕ) (c : List ℕ) → j < 256
+path_kept : (t : Setting) (next : ℕ) (h : Hole) (ls : List Link) (old new : List ℤ) → IsPath t next old h ls → AreKept h.free old new → (j : ℕ) (c : List ℕ) → j < 256
     → path_at new h ls j c ≡ path_at old h ls j c
-path_kept t size next h ls old new path kept j c below = links_kept h.free ls old new j _ _ path.fit kept below
+path_kept t next h ls old new path kept j c below = links_kept h.free ls old new j _ _ path.fit kept below
 
 -- ---- an element
 
-pub element_path : (t : Block) (size next : ℕ) (columns : List ℤ) (o : Option Hole) (e : Elem) (spots : Line) (places : List ℤ) (low high : ℕ) (links : List Link) → t.turns ≤ 256
-    → IfSome o (λ h. h.elem ≡ e) → IfSome o (λ h. IsRise h.read spots) → IfSome o (λ h. h.free ≡ next) → ((j : ℕ) → j < t.turns → LiesIn low high e spots places j) → high ≤ size
-    → links ≡ [] → next ≤ length columns → IfSome o (λ h. IsPath t size next columns h links)
-element_path t size next columns None e spots places low high links few elem read free lies within none room = elem
-element_path t size next columns (Some h) e spots places low high links few elem read free lies within none room =
+pub element_path : (t : Setting) (next : ℕ) (columns : List ℤ) (o : Option Hole) (e : Elem) (spots : Line) (places : List ℤ) (low high : ℕ) (links : List Link)
+    → IfSome o (λ h. h.elem ≡ e) → IfSome o (λ h. IsRise h.read spots) → IfSome o (λ h. h.free ≡ next) → ((j : ℕ) → j < t.block.now.turns → LiesIn low high e spots places j) → high ≤ length t.bytes.now
+    → links ≡ [] → next ≤ length columns → IfSome o (λ h. IsPath t next columns h links)
+element_path t next columns None e spots places low high links elem read free lies within none room = elem
+element_path t next columns (Some h) e spots places low high links elem read free lies within none room =
     record {
-      room = subst (λ (d : Elem). IsRoomy t.turns size d h.read) (sym elem) here;
+      room = subst (λ (d : Elem). IsRoomy t.block.now.turns (length t.bytes.now) d h.read) (sym elem) here;
       fit = subst (All (LinkFits h.free)) (sym none) (All-nil (LinkFits h.free));
       after = omega (arith, free);
       within = omega (arith, free, room);
     }
   where
-    whole : (j : ℕ) → j < t.turns → LiesIn 0 size e spots places j
+    whole : (j : ℕ) → j < t.block.now.turns → LiesIn 0 (length t.bytes.now) e spots places j
     whole j below =
         let l : LiesIn low high e spots places j = lies j below in
         let end : first_byte spots places j + width e ≤ high = l.ends in
         record { is = l.is; from = omega arith; ends = omega (arith, end, within) }
 
-    here : IsRoomy t.turns size e h.read
-    here = record { near = read.near; slow = read.slow; room = rise_room t.turns size e spots places h.read read few whole }
+    here : IsRoomy t.block.now.turns (length t.bytes.now) e h.read
+    here = record { near = read.near; slow = read.slow; room = rise_room t.block.now.turns (length t.bytes.now) e spots places h.read read t.few whole }
 
 -- ---- operators
 
-pub unary_leads : (t : Block) (ks : List ℤ) (b : List ℕ) (columns : List ℤ) (op : UnOp) (h : Hole) (ls : List Link) (o : Option Hole) (more : List Link) → IfSome o (λ n. IsLonger (length columns) (Unary op) h ls n more)
-    → IfSome o (λ n. Leads t ks b value_alone (unary_of op) columns n more columns h ls)
-unary_leads t ks b columns op h ls o more longer =
+pub unary_leads : (t : Setting) (columns : List ℤ) (op : UnOp) (h : Hole) (ls : List Link) (o : Option Hole) (more : List Link) → IfSome o (λ n. IsLonger (length columns) (Unary op) h ls n more)
+    → IfSome o (λ n. Leads t value_alone (unary_of op) columns n more columns h ls)
+unary_leads t columns op h ls o more longer =
     some_after o _ _ (λ n is. record { each = λ j c below met. ap Ok (path_longer (length columns) (Unary op) h ls n more is columns j c) }) longer
 
-pub onto_leads : (t : Block) (ks : List ℤ) (b : List ℕ) (size next : ℕ) (s : Step) (vs : List View) (y : Numbers) (h : Hole) (ls : List Link) (old new : List ℤ) (o : Option Hole) (more : List Link)
-    → t.turns ≤ 256 → IsPath t size next old h ls → AreKept h.free old new → AreNumbers t ks b (run_code (out-Step s).right vs) new y
+pub onto_leads : (t : Setting) (next : ℕ) (s : Step) (y : Numbers) (h : Hole) (ls : List Link) (old new : List ℤ) (o : Option Hole) (more : List Link)
+    → IsPath t next old h ls → AreKept h.free old new → AreNumbers t (run_code (out-Step s).right) new y
     → IfSome o (λ n. IsLonger (length new) (Onto (out-Step s).op y) h ls n more)
-    → IfSome o (λ n. divides (out-Step s).op ≡ true → (j : ℕ) → j < t.turns → is_zero (number_at new y j) ≡ false)
-    → IfSome o (λ n. Leads t ks b value_alone (run_step s vs) new n more old h ls)
-onto_leads t ks b size next s vs y h ls old new None more few path kept right longer safe = longer
-onto_leads t ks b size next s vs y h ls old new (Some n) more few path kept right longer safe = record {
+    → IfSome o (λ n. divides (out-Step s).op ≡ true → (j : ℕ) → j < t.block.now.turns → is_zero (number_at new y j) ≡ false)
+    → IfSome o (λ n. Leads t value_alone (run_step s) new n more old h ls)
+onto_leads t next s y h ls old new None more path kept right longer safe = longer
+onto_leads t next s y h ls old new (Some n) more path kept right longer safe = record {
   each = λ j d below met.
       ap Ok (path_longer (length new) (Onto (out-Step s).op y) h ls n more longer new j d
-      ∙ ap (λ (w : ℤ). binary (out-Step s).op w (number_at new y j)) (path_kept t size next h ls old new path kept j d (omega (arith, below, few))))
+      ∙ ap (λ (w : ℤ). binary (out-Step s).op w (number_at new y j)) (path_kept t next h ls old new path kept j d (omega (arith, below, t.few))))
       ∙ (sym (linked_is (out-Step s).op (out-Step s).place (path_at old h ls j d) (number_at new y j) (λ e. safe e j below))
       ∙ (ap (source.linked (out-Step s).op (out-Step s).place (path_at old h ls j d)) (sym (right.each j d below met))
-      ∙ sym (step_is s vs (counters_at t ks j) d (path_at old h ls j d))));
+      ∙ sym (step_is s t.frame.now.views (counters_at t j) d (path_at old h ls j d))));
 }
 
 extreme_is : (columns : List ℤ) (most : Bool) (y : Numbers) (j : ℕ) (e x : ℤ) → linked columns (extreme_link most y) j e x ≡ extreme most x (number_at columns y j)
@@ -186,68 +186,68 @@ extreme_swaps : (most : Bool) (x y : ℤ) → extreme most x y ≡ extreme most 
 extreme_swaps true x y = most_swaps x y
 extreme_swaps false x y = least_swaps x y
 
-pub onto_extreme_leads : (t : Block) (ks : List ℤ) (b : List ℕ) (size next : ℕ) (most : Bool) (f : Read ℤ) (y : Numbers) (h : Hole) (ls : List Link) (old new : List ℤ) (l : Link) (o : Option Hole) (more : List Link)
-    → t.turns ≤ 256 → IsPath t size next old h ls → AreKept h.free old new → AreNumbers t ks b f new y → l ≡ extreme_link most y → IfSome o (λ n. IsLonger (length new) l h ls n more)
-    → IfSome o (λ n. Leads t ks b value_alone (extreme_of most f) new n more old h ls)
-onto_extreme_leads t ks b size next most f y h ls old new l o more few path kept right e longer = some_after o _ _ (λ n is. go n is) longer
+pub onto_extreme_leads : (t : Setting) (next : ℕ) (most : Bool) (f : CodeRun) (y : Numbers) (h : Hole) (ls : List Link) (old new : List ℤ) (l : Link) (o : Option Hole) (more : List Link)
+    → IsPath t next old h ls → AreKept h.free old new → AreNumbers t f new y → l ≡ extreme_link most y → IfSome o (λ n. IsLonger (length new) l h ls n more)
+    → IfSome o (λ n. Leads t value_alone (extreme_of most f) new n more old h ls)
+onto_extreme_leads t next most f y h ls old new l o more path kept right e longer = some_after o _ _ (λ n is. go n is) longer
   where
-    go : (n : Hole) → IsLonger (length new) l h ls n more → Leads t ks b value_alone (extreme_of most f) new n more old h ls
+    go : (n : Hole) → IsLonger (length new) l h ls n more → Leads t value_alone (extreme_of most f) new n more old h ls
     go n is = record {
       each = λ j d below met.
           ap Ok (path_longer (length new) l h ls n more is new j d
           ∙ (ap (λ (k : Link). linked new k j (path_first h j d) (path_at new h ls j d)) e ∙ extreme_is new most y j (path_first h j d) (path_at new h ls j d)
-          ∙ ap (λ (w : ℤ). extreme most w (number_at new y j)) (path_kept t size next h ls old new path kept j d (omega (arith, below, few)))))
+          ∙ ap (λ (w : ℤ). extreme most w (number_at new y j)) (path_kept t next h ls old new path kept j d (omega (arith, below, t.few)))))
           ∙ ap (λ (r : Result ℤ Trap). and_then r (λ w. Ok (extreme most (path_at old h ls j d) w))) (sym (right.each j d below met));
     }
 
-pub under_extreme_starts : (t : Block) (ks : List ℤ) (b : List ℕ) (most : Bool) (f : Read ℤ) (x : Numbers) (free : ℕ) (h : Hole) (ls : List Link) (old new : List ℤ) (size : ℕ) (l : Link) (o : Option Hole) (more : List Link)
-    → t.turns ≤ 256 → HasColumn free x → AreKept free old new → IsCarried t ks b f new h ls → l ≡ extreme_link most x → IfSome o (λ n. IsLonger size l h ls n more)
-    → IfSome o (λ n. Starts t ks b value_alone (extreme_of most f) new n more x.line (drop x.from old))
-under_extreme_starts t ks b most f x free h ls old new size l o more few has kept carried e longer = some_after o _ _ (λ n is. go n is) longer
+pub under_extreme_starts : (t : Setting) (most : Bool) (f : CodeRun) (x : Numbers) (free : ℕ) (h : Hole) (ls : List Link) (old new : List ℤ) (size : ℕ) (l : Link) (o : Option Hole) (more : List Link)
+    → HasColumn free x → AreKept free old new → IsCarried t f new h ls → l ≡ extreme_link most x → IfSome o (λ n. IsLonger size l h ls n more)
+    → IfSome o (λ n. Starts t value_alone (extreme_of most f) new n more x.line (drop x.from old))
+under_extreme_starts t most f x free h ls old new size l o more has kept carried e longer = some_after o _ _ (λ n is. go n is) longer
   where
-    go : (n : Hole) → IsLonger size l h ls n more → Starts t ks b value_alone (extreme_of most f) new n more x.line (drop x.from old)
+    go : (n : Hole) → IsLonger size l h ls n more → Starts t value_alone (extreme_of most f) new n more x.line (drop x.from old)
     go n is = record {
       each = λ j d below met.
           ap Ok (path_longer size l h ls n more is new j d
           ∙ (ap (λ (k : Link). linked new k j (path_first h j d) (path_at new h ls j d)) e ∙ extreme_is new most x j (path_first h j d) (path_at new h ls j d)
           ∙ (extreme_swaps most (path_at new h ls j d) (number_at new x j)
-          ∙ ap (λ (w : ℤ). extreme most w (path_at new h ls j d)) (number_kept free x old new j has kept (omega (arith, below, few))))))
+          ∙ ap (λ (w : ℤ). extreme most w (path_at new h ls j d)) (number_kept free x old new j has kept (omega (arith, below, t.few))))))
           ∙ ap (λ (r : Result ℤ Trap). and_then r (λ w. Ok (extreme most (number_at old x j) w))) (sym (carried.each j d below met));
     }
 
 -- the operator's left side is a line
-pub under_starts : (t : Block) (ks : List ℤ) (b : List ℕ) (s : Step) (vs : List View) (next : ℕ) (x : Line) (left : Numbers) (free : ℕ) (h : Hole) (ls : List Link) (old new : List ℤ) (size : ℕ) (o : Option Hole) (more : List Link)
-    → t.turns ≤ 256 → divides (out-Step s).op ≡ false → ((columns : List ℤ) (j : ℕ) → number_at columns left j ≡ line_at x (drop next columns) j) → HasColumn free left → AreKept free old new
-    → IsCarried t ks b (run_code (out-Step s).right vs) new h ls → IfSome o (λ n. IsLonger size (Under (out-Step s).op left) h ls n more)
-    → IfSome o (λ n. Starts t ks b value_alone (run_step s vs) new n more x (drop next old))
-under_starts t ks b s vs next x left free h ls old new size o more few whole same has kept carried longer = some_after o _ _ (λ n is. go n is) longer
+pub under_starts : (t : Setting) (s : Step) (next : ℕ) (x : Line) (left : Numbers) (free : ℕ) (h : Hole) (ls : List Link) (old new : List ℤ) (size : ℕ) (o : Option Hole) (more : List Link)
+    → divides (out-Step s).op ≡ false → ((columns : List ℤ) (j : ℕ) → number_at columns left j ≡ line_at x (drop next columns) j) → HasColumn free left → AreKept free old new
+    → IsCarried t (run_code (out-Step s).right) new h ls → IfSome o (λ n. IsLonger size (Under (out-Step s).op left) h ls n more)
+    → IfSome o (λ n. Starts t value_alone (run_step s) new n more x (drop next old))
+under_starts t s next x left free h ls old new size o more whole same has kept carried longer = some_after o _ _ (λ n is. go n is) longer
   where
     never : (z : Bool) → divides (out-Step s).op ≡ true → z ≡ false
     never z e = cc
 
-    go : (n : Hole) → IsLonger size (Under (out-Step s).op left) h ls n more → Starts t ks b value_alone (run_step s vs) new n more x (drop next old)
+    go : (n : Hole) → IsLonger size (Under (out-Step s).op left) h ls n more → Starts t value_alone (run_step s) new n more x (drop next old)
     go n is = record {
       each = λ j d below met.
           ap Ok (path_longer size (Under (out-Step s).op left) h ls n more is new j d
-          ∙ ap (λ (w : ℤ). binary (out-Step s).op w (path_at new h ls j d)) (number_kept free left old new j has kept (omega (arith, below, few)) ∙ same old j))
+          ∙ ap (λ (w : ℤ). binary (out-Step s).op w (path_at new h ls j d)) (number_kept free left old new j has kept (omega (arith, below, t.few)) ∙ same old j))
           ∙ (sym (linked_is (out-Step s).op (out-Step s).place (line_at x (drop next old) j) (path_at new h ls j d) (λ e. never (is_zero (path_at new h ls j d)) e))
           ∙ (ap (source.linked (out-Step s).op (out-Step s).place (line_at x (drop next old) j)) (sym (carried.each j d below met))
-          ∙ sym (step_is s vs (counters_at t ks j) d (line_at x (drop next old) j))));
+          ∙ sym (step_is s t.frame.now.views (counters_at t j) d (line_at x (drop next old) j))));
     }
 
 -- one more operator whose right side is known
-pub front_more : (t : Block) (ks : List ℤ) (b : List ℕ) (s : Step) (rest list whole : List Step) (vs : List View) (next : ℕ) (x y z first : Line) (start old mid new : List ℤ)
-    → t.turns ≤ 256 → list ≡ s ∷ rest → AreKept (next + 256) old mid → Gives t ks b (run_code (out-Step s).right vs) y (drop (next + 256) mid)
-    → ((j : ℕ) → j < t.turns → line_at z (drop next new) j ≡ binary (out-Step s).op (line_at x (drop next mid) j) (line_at y (drop (next + 256) mid) j))
-    → (divides (out-Step s).op ≡ true → (j : ℕ) → j < t.turns → is_zero (line_at y (drop (next + 256) mid) j) ≡ false)
-    → Follows t ks b (run_each_step list vs) (run_each_step whole vs) x (drop next old) first start
-    → Follows t ks b (run_each_step rest vs) (run_each_step whole vs) z (drop next new) first start
-front_more t ks b s rest list whole vs next x y z first start old mid new few is kept right joined safe before = record {
+pub front_more : (t : Setting) (s : Step) (rest list whole : List Step) (next : ℕ) (x y z first : Line) (start old mid new : List ℤ)
+    → list ≡ s ∷ rest → AreKept (next + 256) old mid → Gives t (run_code (out-Step s).right) y (drop (next + 256) mid)
+    → ((j : ℕ) → j < t.block.now.turns → line_at z (drop next new) j ≡ binary (out-Step s).op (line_at x (drop next mid) j) (line_at y (drop (next + 256) mid) j))
+    → (divides (out-Step s).op ≡ true → (j : ℕ) → j < t.block.now.turns → is_zero (line_at y (drop (next + 256) mid) j) ≡ false)
+    → Follows t (run_each_step list) (run_each_step whole) x (drop next old) first start
+    → Follows t (run_each_step rest) (run_each_step whole) z (drop next new) first start
+front_more t s rest list whole next x y z first start old mid new is kept right joined safe before = record {
   each = λ j d below met.
-      ap (λ (r : Result ℤ Trap). and_then r (run_each_step rest vs (counters_at t ks j) d)) (one.each j d below met)
-      ∙ (ap (λ (w : ℤ). run_each_step (s ∷ rest) vs (counters_at t ks j) d w) (line_kept x next (next + 256) old mid j (omega arith) kept (omega (arith, below, few)))
-      ∙ (ap (λ (l : List Step). run_each_step l vs (counters_at t ks j) d (line_at x (drop next old) j)) (sym is) ∙ before.each j d below met));
+      ap (λ (r : Result ℤ Trap). and_then r (run_each_step rest t.frame.now.views (counters_at t j) d)) (one.each j d below met)
+      ∙ (ap (λ (w : ℤ). run_each_step (s ∷ rest) t.frame.now.views (counters_at t j) d w) (line_kept x next (next + 256) old mid j (omega arith) kept (omega (arith, below, t.few)))
+      ∙ (ap (λ (l : List Step). run_each_step l t.frame.now.views (counters_at t j) d (line_at x (drop next old) j)) (sym is) ∙ before.each j d below met));
 }
   where
-    one : Follows t ks b value_alone (run_step s vs) z (drop next new) x (drop next mid)
-    one = next_follows t ks b s vs x y (Some z) (drop next mid) (drop (next + 256) mid) (drop next new) right joined safe
+    one : Follows t value_alone (run_step s) z (drop next new) x (drop next mid)
+    one = next_follows t s x y (Some z) (drop next mid) (drop (next + 256) mid) (drop next new) right joined safe

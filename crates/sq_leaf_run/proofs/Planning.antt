@@ -21,7 +21,7 @@ use Rattle.sq_leaf.specs.Numbers.{is_zero, binary}
 use Rattle.std.specs.Int.{int_min, int_max}
 use Rattle.sq_leaf.specs.Source.{assigned}
 use Rattle.sq_leaf.specs.Spots.{load, store}
-use Rattle.sq_leaf.specs.Running.{Ran, Goes, Stops, once, onward, repeats, assigns, run_code, run_cell, run_each, run_action, ActionRun}
+use Rattle.sq_leaf.specs.Running.{Sight, CellRun, Ran, Goes, Stops, once, onward, assigns, run_code, run_cell, run_each, run_action, ActionRun}
 use Rattle.sq_leaf_run.specs.declared.block.Write.{Write}
 use Rattle.sq_leaf_run.specs.declared.block.Block.{Block}
 use Rattle.sq_leaf_run.specs.declared.block.Rise.{Rise}
@@ -33,7 +33,9 @@ use Rattle.sq_leaf_run.specs.declared.deeds.Value.TheVariants as value
 use Rattle.sq_leaf_run.specs.declared.deeds.Put.{Put}
 use Rattle.sq_leaf_run.specs.declared.deeds.Deed.{Deed}
 use Rattle.sq_leaf_run.specs.declared.deeds.Deed.TheVariants.{Always, Choice}
-use Rattle.sq_leaf_run.specs.Blocks.{IsClearOf, Below, Above, Ahead, AllClear, IsClear, IsMet, counters_at, Places, LiesIn, IsRise, turn_by_turn}
+use Rattle.sq_leaf_run.specs.declared.setting.Setting.{Setting}
+use Rattle.sq_leaf_run.specs.Blocks.{IsClearOf, Below, Above, Ahead, AllClear, IsClear, IsMet, LiesIn, IsRise, turn_by_turn}
+use Rattle.sq_leaf_run.specs.Settings.{counters_at, at_turn, all_turns, Places}
 use Rattle.sq_leaf_run.specs.Deeds.{number_at, byte_at, linked, along_from, value_at, put_at_turn, put_or_not, done, all_done, turns_done, HasColumn, IsRoomy, LinkFits, ValueFits, PutFits, MayFit, DeedFits, AreKept}
 use Rattle.sq_leaf_run.specs.Values.{AreNumbers, IsValue}
 use Rattle.sq_leaf_run.specs.Plans.{passed, past, block_past, chooses, AimsAt, StaysIn, MayStay, DeedStays, IsPut, IsBranch, IsDeed, IsNext, AreDeeds}
@@ -218,14 +220,15 @@ deed_met t u v w b columns most (Choice x taken other) j c one two stays fits be
     either_met u b j (is_zero (number_at columns x j)) (put_or_not columns other j c) (put_or_not columns taken j c)
     (may_met t u w b columns most other j c two stays.1 fits.1.1 below met) (may_met t u v b columns most taken j c one stays.0 fits.1.0 below met)
 
-pub next_is : (first : ℤ) (n : ℕ) (ws : List Write) (m : ℕ) (v w : Write) (ks : List ℤ) (vs : List View) (b : List ℕ) (f : ActionRun) (columns : List ℤ) (next free : ℕ) (d : Deed)
-    → slice_get ws m ≡ Some v → slice_get ws (m + 1) ≡ Some w → IsDeed (block_past first n ws m) v w ks vs b f columns next free d
-    → IsNext (block_past first n ws m) (block_past first n ws (m + 2)) ks vs b f columns next free d
-next_is first n ws m v w ks vs b f columns next free d one two h = record {
-  turn = h.turn;
-  met = λ j c below met. deed_met (block_past first n ws m) (block_past first n ws (m + 2)) v w b columns free d j c
-      (λ k clear. (record { each = (parts j k clear).clear }, (parts j k clear).first)) (λ k clear. (record { each = (parts j k clear).clear }, (parts j k clear).second)) h.stays h.fits below met;
-  fits = h.fits;
+pub next_is : (t u : Setting) (m : ℕ) (v w : Write) (f : ActionRun) (columns : List ℤ) (next free : ℕ) (d : Deed) → u.frame.now ≡ t.frame.now → u.bytes.now ≡ t.bytes.now → u.block.now ≡ block_past t.block.now m
+    → slice_get t.block.now.writes.items m ≡ Some v → slice_get t.block.now.writes.items (m + 1) ≡ Some w → IsDeed u v w f columns next free d → IsNext t m f columns next free d
+next_is t u m v w f columns next free d frame bytes block one two h = record {
+  turn = λ j c below met. subst (λ (s : Sight). f s.views (s.counters ++ (t.block.now.from +ℤ pos j) ∷ []) c ≡ Goes (done columns d j c)) frame
+      (subst (λ (k : Block). f u.frame.now.views (u.frame.now.counters ++ (k.from +ℤ pos j) ∷ []) c ≡ Goes (done columns d j c)) block (h.turn j c (fewer j below) (meets j c met)));
+  met = λ j c below met. deed_met (block_past t.block.now m) (block_past t.block.now (m + 2)) v w t.bytes.now columns free d j c
+      (λ k clear. (record { each = (parts j k clear).clear }, (parts j k clear).first)) (λ k clear. (record { each = (parts j k clear).clear }, (parts j k clear).second))
+      (subst (λ (k : Block). DeedStays v w k.turns d) block h.stays) fits below met;
+  fits = fits;
   after = h.after;
   within = h.within;
 }
@@ -236,8 +239,17 @@ next_is first n ws m v w ks vs b f columns next free d one two h = record {
     next_two : m + 2 ≡ suc (suc m)
     next_two = omega arith
 
-    parts : (j k : ℕ) → IsClear (block_past first n ws (m + 2)) j k → AreApart m ws v w j k
-    parts j k clear = apart m ws v w j k one (sym (ap (slice_get ws) next_one) ∙ two) (subst (λ (i : ℕ). AllClear (past i ws) j k) next_two clear.each)
+    fewer : (j : ℕ) → j < t.block.now.turns → j < u.block.now.turns
+    fewer j below = subst (λ (k : Block). j < k.turns) (sym block) below
+
+    meets : (j : ℕ) (c : List ℕ) → IsMet (block_past t.block.now m) j t.bytes.now c → IsMet u.block.now j u.bytes.now c
+    meets j c met = subst (λ (k : Block). IsMet k j u.bytes.now c) (sym block) (subst (λ (b : List ℕ). IsMet (block_past t.block.now m) j b c) (sym bytes) met)
+
+    fits : DeedFits t.block.now.turns free (length t.bytes.now) d
+    fits = subst (λ (b : List ℕ). DeedFits t.block.now.turns free (length b) d) bytes (subst (λ (k : Block). DeedFits k.turns free (length u.bytes.now) d) block h.fits)
+
+    parts : (j k : ℕ) → IsClear (block_past t.block.now (m + 2)) j k → AreApart m t.block.now.writes.items v w j k
+    parts j k clear = apart m t.block.now.writes.items v w j k one (sym (ap (slice_get t.block.now.writes.items) next_one) ∙ two) (subst (λ (i : ℕ). AllClear (past i t.block.now.writes.items) j k) next_two clear.each)
 
 -- ---- statements one after another
 
@@ -254,63 +266,58 @@ done_more : (columns : List ℤ) (ds : List Deed) (d : Deed) (j : ℕ) (c : List
 done_more columns [] d j c = refl
 done_more columns (e ∷ es) d j c = done_more columns es d j (done columns e j c)
 
-pub no_deeds : (t : Block) (ks : List ℤ) (vs : List View) (b : List ℕ) (columns : List ℤ) → AreDeeds t t ks vs b [] columns 0 []
-no_deeds t ks vs b columns = record {
+pub no_deeds : (t : Setting) (columns : List ℤ) → AreDeeds t 0 [] columns 0 []
+no_deeds t columns = record {
   turn = λ j c below met. refl;
   met = λ j c below met. met;
   fits = λ i d below. absurd (omega (arith, below));
   within = omega arith;
 }
 
-pub one_deed_more : (first : ℤ) (n : ℕ) (m u : Block) (ws : List Write) (ks : List ℤ) (vs : List View) (b : List ℕ) (fs : List ActionRun) (f : ActionRun) (old new : List ℤ) (next free : ℕ) (ds : List Deed) (d : Deed)
-    → n ≤ 256 → m.turns ≡ n → m.from ≡ first → AreDeeds (block_past first n ws 0) m ks vs b fs old next ds → AreKept next old new → IsNext m u ks vs b f new next free d
-    → AreDeeds (block_past first n ws 0) u ks vs b (fs ++ f ∷ []) new free (ds ++ d ∷ [])
-one_deed_more first n m u ws ks vs b fs f old new next free ds d few turns from h kept g = record {
+pub one_deed_more : (t : Setting) (m : ℕ) (fs : List ActionRun) (f : ActionRun) (old new : List ℤ) (next free : ℕ) (ds : List Deed) (d : Deed) → AreDeeds t m fs old next ds → AreKept next old new → IsNext t m f new next free d
+    → AreDeeds t (m + 2) (fs ++ f ∷ []) new free (ds ++ d ∷ [])
+one_deed_more t m fs f old new next free ds d h kept g = record {
   turn = λ j c below met.
-      each_more fs f vs (ks ++ (first +ℤ pos j) ∷ []) c
-      ∙ (ap (λ (r : Ran). onward r (f vs (ks ++ (first +ℤ pos j) ∷ []))) (h.turn j c below met)
-      ∙ (ap (λ (e : List ℕ). f vs (ks ++ (first +ℤ pos j) ∷ []) e) (sym (same j c below))
-      ∙ (ap (λ (i : ℤ). f vs (ks ++ (i +ℤ pos j) ∷ []) (all_done new ds j c)) (sym from)
-      ∙ (g.turn j (all_done new ds j c) (subst (λ (i : ℕ). j < i) (sym turns) below) (middle j c below met) ∙ ap Goes (sym (done_more new ds d j c))))));
+      each_more fs f t.frame.now.views (counters_at t j) c
+      ∙ (ap (λ (r : Ran). onward r (f t.frame.now.views (counters_at t j))) (h.turn j c below met)
+      ∙ (ap (at_turn f t j) (sym (same j c below)) ∙ (g.turn j (all_done new ds j c) below (middle j c below met) ∙ ap Goes (sym (done_more new ds d j c)))));
   met = λ j c below met.
-      subst (IsMet u j b) (sym (done_more new ds d j c)) (g.met j (all_done new ds j c) (subst (λ (i : ℕ). j < i) (sym turns) below) (middle j c below met));
-  fits = All-push (DeedFits n free (length b)) ds d (deeds_more next free n (length b) ds g.after h.fits) (subst (λ (i : ℕ). DeedFits i free (length b) d) turns g.fits);
+      subst (IsMet (block_past t.block.now (m + 2)) j t.bytes.now) (sym (done_more new ds d j c)) (g.met j (all_done new ds j c) below (middle j c below met));
+  fits = All-push (DeedFits t.block.now.turns free (length t.bytes.now)) ds d (deeds_more next free t.block.now.turns (length t.bytes.now) ds g.after h.fits) g.fits;
   within = g.within;
 }
   where
-    same : (j : ℕ) (c : List ℕ) → j < n → all_done new ds j c ≡ all_done old ds j c
-    same j c below = all_kept next n (length b) old new ds j c kept h.fits (omega (arith, below, few))
+    same : (j : ℕ) (c : List ℕ) → j < t.block.now.turns → all_done new ds j c ≡ all_done old ds j c
+    same j c below = all_kept next t.block.now.turns (length t.bytes.now) old new ds j c kept h.fits (omega (arith, below, t.few))
 
-    middle : (j : ℕ) (c : List ℕ) → j < n → IsMet (block_past first n ws 0) j b c → IsMet m j b (all_done new ds j c)
-    middle j c below met = subst (IsMet m j b) (sym (same j c below)) (h.met j c below met)
+    middle : (j : ℕ) (c : List ℕ) → j < t.block.now.turns → IsMet t.block.now j t.bytes.now c → IsMet (block_past t.block.now m) j t.bytes.now (all_done new ds j c)
+    middle j c below met = subst (IsMet (block_past t.block.now m) j t.bytes.now) (sym (same j c below)) (h.met j c below met)
 
 by_turn : (columns : List ℤ) (ds : List Deed) (n j : ℕ) (c : List ℕ) → turn_by_turn (all_done columns ds) n j c ≡ turns_done columns ds n j c
 by_turn columns ds zero j c = refl
 by_turn columns ds (suc n) j c = by_turn columns ds n (suc j) (all_done columns ds j c)
 
-pub deeds_are_loop : (first : ℤ) (n m : ℕ) (ws : List Write) (ks : List ℤ) (vs : List View) (b : List ℕ) (fs : List ActionRun) (columns : List ℤ) (free : ℕ) (ds : List Deed)
-    → AreDeeds (block_past first n ws 0) (block_past first n ws m) ks vs b fs columns free ds
-    → repeats n first (λ i. run_each fs vs (ks ++ i ∷ [])) b ≡ Goes (turns_done columns ds n 0 b)
-deeds_are_loop first n m ws ks vs b fs columns free ds h =
-    block_is_loop (block_past first n ws 0) (all_done columns ds) (λ i. run_each fs vs (ks ++ i ∷ [])) b (record {
+pub deeds_are_loop : (t : Setting) (m : ℕ) (fs : List ActionRun) (columns : List ℤ) (free : ℕ) (ds : List Deed) → AreDeeds t m fs columns free ds
+    → all_turns t (run_each fs) ≡ Goes (turns_done columns ds t.block.now.turns 0 t.bytes.now)
+deeds_are_loop t m fs columns free ds h =
+    block_is_loop t.block.now (all_done columns ds) (λ i. run_each fs t.frame.now.views (t.frame.now.counters ++ i ∷ [])) t.bytes.now (record {
       turn = h.turn;
       next = λ j c below met. later j (all_done columns ds j c) (h.met j c below met);
     })
-    ∙ ap Goes (by_turn columns ds n 0 b)
+    ∙ ap Goes (by_turn columns ds t.block.now.turns 0 t.bytes.now)
   where
-    later : (j : ℕ) (c : List ℕ) → IsMet (block_past first n ws m) j b c → IsMet (block_past first n ws 0) (suc j) b c
-    later j c met = record { size = met.size; same = λ k clear. met.same k (record { each = all_behind m ws j k clear.each }) }
+    later : (j : ℕ) (c : List ℕ) → IsMet (block_past t.block.now m) j t.bytes.now c → IsMet t.block.now (suc j) t.bytes.now c
+    later j c met = record { size = met.size; same = λ k clear. met.same k (record { each = all_behind m t.block.now.writes.items j k clear.each }) }
 
-pub all_fit : (first : ℤ) (n : ℕ) (u : Block) (ws : List Write) (ks : List ℤ) (vs : List View) (b : List ℕ) (fs : List ActionRun) (columns : List ℤ) (free : ℕ) (ds : List Deed)
-    → AreDeeds (block_past first n ws 0) u ks vs b fs columns free ds → All (DeedFits n (length columns) (length b)) ds
-all_fit first n u ws ks vs b fs columns free ds h = deeds_more free (length columns) n (length b) ds h.within h.fits
+pub all_fit : (t : Setting) (m : ℕ) (fs : List ActionRun) (columns : List ℤ) (free : ℕ) (ds : List Deed) → AreDeeds t m fs columns free ds → All (DeedFits t.block.now.turns (length columns) (length t.bytes.now)) ds
+all_fit t m fs columns free ds h = deeds_more free (length columns) t.block.now.turns (length t.bytes.now) ds h.within h.fits
 
 -- ---- one statement
 
 -- a line that goes up, as it was found
-pub aims : (t : Block) (ks : List ℤ) (b : List ℕ) (f : List ℤ → List ℕ → Result Spot Trap) (e : Elem) (l : Line) (column : List ℤ) (r : Rise) → t.turns ≤ 256 → Places t ks b f e l column → IsRise r l → AimsAt t ks b f e r
-aims t ks b f e l column r few places rises = record {
-  each = λ j c below met. places.each j c below met ∙ ap (λ (n : ℕ). Ok (record { elem = e; at = n })) (ap unsigned_abs (rises.is column j (omega (arith, below, few))));
+pub aims : (t : Setting) (f : CellRun) (e : Elem) (l : Line) (column : List ℤ) (r : Rise) → Places t f e l column → IsRise r l → AimsAt t f e r
+aims t f e l column r places rises = record {
+  each = λ j c below met. places.each j c below met ∙ ap (λ (n : ℕ). Ok (record { elem = e; at = n })) (ap unsigned_abs (rises.is column j (omega (arith, below, t.few))));
 }
 
 pub roomy : (n size low high : ℕ) (e : Elem) (l : Line) (column : List ℤ) (r : Rise) → n ≤ 256 → high ≤ size → ((j : ℕ) → j < n → LiesIn low high e l column j) → IsRise r l → IsRoomy n size e r
@@ -324,12 +331,12 @@ roomy n size low high e l column r few within lies rises = record {
       omega (arith, end, is, within);
 }
 
-pub put_is : (t : Block) (w : Write) (ks : List ℤ) (vs : List View) (b : List ℕ) (cell : Cell) (o : AssignOp) (code : Code) (e : Elem) (r : Rise) (v : Value) (columns : List ℤ) (next free : ℕ)
-    → AimsAt t ks b (run_cell cell vs) e r → IsRoomy t.turns (length b) e r → StaysIn w t.turns e r → IsValue t ks b (run_code code vs) columns v → ValueFits t.turns free (length b) v → next ≤ free → free ≤ length columns
-    → IsPut t w ks vs b (assigns cell o code) columns next free (record { elem = e; op = o; to = r; value = v })
-put_is t w ks vs b cell o code e r v columns next free aim room stays gives fits after within = record {
+pub put_is : (t : Setting) (w : Write) (cell : Cell) (o : AssignOp) (code : Code) (e : Elem) (r : Rise) (v : Value) (columns : List ℤ) (next free : ℕ)
+    → AimsAt t (run_cell cell) e r → IsRoomy t.block.now.turns (length t.bytes.now) e r → StaysIn w t.block.now.turns e r → IsValue t (run_code code) columns v → ValueFits t.block.now.turns free (length t.bytes.now) v → next ≤ free → free ≤ length columns
+    → IsPut t w (assigns cell o code) columns next free (record { elem = e; op = o; to = r; value = v })
+put_is t w cell o code e r v columns next free aim room stays gives fits after within = record {
   turn = λ j c below met.
-      ap (λ (s : Result Spot Trap). once s c (λ s. once (run_code code vs (counters_at t ks j) c) c (λ x. Goes (store s (assigned o (load s c) x) c)))) (aim.each j c below met)
+      ap (λ (s : Result Spot Trap). once s c (λ s. once (at_turn (run_code code) t j c) c (λ x. Goes (store s (assigned o (load s c) x) c)))) (aim.each j c below met)
       ∙ ap (λ (s : Result ℤ Trap). once s c (λ x. Goes (store (record { elem = e; at = byte_at r j }) (assigned o (load (record { elem = e; at = byte_at r j }) c) x) c))) (gives.each j c below met);
   stays = stays;
   fits = record { to = room; value = fits };
@@ -337,16 +344,16 @@ put_is t w ks vs b cell o code e r v columns next free aim room stays gives fits
   within = within;
 }
 
-pub always_is : (t : Block) (v w : Write) (ks : List ℤ) (vs : List View) (b : List ℕ) (f : ActionRun) (columns : List ℤ) (next free : ℕ) (p : Put) → IsPut t v ks vs b f columns next free p → IsDeed t v w ks vs b f columns next free (Always p)
-always_is t v w ks vs b f columns next free p h = record { turn = h.turn; stays = h.stays; fits = h.fits; after = h.after; within = h.within }
+pub always_is : (t : Setting) (v w : Write) (f : ActionRun) (columns : List ℤ) (next free : ℕ) (p : Put) → IsPut t v f columns next free p → IsDeed t v w f columns next free (Always p)
+always_is t v w f columns next free p h = record { turn = h.turn; stays = h.stays; fits = h.fits; after = h.after; within = h.within }
 
-pub branch_none : (t : Block) (w : Write) (ks : List ℤ) (vs : List View) (b : List ℕ) (columns : List ℤ) (next : ℕ) → next ≤ length columns → IsBranch t w ks vs b [] columns next next None
-branch_none t w ks vs b columns next within = record { turn = λ j c below met. refl; stays = tt; fits = tt; after = omega arith; within = within }
+pub branch_none : (t : Setting) (w : Write) (columns : List ℤ) (next : ℕ) → next ≤ length columns → IsBranch t w [] columns next next None
+branch_none t w columns next within = record { turn = λ j c below met. refl; stays = tt; fits = tt; after = omega arith; within = within }
 
-pub branch_one : (t : Block) (w : Write) (ks : List ℤ) (vs : List View) (b : List ℕ) (f : ActionRun) (columns : List ℤ) (next free : ℕ) (p : Put) → IsPut t w ks vs b f columns next free p
-    → IsBranch t w ks vs b (f ∷ []) columns next free (Some p)
-branch_one t w ks vs b f columns next free p h = record {
-  turn = λ j c below met. one_alone f vs (counters_at t ks j) c ∙ h.turn j c below met;
+pub branch_one : (t : Setting) (w : Write) (f : ActionRun) (columns : List ℤ) (next free : ℕ) (p : Put) → IsPut t w f columns next free p
+    → IsBranch t w (f ∷ []) columns next free (Some p)
+branch_one t w f columns next free p h = record {
+  turn = λ j c below met. one_alone f t.frame.now.views (counters_at t j) c ∙ h.turn j c below met;
   stays = h.stays;
   fits = h.fits;
   after = h.after;
@@ -354,17 +361,17 @@ branch_one t w ks vs b f columns next free p h = record {
 }
 
 -- a test, what it takes, and what it takes else
-pub choice_is : (t : Block) (v w : Write) (ks : List ℤ) (vs : List View) (b : List ℕ) (test : Code) (taken other : List ActionRun) (one two three : List ℤ) (next free later last : ℕ) (x : Numbers) (p q : Option Put)
-    → t.turns ≤ 256 → AreNumbers t ks b (run_code test vs) one x → HasColumn free x → next ≤ free → IsBranch t v ks vs b taken two free later p → AreKept free one two
-    → IsBranch t w ks vs b other three later last q → AreKept later two three → IsDeed t v w ks vs b (chooses test taken other) three next last (Choice x p q)
-choice_is t v w ks vs b test taken other one two three next free later last x p q few gives has more first kept second still = record {
+pub choice_is : (t : Setting) (v w : Write) (test : Code) (taken other : List ActionRun) (one two three : List ℤ) (next free later last : ℕ) (x : Numbers) (p q : Option Put)
+    → AreNumbers t (run_code test) one x → HasColumn free x → next ≤ free → IsBranch t v taken two free later p → AreKept free one two
+    → IsBranch t w other three later last q → AreKept later two three → IsDeed t v w (chooses test taken other) three next last (Choice x p q)
+choice_is t v w test taken other one two three next free later last x p q gives has more first kept second still = record {
   turn = λ j c below met.
-      let number : number_at one x j ≡ number_at three x j = sym (number_kept free one three x j whole has (omega (arith, below, few))) in
-      ap (λ (r : Result ℤ Trap). once r c (λ z. if is_zero z then run_each other vs (counters_at t ks j) c else run_each taken vs (counters_at t ks j) c)) (gives.each j c below met ∙ ap Ok number)
-      ∙ pick (is_zero (number_at three x j)) (run_each other vs (counters_at t ks j) c) (run_each taken vs (counters_at t ks j) c) (put_or_not three q j c) (put_or_not three p j c)
-      (second.turn j c below met) (first.turn j c below met ∙ ap Goes (sym (may_kept later t.turns (length b) two three p j c still first.fits (omega (arith, below, few)))));
+      let number : number_at one x j ≡ number_at three x j = sym (number_kept free one three x j whole has (omega (arith, below, t.few))) in
+      ap (λ (r : Result ℤ Trap). once r c (λ z. if is_zero z then at_turn (run_each other) t j c else at_turn (run_each taken) t j c)) (gives.each j c below met ∙ ap Ok number)
+      ∙ pick (is_zero (number_at three x j)) (at_turn (run_each other) t j c) (at_turn (run_each taken) t j c) (put_or_not three q j c) (put_or_not three p j c)
+      (second.turn j c below met) (first.turn j c below met ∙ ap Goes (sym (may_kept later t.block.now.turns (length t.bytes.now) two three p j c still first.fits (omega (arith, below, t.few)))));
   stays = (first.stays, second.stays);
-  fits = (omega (arith, has, first.after, second.after), (may_more later last t.turns (length b) p second.after first.fits, second.fits));
+  fits = (omega (arith, has, first.after, second.after), (may_more later last t.block.now.turns (length t.bytes.now) p second.after first.fits, second.fits));
   after = omega (arith, more, first.after, second.after);
   within = second.within;
 }
@@ -396,14 +403,12 @@ two_more : (ds : List Deed) (d : Deed) → 2 * length ds + 2 ≡ 2 * length (ds 
 two_more [] d = refl
 two_more (e ∷ es) d = let inner : 2 * length es + 2 ≡ 2 * length (es ++ d ∷ []) = two_more es d in omega (arith, inner)
 
-pub one_action_more : (first : ℤ) (n : ℕ) (ws : List Write) (ks : List ℤ) (vs : List View) (b : List ℕ) (body : List Action) (i : ℕ) (a : Action) (old new : List ℤ) (next free : ℕ) (ds : List Deed) (d : Deed)
-    → n ≤ 256 → i < length body → a ≡ get_or body i a → AreDeeds (block_past first n ws 0) (block_past first n ws (2 * length ds)) ks vs b (map run_action (take i body)) old next ds
-    → AreKept next old new → IsNext (block_past first n ws (2 * length ds)) (block_past first n ws (2 * length ds + 2)) ks vs b (run_action a) new next free d
-    → AreDeeds (block_past first n ws 0) (block_past first n ws (2 * length (ds ++ d ∷ []))) ks vs b (map run_action (take (i + 1) body)) new free (ds ++ d ∷ [])
-one_action_more first n ws ks vs b body i a old new next free ds d few inside is h kept g =
-    subst (λ (m : ℕ). AreDeeds (block_past first n ws 0) (block_past first n ws m) ks vs b (map run_action (take (i + 1) body)) new free (ds ++ d ∷ [])) (two_more ds d)
-    (subst (λ (fs : List ActionRun). AreDeeds (block_past first n ws 0) (block_past first n ws (2 * length ds + 2)) ks vs b fs new free (ds ++ d ∷ [])) (sym grows)
-    (one_deed_more first n (block_past first n ws (2 * length ds)) (block_past first n ws (2 * length ds + 2)) ws ks vs b (map run_action (take i body)) (run_action a) old new next free ds d few refl refl h kept g))
+pub one_action_more : (t : Setting) (body : List Action) (i : ℕ) (a : Action) (old new : List ℤ) (next free : ℕ) (ds : List Deed) (d : Deed) → i < length body → a ≡ get_or body i a
+    → AreDeeds t (2 * length ds) (map run_action (take i body)) old next ds → AreKept next old new → IsNext t (2 * length ds) (run_action a) new next free d
+    → AreDeeds t (2 * length (ds ++ d ∷ [])) (map run_action (take (i + 1) body)) new free (ds ++ d ∷ [])
+one_action_more t body i a old new next free ds d inside is h kept g =
+    subst (λ (m : ℕ). AreDeeds t m (map run_action (take (i + 1) body)) new free (ds ++ d ∷ [])) (two_more ds d)
+    (subst (λ (fs : List ActionRun). AreDeeds t (2 * length ds + 2) fs new free (ds ++ d ∷ [])) (sym grows) (one_deed_more t (2 * length ds) (map run_action (take i body)) (run_action a) old new next free ds d h kept g))
   where
     one : i + 1 ≡ suc i
     one = omega arith

@@ -1,6 +1,8 @@
 -- Indices of a block: where the elements of its turns stand.
-use Rattle.std.proofs.Common.{◌≡◌, ℕ, ◌+◌, ◌-◌, ◌*◌, ◌^◌, ◌<◌, ◌≤◌, List, [], ◌∷◌, ◌++◌, length, map, get_or, slice_get, Option, Some, None, Result, Ok, Err, ℤ, pos, negsuc, nat_lt, IfSome, true, false, refl, sym, subst, ◌∙◌, ap, arith, unsigned_abs, if◌then◌else◌}
+use Rattle.std.proofs.Common.{◌≡◌, ℕ, zero, suc, ◌+◌, ◌-◌, ◌*◌, ◌^◌, ◌<◌, ◌≤◌, List, [], ◌∷◌, ◌++◌, length, map, get_or, slice_get, Option, Some, None, Result, Ok, Err, ℤ, pos, negsuc, nat_lt, IfSome, true, false, refl, sym, subst, ◌∙◌, ap, arith, unsigned_abs, if◌then◌else◌}
+use Rattle.std.specs.List.{All}
 use Rattle.std.proofs.lemmas.List.Prefix.{front_reads}
+use Rattle.std.proofs.lemmas.List.Elements.{All-head, All-tail}
 use Rattle.std.specs.Option.{option_map}
 use Rattle.sq_num.specs.declared.Elem.{Elem}
 use Rattle.sq_num.specs.declared.Elem.TheVariants.{Byte, Int, Long}
@@ -15,10 +17,11 @@ use Rattle.sq_leaf.specs.declared.code.Cell.{Cell, out-Cell}
 use Rattle.sq_leaf.specs.Outcome.{and_then, all}
 use Rattle.sq_leaf.specs.Places.{along, located, reach}
 use Rattle.sq_leaf.specs.Spots.{IsInside, first_of, spot_or_trap}
-use Rattle.sq_leaf.specs.Running.{run_code, run_codes, run_cell, cell_in, CodeRun}
+use Rattle.sq_leaf.specs.Running.{run_code, run_codes, run_cell, cell_in, CodeRun, CellRun}
 use Rattle.sq_leaf.proofs.Many.{cell_found}
-use Rattle.sq_leaf_run.specs.declared.block.Block.{Block}
-use Rattle.sq_leaf_run.specs.Blocks.{Read, counters_at, Gives, Places, LiesIn, Offset, AreSpots, along_value, offset_by, offset_of}
+use Rattle.sq_leaf_run.specs.declared.setting.Setting.{Setting}
+use Rattle.sq_leaf_run.specs.Blocks.{LiesIn}
+use Rattle.sq_leaf_run.specs.Settings.{counters_at, at_turn, Gives, Places, Offset, AreSpots, along_value, offset_by, offset_of, offset_along}
 use Rattle.sq_leaf_run.proofs.Meeting.{met_same}
 
 -- the first column is the front of all
@@ -27,37 +30,37 @@ line_front (Same x) all xs ys j e h = refl
 line_front (Ramp a d) all xs ys j e h = refl
 line_front Column all xs ys j e h = front_reads (pos 0) all xs ys e j h
 
-pub spots_front : (t : Block) (ks : List ℤ) (b : List ℕ) (off : Offset) (at w most : ℕ) (l : Line) (all xs ys : List ℤ) → all ≡ xs ++ ys → t.turns ≤ length xs
-    → AreSpots t ks b off at w most l all → AreSpots t ks b off at w most l xs
-spots_front t ks b off at w most l all xs ys e room h = record {
+pub spots_front : (t : Setting) (off : Offset) (at w most : ℕ) (l : Line) (all xs ys : List ℤ) → all ≡ xs ++ ys → t.block.now.turns ≤ length xs
+    → AreSpots t off at w most l all → AreSpots t off at w most l xs
+spots_front t off at w most l all xs ys e room h = record {
   steady = h.steady;
-  spot = λ j below. subst (IsSpot at w most (off (counters_at t ks j) b)) (line_front l all xs ys j e (omega (arith, below, room))) (h.spot j below);
+  spot = λ j below. subst (IsSpot at w most (at_turn off t j t.bytes.now)) (line_front l all xs ys j e (omega (arith, below, room))) (h.spot j below);
 }
 
-pub spots_whole : (t : Block) (ks : List ℤ) (b : List ℕ) (off : Offset) (at w most : ℕ) (l : Line) (all xs ys : List ℤ) → all ≡ xs ++ ys → t.turns ≤ length xs
-    → AreSpots t ks b off at w most l xs → AreSpots t ks b off at w most l all
-spots_whole t ks b off at w most l all xs ys e room h = record {
+pub spots_whole : (t : Setting) (off : Offset) (at w most : ℕ) (l : Line) (all xs ys : List ℤ) → all ≡ xs ++ ys → t.block.now.turns ≤ length xs
+    → AreSpots t off at w most l xs → AreSpots t off at w most l all
+spots_whole t off at w most l all xs ys e room h = record {
   steady = h.steady;
-  spot = λ j below. subst (IsSpot at w most (off (counters_at t ks j) b)) (sym (line_front l all xs ys j e (omega (arith, below, room)))) (h.spot j below);
+  spot = λ j below. subst (IsSpot at w most (at_turn off t j t.bytes.now)) (sym (line_front l all xs ys j e (omega (arith, below, room)))) (h.spot j below);
 }
 
-pub none_behind : (t : Block) (ks : List ℤ) (b : List ℕ) (at w : ℕ) (column : List ℤ) → AreSpots t ks b (λ k c. Some 0) at w 0 (Same (pos at)) column
-none_behind t ks b at w column = record {
+pub none_behind : (t : Setting) (at w : ℕ) (column : List ℤ) → AreSpots t (λ vs ks c. Some 0) at w 0 (Same (pos at)) column
+none_behind t at w column = record {
   steady = λ j c below met. refl;
   spot = λ j below. let here : at ≡ at + w * 0 = omega arith in record { before = 0; there = refl; low = omega arith; is = ap pos here };
 }
 
 -- one more dimension in front
-pub spots_along : (t : Block) (ks : List ℤ) (b : List ℕ) (off : Offset) (at w most : ℕ) (l : Line) (xs : List ℤ) (f : Read ℤ) (index : Line) (ys : List ℤ) (n s : ℕ) (m : Line) (zs : List ℤ)
-    → AreSpots t ks b off at w most l xs → Gives t ks b f index ys
-    → ((j : ℕ) → j < t.turns → IsSpot at w ((n - 1) * s + most) (along (line_at index ys j) n s (off (counters_at t ks j) b)) (line_at m zs j))
-    → AreSpots t ks b (λ k c. along_value (f k c) n s (off k c)) at w ((n - 1) * s + most) m zs
-spots_along t ks b off at w most l xs f index ys n s m zs behind gives h = record {
+pub spots_along : (t : Setting) (off : Offset) (at w most : ℕ) (l : Line) (xs : List ℤ) (f : CodeRun) (index : Line) (ys : List ℤ) (n s : ℕ) (m : Line) (zs : List ℤ)
+    → AreSpots t off at w most l xs → Gives t f index ys
+    → ((j : ℕ) → j < t.block.now.turns → IsSpot at w ((n - 1) * s + most) (along (line_at index ys j) n s (at_turn off t j t.bytes.now)) (line_at m zs j))
+    → AreSpots t (offset_along f n s off) at w ((n - 1) * s + most) m zs
+spots_along t off at w most l xs f index ys n s m zs behind gives h = record {
   steady = λ j c below met.
-      ap (λ (r : Result ℤ Trap). along_value r n s (off (counters_at t ks j) c)) (gives.each j c below met ∙ sym (gives.each j b below (met_same t j b)))
-      ∙ ap (λ (o : Option ℕ). along_value (f (counters_at t ks j) b) n s o) (behind.steady j c below met);
+      ap (λ (r : Result ℤ Trap). along_value r n s (at_turn off t j c)) (gives.each j c below met ∙ sym (gives.each j t.bytes.now below (met_same t.block.now j t.bytes.now)))
+      ∙ ap (λ (o : Option ℕ). along_value (at_turn f t j t.bytes.now) n s o) (behind.steady j c below met);
   spot = λ j below.
-      subst (λ (r : Result ℤ Trap). IsSpot at w ((n - 1) * s + most) (along_value r n s (off (counters_at t ks j) b)) (line_at m zs j)) (sym (gives.each j b below (met_same t j b))) (h j below);
+      subst (λ (r : Result ℤ Trap). IsSpot at w ((n - 1) * s + most) (along_value r n s (at_turn off t j t.bytes.now)) (line_at m zs j)) (sym (gives.each j t.bytes.now below (met_same t.block.now j t.bytes.now))) (h j below);
 }
 
 along_none : (i : ℤ) (n s : ℕ) → along i n s None ≡ None
@@ -97,18 +100,18 @@ first_is : (c : Cell) (v : View) (vs : List View) (ks : List ℤ) (b : List ℕ)
 first_is c v vs ks b o h =
     sym (ap (λ (r : Result (List ℤ) Trap). first_of (cell_in v (out-Cell c).place r)) h.computed ∙ ap (λ (p : Option ℕ). first_of (spot_or_trap v (out-Cell c).place p)) h.there)
 
-pub spots_places : (t : Block) (ks : List ℤ) (b : List ℕ) (c : Cell) (v : View) (vs : List View) (l : Line) (column : List ℤ) → Some v ≡ slice_get vs (out-Cell c).array
-    → AreSpots t ks b (offset_of v.extents v.strides (out-Cell c).index vs) v.at (width v.elem) (reach v.extents v.strides) l column → Places t ks b (run_cell c vs) v.elem l column
-spots_places t ks b c v vs l column found h = record { each = λ j d below met. go j d (h.spot j below) (h.steady j d below met) }
+pub spots_places : (t : Setting) (c : Cell) (v : View) (l : Line) (column : List ℤ) → Some v ≡ slice_get t.frame.now.views (out-Cell c).array
+    → AreSpots t (offset_of v.extents v.strides (out-Cell c).index) v.at (width v.elem) (reach v.extents v.strides) l column → Places t (run_cell c) v.elem l column
+spots_places t c v l column found h = record { each = λ j d below met. go j d (h.spot j below) (h.steady j d below met) }
   where
-    go : (j : ℕ) (d : List ℕ) → IsSpot v.at (width v.elem) (reach v.extents v.strides) (offset_of v.extents v.strides (out-Cell c).index vs (counters_at t ks j) b) (line_at l column j)
-        → offset_of v.extents v.strides (out-Cell c).index vs (counters_at t ks j) d ≡ offset_of v.extents v.strides (out-Cell c).index vs (counters_at t ks j) b
-        → run_cell c vs (counters_at t ks j) d ≡ Ok (record { elem = v.elem; at = first_byte l column j })
+    go : (j : ℕ) (d : List ℕ) → IsSpot v.at (width v.elem) (reach v.extents v.strides) (at_turn (offset_of v.extents v.strides (out-Cell c).index) t j t.bytes.now) (line_at l column j)
+        → at_turn (offset_of v.extents v.strides (out-Cell c).index) t j d ≡ at_turn (offset_of v.extents v.strides (out-Cell c).index) t j t.bytes.now
+        → at_turn (run_cell c) t j d ≡ Ok (record { elem = v.elem; at = first_byte l column j })
     go j d spot steady =
-        let there : AllIn v.extents v.strides (map (λ (f : CodeRun). f vs (counters_at t ks j) d) (map run_code (out-Cell c).index)) spot.before =
+        let there : AllIn v.extents v.strides (map (λ (f : CodeRun). f t.frame.now.views (counters_at t j) d) (map run_code (out-Cell c).index)) spot.before =
         all_in v.extents v.strides _ spot.before (steady ∙ spot.there) in
         let here : first_byte l column j ≡ v.at + width v.elem * spot.before = ap unsigned_abs spot.is in
-        cell_found c v vs (counters_at t ks j) d (v.at + width v.elem * spot.before) found (first_is c v vs (counters_at t ks j) d spot.before there)
+        cell_found c v t.frame.now.views (counters_at t j) d (v.at + width v.elem * spot.before) found (first_is c v t.frame.now.views (counters_at t j) d spot.before there)
         ∙ ap (λ (n : ℕ). Ok (record { elem = v.elem; at = n })) (sym here)
 
 ends : (e : Elem) (o most : ℕ) → o ≤ most → width e * o + width e ≤ width e * (most + 1)
@@ -116,10 +119,10 @@ ends Byte o most h = omega arith
 ends Int o most h = omega arith
 ends Long o most h = omega arith
 
-pub spots_lie : (t : Block) (ks : List ℤ) (b : List ℕ) (off : Offset) (at most : ℕ) (e : Elem) (l : Line) (column : List ℤ) → AreSpots t ks b off at (width e) most l column
-    → (j : ℕ) → j < t.turns → LiesIn at (at + width e * (most + 1)) e l column j
-spots_lie t ks b off at most e l column h j below =
-    let spot : IsSpot at (width e) most (off (counters_at t ks j) b) (line_at l column j) = h.spot j below in
+pub spots_lie : (t : Setting) (off : Offset) (at most : ℕ) (e : Elem) (l : Line) (column : List ℤ) → AreSpots t off at (width e) most l column
+    → (j : ℕ) → j < t.block.now.turns → LiesIn at (at + width e * (most + 1)) e l column j
+spots_lie t off at most e l column h j below =
+    let spot : IsSpot at (width e) most (at_turn off t j t.bytes.now) (line_at l column j) = h.spot j below in
     let here : first_byte l column j ≡ at + width e * spot.before = ap unsigned_abs spot.is in
     record {
       is = spot.is ∙ ap pos (sym here);
@@ -132,18 +135,18 @@ some_after (Some x) P Q f h = f x h
 some_after None P Q f h = h
 
 -- the index's column behind the first one
-pub along_front : (t : Block) (ks : List ℤ) (b : List ℕ) (off more : Offset) (at w most reach : ℕ) (l : Line) (o : Option Line) (all front rest new_front new_rest : List ℤ)
-    → all ≡ front ++ rest → t.turns ≤ length front → t.turns ≤ length new_front
-    → (AreSpots t ks b off at w most l front → IfSome o (λ m. AreSpots t ks b more at w reach m new_front))
-    → AreSpots t ks b off at w most l all → IfSome o (λ m. AreSpots t ks b more at w reach m (new_front ++ new_rest))
-along_front t ks b off more at w most reach l o all front rest new_front new_rest e room new_room f h =
-    some_after o _ _ (λ m g. spots_whole t ks b more at w reach m (new_front ++ new_rest) new_front new_rest refl new_room g) (f (spots_front t ks b off at w most l all front rest e room h))
+pub along_front : (t : Setting) (off more : Offset) (at w most reach : ℕ) (l : Line) (o : Option Line) (all front rest new_front new_rest : List ℤ)
+    → all ≡ front ++ rest → t.block.now.turns ≤ length front → t.block.now.turns ≤ length new_front
+    → (AreSpots t off at w most l front → IfSome o (λ m. AreSpots t more at w reach m new_front))
+    → AreSpots t off at w most l all → IfSome o (λ m. AreSpots t more at w reach m (new_front ++ new_rest))
+along_front t off more at w most reach l o all front rest new_front new_rest e room new_room f h =
+    some_after o _ _ (λ m g. spots_whole t more at w reach m (new_front ++ new_rest) new_front new_rest refl new_room g) (f (spots_front t off at w most l all front rest e room h))
 
 -- what one more index makes of a line
-abbrev pub Moves : Block → List ℤ → List ℕ → List View → ℕ → ℕ → ℕ → ℕ → Code → Line → List ℤ → Option Line → List ℤ → Type 0
-Moves t ks b vs at w n s x l old o new =
-    (most : ℕ) (off : Offset) → at + w * ((n - 1) * s + most) < 2 ^ 62 → AreSpots t ks b off at w most l old
-    → IfSome o (λ m. AreSpots t ks b (λ k c. along_value (run_code x vs k c) n s (off k c)) at w ((n - 1) * s + most) m new)
+abbrev pub Moves : Setting → ℕ → ℕ → ℕ → ℕ → Code → Line → List ℤ → Option Line → List ℤ → Type 0
+Moves t at w n s x l old o new =
+    (most : ℕ) (off : Offset) → at + w * ((n - 1) * s + most) < 2 ^ 62 → AreSpots t off at w most l old
+    → IfSome o (λ m. AreSpots t (offset_along (run_code x) n s off) at w ((n - 1) * s + most) m new)
 
 less_near : (at w p q : ℕ) → at + w * (p + q) < 2 ^ 62 → at + w * q < 2 ^ 62
 less_near at w p q h = omega (arith, h, mul_add_left w p q)
@@ -151,44 +154,44 @@ less_near at w p q h = omega (arith, h, mul_add_left w p q)
     mul_add_left : (w p q : ℕ) → w * (p + q) ≡ w * p + w * q
     mul_add_left w p q = omega arith
 
-moved : (t : Block) (ks : List ℤ) (b : List ℕ) (vs : List View) (at w : ℕ) (o : Option Line) (new : List ℤ) (ns ss : List ℕ) (codes : List Code) (ms ts : List ℕ) (others : List Code)
-    → ns ≡ ms → ss ≡ ts → codes ≡ others → (at + w * reach ns ss < 2 ^ 62 → IfSome o (λ m. AreSpots t ks b (offset_of ns ss codes vs) at w (reach ns ss) m new))
-    → at + w * reach ms ts < 2 ^ 62 → IfSome o (λ m. AreSpots t ks b (offset_of ms ts others vs) at w (reach ms ts) m new)
-moved t ks b vs at w o new ns ss codes ms ts others en es ec =
-    λ h. subst (λ (cs : List Code). at + w * reach ms ts < 2 ^ 62 → IfSome o (λ m. AreSpots t ks b (offset_of ms ts cs vs) at w (reach ms ts) m new)) ec
-    (subst (λ (qs : List ℕ). at + w * reach ms qs < 2 ^ 62 → IfSome o (λ m. AreSpots t ks b (offset_of ms qs codes vs) at w (reach ms qs) m new)) es
-    (subst (λ (ps : List ℕ). at + w * reach ps ss < 2 ^ 62 → IfSome o (λ m. AreSpots t ks b (offset_of ps ss codes vs) at w (reach ps ss) m new)) en h))
+moved : (t : Setting) (at w : ℕ) (o : Option Line) (new : List ℤ) (ns ss : List ℕ) (codes : List Code) (ms ts : List ℕ) (others : List Code)
+    → ns ≡ ms → ss ≡ ts → codes ≡ others → (at + w * reach ns ss < 2 ^ 62 → IfSome o (λ m. AreSpots t (offset_of ns ss codes) at w (reach ns ss) m new))
+    → at + w * reach ms ts < 2 ^ 62 → IfSome o (λ m. AreSpots t (offset_of ms ts others) at w (reach ms ts) m new)
+moved t at w o new ns ss codes ms ts others en es ec =
+    λ h. subst (λ (cs : List Code). at + w * reach ms ts < 2 ^ 62 → IfSome o (λ m. AreSpots t (offset_of ms ts cs) at w (reach ms ts) m new)) ec
+    (subst (λ (qs : List ℕ). at + w * reach ms qs < 2 ^ 62 → IfSome o (λ m. AreSpots t (offset_of ms qs codes) at w (reach ms qs) m new)) es
+    (subst (λ (ps : List ℕ). at + w * reach ps ss < 2 ^ 62 → IfSome o (λ m. AreSpots t (offset_of ps ss codes) at w (reach ps ss) m new)) en h))
 
-pub one_index : (t : Block) (ks : List ℤ) (b : List ℕ) (vs : List View) (at w n s : ℕ) (x : Code) (l : Line) (old : List ℤ) (o : Option Line) (new : List ℤ) (ns ss : List ℕ) (codes : List Code)
-    → Moves t ks b vs at w n s x l old o new → AreSpots t ks b (offset_of [] [] [] vs) at w 0 l old → n ∷ [] ≡ ns → s ∷ [] ≡ ss → x ∷ [] ≡ codes
-    → at + w * reach ns ss < 2 ^ 62 → IfSome o (λ m. AreSpots t ks b (offset_of ns ss codes vs) at w (reach ns ss) m new)
-one_index t ks b vs at w n s x l old o new ns ss codes f h en es ec near =
-    moved t ks b vs at w o new (n ∷ []) (s ∷ []) (x ∷ []) ns ss codes en es ec (λ close. f 0 (offset_of [] [] [] vs) close h) near
+pub one_index : (t : Setting) (at w n s : ℕ) (x : Code) (l : Line) (old : List ℤ) (o : Option Line) (new : List ℤ) (ns ss : List ℕ) (codes : List Code)
+    → Moves t at w n s x l old o new → AreSpots t (offset_of [] [] []) at w 0 l old → n ∷ [] ≡ ns → s ∷ [] ≡ ss → x ∷ [] ≡ codes
+    → at + w * reach ns ss < 2 ^ 62 → IfSome o (λ m. AreSpots t (offset_of ns ss codes) at w (reach ns ss) m new)
+one_index t at w n s x l old o new ns ss codes f h en es ec near =
+    moved t at w o new (n ∷ []) (s ∷ []) (x ∷ []) ns ss codes en es ec (λ close. f 0 (offset_of [] [] []) close h) near
 
 -- the same where the line is known
-abbrev pub Moved : Block → List ℤ → List ℕ → List View → ℕ → ℕ → ℕ → ℕ → Code → Line → List ℤ → Line → List ℤ → Type 0
-Moved t ks b vs at w n s x l old m new =
-    (most : ℕ) (off : Offset) → at + w * ((n - 1) * s + most) < 2 ^ 62 → AreSpots t ks b off at w most l old
-    → AreSpots t ks b (λ k c. along_value (run_code x vs k c) n s (off k c)) at w ((n - 1) * s + most) m new
+abbrev pub Moved : Setting → ℕ → ℕ → ℕ → ℕ → Code → Line → List ℤ → Line → List ℤ → Type 0
+Moved t at w n s x l old m new =
+    (most : ℕ) (off : Offset) → at + w * ((n - 1) * s + most) < 2 ^ 62 → AreSpots t off at w most l old
+    → AreSpots t (offset_along (run_code x) n s off) at w ((n - 1) * s + most) m new
 
-pub two_indices : (t : Block) (ks : List ℤ) (b : List ℕ) (vs : List View) (at w n s m u : ℕ) (x y : Code) (l k : Line) (old mid : List ℤ) (o : Option Line) (new : List ℤ) (ns ss : List ℕ) (codes : List Code)
-    → Moved t ks b vs at w m u y l old k mid → Moves t ks b vs at w n s x k mid o new → AreSpots t ks b (offset_of [] [] [] vs) at w 0 l old
-    → n ∷ m ∷ [] ≡ ns → s ∷ u ∷ [] ≡ ss → x ∷ y ∷ [] ≡ codes → at + w * reach ns ss < 2 ^ 62 → IfSome o (λ q. AreSpots t ks b (offset_of ns ss codes vs) at w (reach ns ss) q new)
-two_indices t ks b vs at w n s m u x y l k old mid o new ns ss codes f g h en es ec near =
-    moved t ks b vs at w o new (n ∷ m ∷ []) (s ∷ u ∷ []) (x ∷ y ∷ []) ns ss codes en es ec
-    (λ close. g (reach (m ∷ []) (u ∷ [])) (offset_of (m ∷ []) (u ∷ []) (y ∷ []) vs) close
-    (f 0 (offset_of [] [] [] vs) (less_near at w ((n - 1) * s) (reach (m ∷ []) (u ∷ [])) close) h)) near
+pub two_indices : (t : Setting) (at w n s m u : ℕ) (x y : Code) (l k : Line) (old mid : List ℤ) (o : Option Line) (new : List ℤ) (ns ss : List ℕ) (codes : List Code)
+    → Moved t at w m u y l old k mid → Moves t at w n s x k mid o new → AreSpots t (offset_of [] [] []) at w 0 l old
+    → n ∷ m ∷ [] ≡ ns → s ∷ u ∷ [] ≡ ss → x ∷ y ∷ [] ≡ codes → at + w * reach ns ss < 2 ^ 62 → IfSome o (λ q. AreSpots t (offset_of ns ss codes) at w (reach ns ss) q new)
+two_indices t at w n s m u x y l k old mid o new ns ss codes f g h en es ec near =
+    moved t at w o new (n ∷ m ∷ []) (s ∷ u ∷ []) (x ∷ y ∷ []) ns ss codes en es ec
+    (λ close. g (reach (m ∷ []) (u ∷ [])) (offset_of (m ∷ []) (u ∷ []) (y ∷ [])) close
+    (f 0 (offset_of [] [] []) (less_near at w ((n - 1) * s) (reach (m ∷ []) (u ∷ [])) close) h)) near
 
-pub three_indices : (t : Block) (ks : List ℤ) (b : List ℕ) (vs : List View) (at w n s m u i v : ℕ) (x y z : Code) (l k j : Line) (old mid far : List ℤ) (o : Option Line) (new : List ℤ) (ns ss : List ℕ) (codes : List Code)
-    → Moved t ks b vs at w i v z l old k mid → Moved t ks b vs at w m u y k mid j far → Moves t ks b vs at w n s x j far o new → AreSpots t ks b (offset_of [] [] [] vs) at w 0 l old
-    → n ∷ m ∷ i ∷ [] ≡ ns → s ∷ u ∷ v ∷ [] ≡ ss → x ∷ y ∷ z ∷ [] ≡ codes → at + w * reach ns ss < 2 ^ 62 → IfSome o (λ r. AreSpots t ks b (offset_of ns ss codes vs) at w (reach ns ss) r new)
-three_indices t ks b vs at w n s m u i v x y z l k j old mid far o new ns ss codes f g g2 h en es ec near =
-    moved t ks b vs at w o new (n ∷ m ∷ i ∷ []) (s ∷ u ∷ v ∷ []) (x ∷ y ∷ z ∷ []) ns ss codes en es ec
+pub three_indices : (t : Setting) (at w n s m u i v : ℕ) (x y z : Code) (l k j : Line) (old mid far : List ℤ) (o : Option Line) (new : List ℤ) (ns ss : List ℕ) (codes : List Code)
+    → Moved t at w i v z l old k mid → Moved t at w m u y k mid j far → Moves t at w n s x j far o new → AreSpots t (offset_of [] [] []) at w 0 l old
+    → n ∷ m ∷ i ∷ [] ≡ ns → s ∷ u ∷ v ∷ [] ≡ ss → x ∷ y ∷ z ∷ [] ≡ codes → at + w * reach ns ss < 2 ^ 62 → IfSome o (λ r. AreSpots t (offset_of ns ss codes) at w (reach ns ss) r new)
+three_indices t at w n s m u i v x y z l k j old mid far o new ns ss codes f g g2 h en es ec near =
+    moved t at w o new (n ∷ m ∷ i ∷ []) (s ∷ u ∷ v ∷ []) (x ∷ y ∷ z ∷ []) ns ss codes en es ec
     (λ close.
     let less : at + w * reach (m ∷ i ∷ []) (u ∷ v ∷ []) < 2 ^ 62 = less_near at w ((n - 1) * s) (reach (m ∷ i ∷ []) (u ∷ v ∷ [])) close in
-    g2 (reach (m ∷ i ∷ []) (u ∷ v ∷ [])) (offset_of (m ∷ i ∷ []) (u ∷ v ∷ []) (y ∷ z ∷ []) vs) close
-    (g (reach (i ∷ []) (v ∷ [])) (offset_of (i ∷ []) (v ∷ []) (z ∷ []) vs) less
-    (f 0 (offset_of [] [] [] vs) (less_near at w ((m - 1) * u) (reach (i ∷ []) (v ∷ [])) less) h))) near
+    g2 (reach (m ∷ i ∷ []) (u ∷ v ∷ [])) (offset_of (m ∷ i ∷ []) (u ∷ v ∷ []) (y ∷ z ∷ [])) close
+    (g (reach (i ∷ []) (v ∷ [])) (offset_of (i ∷ []) (v ∷ []) (z ∷ [])) less
+    (f 0 (offset_of [] [] []) (less_near at w ((m - 1) * u) (reach (i ∷ []) (v ∷ [])) less) h))) near
 
 reach_near : (e : Elem) (at r size : ℕ) → at + width e * (r + 1) ≤ size → size < 2 ^ 62 → at + width e * r < 2 ^ 62
 reach_near Byte at r size h less = omega arith
@@ -198,12 +201,12 @@ reach_near Long at r size h less = omega arith
 pub view_near : (v : View) (size : ℕ) → IsInside size v → size < 2 ^ 62 → v.at + width v.elem * reach v.extents v.strides < 2 ^ 62
 view_near v size inside less = reach_near v.elem v.at (reach v.extents v.strides) size inside.ends less
 
-pub spots_there : (t : Block) (ks : List ℤ) (b : List ℕ) (c : Cell) (v : View) (vs : List View) (size : ℕ) (o : Option Line) (column : List ℤ) (ns ss : List ℕ) (codes : List Code)
-    → ns ≡ v.extents → ss ≡ v.strides → codes ≡ (out-Cell c).index → Some v ≡ slice_get vs (out-Cell c).array → IsInside size v → size < 2 ^ 62
-    → (v.at + width v.elem * reach ns ss < 2 ^ 62 → IfSome o (λ l. AreSpots t ks b (offset_of ns ss codes vs) v.at (width v.elem) (reach ns ss) l column)) → IfSome o (λ l. Places t ks b (run_cell c vs) v.elem l column)
-spots_there t ks b c v vs size o column ns ss codes en es ec found inside near h =
-    some_after o _ _ (λ l g. spots_places t ks b c v vs l column found g)
-    (moved t ks b vs v.at (width v.elem) o column ns ss codes v.extents v.strides (out-Cell c).index en es ec h (view_near v size inside near))
+pub spots_there : (t : Setting) (c : Cell) (v : View) (o : Option Line) (column : List ℤ) (ns ss : List ℕ) (codes : List Code)
+    → ns ≡ v.extents → ss ≡ v.strides → codes ≡ (out-Cell c).index → Some v ≡ slice_get t.frame.now.views (out-Cell c).array → IsInside (length t.bytes.now) v
+    → (v.at + width v.elem * reach ns ss < 2 ^ 62 → IfSome o (λ l. AreSpots t (offset_of ns ss codes) v.at (width v.elem) (reach ns ss) l column)) → IfSome o (λ l. Places t (run_cell c) v.elem l column)
+spots_there t c v o column ns ss codes en es ec found inside h =
+    some_after o _ _ (λ l g. spots_places t c v l column found g)
+    (moved t v.at (width v.elem) o column ns ss codes v.extents v.strides (out-Cell c).index en es ec h (view_near v (length t.bytes.now) inside t.near))
 
 -- the parts of a short list
 pub list_one : {A : Type 0} (d : A) (xs : List A) → length xs ≡ 1 → get_or xs 0 d ∷ [] ≡ xs
@@ -249,3 +252,34 @@ lies_front n low high e l all xs ys eq room h j below =
     let from : low ≤ first_byte l all j = here.from in
     let end : first_byte l all j + width e ≤ high = here.ends in
     record { is = sym same ∙ (here.is ∙ ap pos byte); from = omega (arith, byte, from); ends = omega (arith, byte, end) }
+
+pub places_front : (t : Setting) (f : CellRun) (e : Elem) (l : Line) (all xs ys : List ℤ) → all ≡ xs ++ ys → t.block.now.turns ≤ length xs → Places t f e l all → Places t f e l xs
+places_front t f e l all xs ys eq room h = record {
+  each = λ j c below met.
+      h.each j c below met ∙ ap (λ (z : ℤ). Ok (record { elem = e; at = unsigned_abs z })) (line_front l all xs ys j eq (omega (arith, below, room)));
+}
+
+-- the same by other names of the two bytes
+pub lies_front_by : (n low high from to : ℕ) (e : Elem) (l : Line) (all xs ys : List ℤ) → from ≡ low → to ≡ high → all ≡ xs ++ ys → n ≤ length xs → ((j : ℕ) → j < n → LiesIn low high e l all j) → (j : ℕ) → j < n → LiesIn from to e l xs j
+lies_front_by n low high from to e l all xs ys low_is high_is eq room h j below =
+    subst (λ (k : ℕ). LiesIn k to e l xs j) (sym low_is) (subst (λ (k : ℕ). LiesIn low k e l xs j) (sym high_is) (lies_front n low high e l all xs ys eq room h j below))
+
+pub lies_whole : (low high size : ℕ) (e : Elem) (l : Line) (column : List ℤ) (j : ℕ) → high ≤ size → LiesIn low high e l column j → LiesIn 0 size e l column j
+lies_whole low high size e l column j within h =
+    let end : first_byte l column j + width e ≤ high = h.ends in
+    record { is = h.is; from = omega arith; ends = omega (arith, end, within) }
+
+pub view_inside : (size : ℕ) (vs : List View) (i : ℕ) (v : View) → Some v ≡ slice_get vs i → All (IsInside size) vs → IsInside size v
+view_inside size [] zero v e h = absurd (none v e)
+  where
+    none : (v : View) → Some v ≡ None → ⊥
+    none v e = cc
+view_inside size [] (suc i) v e h = absurd (none v e)
+  where
+    none : (v : View) → Some v ≡ None → ⊥
+    none v e = cc
+view_inside size (x ∷ xs) zero v e h = subst (IsInside size) (same x v e) (All-head (IsInside size) x xs h)
+  where
+    same : (x v : View) → Some v ≡ Some x → x ≡ v
+    same x v e = cc
+view_inside size (x ∷ xs) (suc i) v e h = view_inside size xs i v e (All-tail (IsInside size) x xs h)

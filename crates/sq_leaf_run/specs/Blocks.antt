@@ -1,18 +1,13 @@
 -- Blocks of turns of a loop.
-use Rattle.std.specs.Prelude.{◌≡◌, ℕ, zero, suc, ◌+◌, ◌*◌, ◌^◌, ◌<◌, ◌≤◌, Bool, true, false, List, [], ◌∷◌, ◌++◌, length, get_or, map, Option, Some, None, Result, Ok, Err, ℤ, pos, ◌+ℤ◌, ◌≤ℤ◌}
-use Rattle.std.specs.Int.{int_min, int_max}
+use Rattle.std.specs.Prelude.{◌≡◌, ℕ, zero, suc, ◌+◌, ◌*◌, ◌^◌, ◌<◌, ◌≤◌, Bool, true, false, List, [], ◌∷◌, ◌++◌, length, get_or, ℤ, pos}
 use Rattle.sq_num.specs.declared.Elem.{Elem}
 use Rattle.sq_num.specs.Elements.{width}
 use Rattle.sq_columns.specs.declared.line.Line.{Line}
-use Rattle.sq_columns.specs.Lines.{line_at, first_byte, IsSpot}
-use Rattle.sq_leaf.specs.declared.trap.Trap.{Trap}
-use Rattle.sq_leaf.specs.declared.spot.Spot.{Spot}
-use Rattle.sq_leaf.specs.declared.code.Code.{Code}
+use Rattle.sq_columns.specs.Lines.{line_at, first_byte}
 use Rattle.sq_rect.specs.declared.view.View.{View}
-use Rattle.sq_leaf.specs.Outcome.{and_then}
-use Rattle.sq_leaf.specs.Places.{along}
+use Rattle.sq_leaf.specs.Places.{reach}
 use Rattle.sq_leaf.specs.Spots.{load, store}
-use Rattle.sq_leaf.specs.Running.{Ran, Goes, repeats, ActionRun, run_code}
+use Rattle.sq_leaf.specs.Running.{Ran, Goes, repeats, ActionRun}
 use Rattle.sq_leaf_run.specs.declared.block.Write.{Write}
 use Rattle.sq_leaf_run.specs.declared.block.Block.{Block}
 use Rattle.sq_leaf_run.specs.declared.block.Rise.{Rise}
@@ -59,38 +54,9 @@ pub record IsMet (t : Block) (j : ℕ) (b c : List ℕ) : Type 0 where
   pub size : length c ≡ length b
   pub same : (k : ℕ) → IsClear t j k → get_or c k 0 ≡ get_or b k 0
 
--- what is computed from the counters and the bytes
-abbrev pub Read : Type 0 → Type 0
-Read A = List ℤ → List ℕ → Result A Trap
-
--- the counters within turn j
-abbrev pub counters_at : Block → List ℤ → ℕ → List ℤ
-counters_at t ks j = ks ++ (t.from +ℤ pos j) ∷ []
-
--- at each turn, whatever it meets, this gives the line's number
-pub record Gives (t : Block) (ks : List ℤ) (b : List ℕ) (f : Read ℤ) (l : Line) (column : List ℤ) : Type 0 where
-  pub each : (j : ℕ) (c : List ℕ) → j < t.turns → IsMet t j b c → f (counters_at t ks j) c ≡ Ok (line_at l column j)
-
--- a number as it is
-abbrev pub value_alone : List ℤ → List ℕ → ℤ → Result ℤ Trap
-value_alone ks c x = Ok x
-
--- the lesser or the greater of two numbers
-abbrev pub extreme : Bool → ℤ → ℤ → ℤ
-extreme true x y = int_max x y
-extreme false x y = int_min x y
-
--- that of a number and of what is read
-abbrev pub extreme_of : Bool → Read ℤ → List ℤ → List ℕ → ℤ → Result ℤ Trap
-extreme_of most f ks c x = and_then (f ks c) (λ y. Ok (extreme most x y))
-
--- at each turn, whatever it meets, f of the first line's number is what g gives of the second's
-pub record Follows (t : Block) (ks : List ℤ) (b : List ℕ) (f g : List ℤ → List ℕ → ℤ → Result ℤ Trap) (x : Line) (xs : List ℤ) (y : Line) (ys : List ℤ) : Type 0 where
-  pub each : (j : ℕ) (c : List ℕ) → j < t.turns → IsMet t j b c → f (counters_at t ks j) c (line_at x xs j) ≡ g (counters_at t ks j) c (line_at y ys j)
-
--- at each turn, whatever it meets, this gives the element whose first byte is the line's number
-pub record Places (t : Block) (ks : List ℤ) (b : List ℕ) (f : Read Spot) (e : Elem) (l : Line) (column : List ℤ) : Type 0 where
-  pub each : (j : ℕ) (c : List ℕ) → j < t.turns → IsMet t j b c → f (counters_at t ks j) c ≡ Ok (record { elem = e; at = first_byte l column j })
+-- the byte behind the last element of a view
+abbrev pub end_of : View → ℕ
+end_of v = v.at + width v.elem * (reach v.extents v.strides + 1)
 
 -- the element of this turn lies between two bytes of the memory
 pub record LiesIn (low high : ℕ) (e : Elem) (l : Line) (column : List ℤ) (j : ℕ) : Type 0 where
@@ -128,36 +94,6 @@ pub record IsRiseFrom (r : Rise) (a d : ℤ) : Type 0 where
   pub slow : r.step ≤ 2 ^ 32
   pub first : a ≡ pos r.at
   pub each : d ≡ pos r.step
-
--- ---- indices of a block
-
--- one more dimension in front, by its index
-abbrev pub along_value : Result ℤ Trap → ℕ → ℕ → Option ℕ → Option ℕ
-along_value (Ok i) n s behind = along i n s behind
-along_value (Err t) n s behind = None
-
--- how many elements stand before the element of these indices
-abbrev pub offset_by : List ℕ → List ℕ → List (Result ℤ Trap) → Option ℕ
-offset_by [] [] [] = Some 0
-offset_by (n ∷ ns) (s ∷ ss) (i ∷ is) = along_value i n s (offset_by ns ss is)
-offset_by _ _ _ = None
-
-abbrev pub Offset : Type 0
-Offset = List ℤ → List ℕ → Option ℕ
-
-abbrev pub offset_of : List ℕ → List ℕ → List Code → List View → Offset
-offset_of ns ss codes vs ks c = offset_by ns ss (map (λ f. f vs ks c) (map run_code codes))
-
--- at each turn, whatever it meets, the offset is that of the element whose first byte is the line's number
-pub record AreSpots (t : Block) (ks : List ℤ) (b : List ℕ) (offset : Offset) (at w most : ℕ) (l : Line) (column : List ℤ) : Type 0 where
-  pub steady : (j : ℕ) (c : List ℕ) → j < t.turns → IsMet t j b c → offset (counters_at t ks j) c ≡ offset (counters_at t ks j) b
-  pub spot : (j : ℕ) → j < t.turns → IsSpot at w most (offset (counters_at t ks j) b) (line_at l column j)
-
--- there are some turns, at most 256, and their counters are numbers of 64 bits
-pub record IsCounted (t : Block) : Type 0 where
-  pub few : t.turns ≤ 256
-  pub some : 0 < t.turns
-  pub last : (t.from +ℤ pos t.turns) ≤ℤ pos 9223372036854775807
 
 -- ---- loops
 

@@ -2,18 +2,18 @@
 use Rattle.std.specs.Prelude.{◌≡◌, ℕ, zero, suc, ◌+◌, ◌<◌, ◌≤◌, List, [], ◌∷◌, length, Option, Some, None, ℤ, Ok, if◌then◌else◌}
 use Rattle.std.specs.List.{All}
 use Rattle.sq_num.specs.declared.Elem.{Elem}
-use Rattle.sq_rect.specs.declared.view.View.{View}
-use Rattle.sq_leaf.specs.declared.spot.Spot.{Spot}
 use Rattle.sq_leaf.specs.declared.code.Code.{Code}
 use Rattle.sq_leaf.specs.Numbers.{is_zero}
-use Rattle.sq_leaf.specs.Running.{Goes, ActionRun, once, run_code, run_each}
+use Rattle.sq_leaf.specs.Running.{Goes, ActionRun, CellRun, once, run_code, run_each}
 use Rattle.sq_leaf_run.specs.declared.block.Write.{Write}
 use Rattle.sq_leaf_run.specs.declared.block.Block.{Block}
 use Rattle.sq_leaf_run.specs.declared.block.Rise.{Rise}
+use Rattle.sq_leaf_run.specs.declared.setting.Setting.{Setting}
 use Rattle.sq_leaf_run.specs.declared.deeds.Put.{Put}
 use Rattle.sq_leaf_run.specs.declared.deeds.Deed.{Deed}
 use Rattle.sq_leaf_run.specs.declared.deeds.Deed.TheVariants.{Always, Choice}
-use Rattle.sq_leaf_run.specs.Blocks.{Read, IsMet, MayPut, counters_at}
+use Rattle.sq_leaf_run.specs.Blocks.{IsMet, MayPut}
+use Rattle.sq_leaf_run.specs.Settings.{AtTurns, at_turn}
 use Rattle.sq_leaf_run.specs.Deeds.{byte_at, put_at_turn, put_or_not, done, all_done, PutFits, MayFit, DeedFits}
 
 -- ---- writes that a turn has behind it
@@ -28,8 +28,8 @@ past zero ws = ws
 past (suc k) [] = []
 past (suc k) (w ∷ ws) = passed w ∷ past k ws
 
-abbrev pub block_past : ℤ → ℕ → List Write → ℕ → Block
-block_past first n ws k = record { from = first; turns = n; writes = record { items = past k ws } }
+abbrev pub block_past : Block → ℕ → Block
+block_past t k = record { from = t.from; turns = t.turns; writes = record { items = past k t.writes.items } }
 
 -- ---- statements
 
@@ -37,9 +37,9 @@ block_past first n ws k = record { from = first; turns = n; writes = record { it
 abbrev pub chooses : Code → List ActionRun → List ActionRun → ActionRun
 chooses test taken other vs ks b = once (run_code test vs ks b) b (λ x. if is_zero x then run_each other vs ks b else run_each taken vs ks b)
 
--- at each turn, whatever it meets, this gives the element of this type that goes up so
-pub record AimsAt (t : Block) (ks : List ℤ) (b : List ℕ) (f : Read Spot) (e : Elem) (r : Rise) : Type 0 where
-  pub each : (j : ℕ) (c : List ℕ) → j < t.turns → IsMet t j b c → f (counters_at t ks j) c ≡ Ok (record { elem = e; at = byte_at r j })
+-- this gives the element of this type that goes up so
+pub record AimsAt (t : Setting) (f : CellRun) (e : Elem) (r : Rise) : Type 0 where
+  pub each : AtTurns t (λ j c. at_turn f t j c ≡ Ok (record { elem = e; at = byte_at r j }))
 
 -- n turns put their elements where this write has them
 pub record StaysIn (w : Write) (n : ℕ) (e : Elem) (r : Rise) : Type 0 where
@@ -53,42 +53,42 @@ abbrev pub DeedStays : Write → Write → ℕ → Deed → Type 0
 DeedStays v w n (Always p) = StaysIn v n p.elem p.to
 DeedStays v w n (Choice x taken other) = MayStay v n taken × MayStay w n other
 
--- at each turn, whatever it meets, an assignment puts this, in this write, by numbers before a free one that is none of
+-- an assignment puts this, in this write, by numbers before a free one that is none of
 -- the first
-pub record IsPut (t : Block) (w : Write) (ks : List ℤ) (vs : List View) (b : List ℕ) (f : ActionRun) (columns : List ℤ) (next free : ℕ) (p : Put) : Type 0 where
-  pub turn : (j : ℕ) (c : List ℕ) → j < t.turns → IsMet t j b c → f vs (counters_at t ks j) c ≡ Goes (put_at_turn columns p j c)
-  pub stays : StaysIn w t.turns p.elem p.to
-  pub fits : PutFits t.turns free (length b) p
+pub record IsPut (t : Setting) (w : Write) (f : ActionRun) (columns : List ℤ) (next free : ℕ) (p : Put) : Type 0 where
+  pub turn : AtTurns t (λ j c. at_turn f t j c ≡ Goes (put_at_turn columns p j c))
+  pub stays : StaysIn w t.block.now.turns p.elem p.to
+  pub fits : PutFits t.block.now.turns free (length t.bytes.now) p
   pub after : next ≤ free
   pub within : free ≤ length columns
 
 -- the same of at most one assignment
-pub record IsBranch (t : Block) (w : Write) (ks : List ℤ) (vs : List View) (b : List ℕ) (fs : List ActionRun) (columns : List ℤ) (next free : ℕ) (o : Option Put) : Type 0 where
-  pub turn : (j : ℕ) (c : List ℕ) → j < t.turns → IsMet t j b c → run_each fs vs (counters_at t ks j) c ≡ Goes (put_or_not columns o j c)
-  pub stays : MayStay w t.turns o
-  pub fits : MayFit t.turns free (length b) o
+pub record IsBranch (t : Setting) (w : Write) (fs : List ActionRun) (columns : List ℤ) (next free : ℕ) (o : Option Put) : Type 0 where
+  pub turn : AtTurns t (λ j c. at_turn (run_each fs) t j c ≡ Goes (put_or_not columns o j c))
+  pub stays : MayStay w t.block.now.turns o
+  pub fits : MayFit t.block.now.turns free (length t.bytes.now) o
   pub after : next ≤ free
   pub within : free ≤ length columns
 
 -- the same of a statement
-pub record IsDeed (t : Block) (v w : Write) (ks : List ℤ) (vs : List View) (b : List ℕ) (f : ActionRun) (columns : List ℤ) (next free : ℕ) (d : Deed) : Type 0 where
-  pub turn : (j : ℕ) (c : List ℕ) → j < t.turns → IsMet t j b c → f vs (counters_at t ks j) c ≡ Goes (done columns d j c)
-  pub stays : DeedStays v w t.turns d
-  pub fits : DeedFits t.turns free (length b) d
+pub record IsDeed (t : Setting) (v w : Write) (f : ActionRun) (columns : List ℤ) (next free : ℕ) (d : Deed) : Type 0 where
+  pub turn : AtTurns t (λ j c. at_turn f t j c ≡ Goes (done columns d j c))
+  pub stays : DeedStays v w t.block.now.turns d
+  pub fits : DeedFits t.block.now.turns free (length t.bytes.now) d
   pub after : next ≤ free
   pub within : free ≤ length columns
 
--- the same, and what t meets before it is met by u behind it
-pub record IsNext (t u : Block) (ks : List ℤ) (vs : List View) (b : List ℕ) (f : ActionRun) (columns : List ℤ) (next free : ℕ) (d : Deed) : Type 0 where
-  pub turn : (j : ℕ) (c : List ℕ) → j < t.turns → IsMet t j b c → f vs (counters_at t ks j) c ≡ Goes (done columns d j c)
-  pub met : (j : ℕ) (c : List ℕ) → j < t.turns → IsMet t j b c → IsMet u j b (done columns d j c)
-  pub fits : DeedFits t.turns free (length b) d
+-- the same of the statement that has the writes k and k + 1, where those before it are done
+pub record IsNext (t : Setting) (k : ℕ) (f : ActionRun) (columns : List ℤ) (next free : ℕ) (d : Deed) : Type 0 where
+  pub turn : (j : ℕ) (c : List ℕ) → j < t.block.now.turns → IsMet (block_past t.block.now k) j t.bytes.now c → at_turn f t j c ≡ Goes (done columns d j c)
+  pub met : (j : ℕ) (c : List ℕ) → j < t.block.now.turns → IsMet (block_past t.block.now k) j t.bytes.now c → IsMet (block_past t.block.now (k + 2)) j t.bytes.now (done columns d j c)
+  pub fits : DeedFits t.block.now.turns free (length t.bytes.now) d
   pub after : next ≤ free
   pub within : free ≤ length columns
 
--- the same of statements one after another
-pub record AreDeeds (t u : Block) (ks : List ℤ) (vs : List View) (b : List ℕ) (fs : List ActionRun) (columns : List ℤ) (free : ℕ) (ds : List Deed) : Type 0 where
-  pub turn : (j : ℕ) (c : List ℕ) → j < t.turns → IsMet t j b c → run_each fs vs (counters_at t ks j) c ≡ Goes (all_done columns ds j c)
-  pub met : (j : ℕ) (c : List ℕ) → j < t.turns → IsMet t j b c → IsMet u j b (all_done columns ds j c)
-  pub fits : All (DeedFits t.turns free (length b)) ds
+-- the same of statements one after another, which have the first k writes
+pub record AreDeeds (t : Setting) (k : ℕ) (fs : List ActionRun) (columns : List ℤ) (free : ℕ) (ds : List Deed) : Type 0 where
+  pub turn : AtTurns t (λ j c. at_turn (run_each fs) t j c ≡ Goes (all_done columns ds j c))
+  pub met : AtTurns t (λ j c. IsMet (block_past t.block.now k) j t.bytes.now (all_done columns ds j c))
+  pub fits : All (DeedFits t.block.now.turns free (length t.bytes.now)) ds
   pub within : free ≤ length columns

@@ -1,51 +1,51 @@
 -- What an expression gives at the turns of a block.
-use Rattle.std.specs.Prelude.{◌≡◌, ℕ, ◌<◌, ◌≤◌, Bool, true, false, List, ◌++◌, [], ◌∷◌, length, Result, Ok, ℤ}
+use Rattle.std.specs.Prelude.{◌≡◌, ℕ, ◌≤◌, Bool, true, false, List, ◌++◌, [], ◌∷◌, length, Ok, ℤ}
 use Rattle.std.specs.List.{All}
 use Rattle.sq_ast.specs.declared.expr.UnOp.{UnOp}
 use Rattle.sq_columns.specs.declared.line.Line.{Line}
 use Rattle.sq_columns.specs.Lines.{line_at}
-use Rattle.sq_leaf.specs.declared.trap.Trap.{Trap}
 use Rattle.sq_leaf.specs.Numbers.{unary}
 use Rattle.sq_leaf.specs.Outcome.{and_then}
 use Rattle.sq_leaf.specs.Spots.{load}
-use Rattle.sq_leaf_run.specs.declared.block.Block.{Block}
+use Rattle.sq_leaf.specs.Running.{CodeRun, StepRun}
+use Rattle.sq_leaf_run.specs.declared.setting.Setting.{Setting}
 use Rattle.sq_leaf_run.specs.declared.deeds.Numbers.{Numbers}
 use Rattle.sq_leaf_run.specs.declared.deeds.Link.{Link}
 use Rattle.sq_leaf_run.specs.declared.deeds.Link.TheVariants.{Least, Most}
 use Rattle.sq_leaf_run.specs.declared.deeds.Value.{Value}
 use Rattle.sq_leaf_run.specs.declared.values.Hole.{Hole}
-use Rattle.sq_leaf_run.specs.Blocks.{Read, IsMet, counters_at, extreme_of}
+use Rattle.sq_leaf_run.specs.Settings.{AtTurns, at_turn, extreme_of}
 use Rattle.sq_leaf_run.specs.Deeds.{number_at, byte_at, along_links, value_at, IsRoomy, LinkFits}
 
--- at each turn, whatever it meets, this gives the number
-pub record AreNumbers (t : Block) (ks : List ℤ) (b : List ℕ) (f : Read ℤ) (columns : List ℤ) (x : Numbers) : Type 0 where
-  pub each : (j : ℕ) (c : List ℕ) → j < t.turns → IsMet t j b c → f (counters_at t ks j) c ≡ Ok (number_at columns x j)
+-- this gives the number
+pub record AreNumbers (t : Setting) (f : CodeRun) (columns : List ℤ) (x : Numbers) : Type 0 where
+  pub each : AtTurns t (λ j c. at_turn f t j c ≡ Ok (number_at columns x j))
 
 -- the same of a value, which may look at what the turn meets
-pub record IsValue (t : Block) (ks : List ℤ) (b : List ℕ) (f : Read ℤ) (columns : List ℤ) (v : Value) : Type 0 where
-  pub each : (j : ℕ) (c : List ℕ) → j < t.turns → IsMet t j b c → f (counters_at t ks j) c ≡ Ok (value_at columns v j c)
+pub record IsValue (t : Setting) (f : CodeRun) (columns : List ℤ) (v : Value) : Type 0 where
+  pub each : AtTurns t (λ j c. at_turn f t j c ≡ Ok (value_at columns v j c))
 
 -- ---- paths: an element that a turn reads as it meets it, and the operators behind it
 
 abbrev pub path_at : List ℤ → Hole → List Link → ℕ → List ℕ → ℤ
 path_at columns h links j c = along_links columns links j (load (record { elem = h.elem; at = byte_at h.read j }) c)
 
--- at each turn, whatever it meets, this gives what the path leads to
-pub record IsCarried (t : Block) (ks : List ℤ) (b : List ℕ) (f : Read ℤ) (columns : List ℤ) (h : Hole) (links : List Link) : Type 0 where
-  pub each : (j : ℕ) (c : List ℕ) → j < t.turns → IsMet t j b c → f (counters_at t ks j) c ≡ Ok (path_at columns h links j c)
+-- this gives what the path leads to
+pub record IsCarried (t : Setting) (f : CodeRun) (columns : List ℤ) (h : Hole) (links : List Link) : Type 0 where
+  pub each : AtTurns t (λ j c. at_turn f t j c ≡ Ok (path_at columns h links j c))
 
--- at each turn, whatever it meets, f of what the first path leads to is what g gives of the second's
-pub record Leads (t : Block) (ks : List ℤ) (b : List ℕ) (f g : List ℤ → List ℕ → ℤ → Result ℤ Trap) (columns : List ℤ) (h : Hole) (links : List Link) (before : List ℤ) (first : Hole) (few : List Link) : Type 0 where
-  pub each : (j : ℕ) (c : List ℕ) → j < t.turns → IsMet t j b c → f (counters_at t ks j) c (path_at columns h links j c) ≡ g (counters_at t ks j) c (path_at before first few j c)
+-- f of what the first path leads to is what g gives of the second's
+pub record Leads (t : Setting) (f g : StepRun) (columns : List ℤ) (h : Hole) (links : List Link) (before : List ℤ) (first : Hole) (few : List Link) : Type 0 where
+  pub each : AtTurns t (λ j c. at_turn f t j c (path_at columns h links j c) ≡ at_turn g t j c (path_at before first few j c))
 
--- at each turn, whatever it meets, f of what the path leads to is what g gives of the line's number
-pub record Starts (t : Block) (ks : List ℤ) (b : List ℕ) (f g : List ℤ → List ℕ → ℤ → Result ℤ Trap) (columns : List ℤ) (h : Hole) (links : List Link) (x : Line) (xs : List ℤ) : Type 0 where
-  pub each : (j : ℕ) (c : List ℕ) → j < t.turns → IsMet t j b c → f (counters_at t ks j) c (path_at columns h links j c) ≡ g (counters_at t ks j) c (line_at x xs j)
+-- f of what the path leads to is what g gives of the line's number
+pub record Starts (t : Setting) (f g : StepRun) (columns : List ℤ) (h : Hole) (links : List Link) (x : Line) (xs : List ℤ) : Type 0 where
+  pub each : AtTurns t (λ j c. at_turn f t j c (path_at columns h links j c) ≡ at_turn g t j c (line_at x xs j))
 
--- the elements lie in a memory of so many bytes, and the numbers of the operators in the columns before a free one, which
+-- the elements lie in the memory, and the numbers of the operators in the columns before a free one, which
 -- is none of the first
-pub record IsPath (t : Block) (size next : ℕ) (columns : List ℤ) (h : Hole) (links : List Link) : Type 0 where
-  pub room : IsRoomy t.turns size h.elem h.read
+pub record IsPath (t : Setting) (next : ℕ) (columns : List ℤ) (h : Hole) (links : List Link) : Type 0 where
+  pub room : IsRoomy t.block.now.turns (length t.bytes.now) h.elem h.read
   pub fit : All (LinkFits h.free) links
   pub after : next ≤ h.free
   pub within : h.free ≤ length columns
@@ -64,9 +64,9 @@ extreme_link true y = Most y
 extreme_link false y = Least y
 
 -- an operator of one side
-abbrev pub unary_of : UnOp → List ℤ → List ℕ → ℤ → Result ℤ Trap
-unary_of op ks c x = Ok (unary op x)
+abbrev pub unary_of : UnOp → StepRun
+unary_of op vs ks c x = Ok (unary op x)
 
 -- the lesser or the greater of two numbers that are read
-abbrev pub extreme_read : Bool → Read ℤ → Read ℤ → Read ℤ
-extreme_read most f g ks c = and_then (f ks c) (extreme_of most g ks c)
+abbrev pub extreme_read : Bool → CodeRun → CodeRun → CodeRun
+extreme_read most f g vs ks c = and_then (f vs ks c) (extreme_of most g vs ks c)

@@ -6,7 +6,7 @@ ghost use Rattle.sq_leaf.specs.Places as places;
 ghost use Rattle.sq_leaf.specs.Spots.{IsInside};
 ghost use Rattle.sq_columns.specs.Lines.{first_byte};
 ghost use Rattle.sq_leaf_run.specs.Blocks.{IsRise, IsRiseFrom, LiesIn, MayPut, AreClear, AreClearOf, AreClearOfEach};
-ghost use Rattle.sq_leaf_run.specs.Blocks.{IsNarrower};
+ghost use Rattle.sq_leaf_run.specs.Blocks.{IsNarrower, end_of};
 
 use arrayvec::ArrayVec;
 use sq_columns::Line;
@@ -15,6 +15,9 @@ use sq_rect::View;
 
 /// How many assignments a block may have.
 pub(crate) const WRITES: usize = 8;
+
+/// No number of bytes or of a byte is as great.
+pub(crate) const MOST: usize = 4_611_686_018_427_387_904;
 
 /// Where one assignment may write at the turns of a block: all of it lies between the bytes `low` and `high`, and what
 /// the turns before turn j write lies before `front + step * j`.
@@ -47,8 +50,7 @@ impl Write {
     pub fn over(view: &View, size: usize) -> Write
         requires { IsInside size view.now }
         ensures low { result.low ≡ view.now.at }
-        ensures high { result.high ≡ view.now.at + width view.now.elem *
-            (places.reach view.now.extents view.now.strides + 1) }
+        ensures high { result.high ≡ end_of view.now }
         ensures front { result.front ≡ result.high }
         ensures step { result.step ≡ 0 }
     {
@@ -80,7 +82,7 @@ impl Block {
 /// The byte behind the last element of a view.
 pub(crate) fn end_of(view: &View, size: usize) -> usize
     requires { IsInside size view.now }
-    ensures value { result ≡ view.now.at + width view.now.elem * (places.reach view.now.extents view.now.strides + 1) }
+    ensures value { result ≡ end_of view.now }
     ensures inside { result ≤ size }
 {
     let _size = size;

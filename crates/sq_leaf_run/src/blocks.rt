@@ -5,20 +5,26 @@
 //! as nothing traps each turn comes to its put. Where it isn't known that a turn doesn't trap, or that it doesn't read
 //! what an earlier one writes, no byte is changed, and the turns may still be known as deeds.
 
-ghost use Rattle.std.specs.Prelude.{◌≡◌, ◌+◌, ◌^◌, ◌<◌, ◌≤◌, ◌+ℤ◌, ◌<ℤ◌, ◌≤ℤ◌, [], ◌∷◌, ◌++◌, ℕ, ℤ, List, pos, length};
-ghost use Rattle.std.specs.Prelude.{slice_get};
+ghost use Rattle.std.specs.Prelude.{◌≡◌, ◌+◌, ◌<◌, ◌≤◌, ◌+ℤ◌, ◌<ℤ◌, ◌≤ℤ◌, [], ◌∷◌, ◌++◌, ℕ, ℤ, List, pos, length};
+ghost use Rattle.std.specs.Prelude.{IfSome};
 ghost use Rattle.std.specs.Int.{int_gap};
 ghost use Rattle.std.specs.List.{All};
 ghost use Rattle.sq_leaf.specs.Spots.{IsInside};
 ghost use Rattle.sq_leaf.specs.Running as running;
 ghost use Rattle.sq_rect.specs.declared.view.View.{View};
-ghost use Rattle.sq_leaf_run.specs.Blocks.{IsCounted, Places, LiesIn, block_or_nothing};
+ghost use Rattle.sq_leaf.specs.declared.code.Cell.{Cell};
+ghost use Rattle.sq_leaf.specs.Source as source;
+ghost use Rattle.sq_columns.specs.Lines.{line_at, first_byte};
+ghost use Rattle.sq_ast.specs.declared.leaf.AssignOp.{AssignOp};
+ghost use Rattle.sq_leaf_run.specs.Blocks.{puts, block_or_nothing};
+ghost use Rattle.sq_leaf_run.specs.Settings.{all_turns, Places, LieIn};
 
 use crate::act::assign;
-use crate::block::{Block, Write, narrowed};
+use crate::block::{Block, MOST, Write, narrowed};
 use crate::frame::Frame;
 use crate::lines::{COLUMN, column, spots};
 use crate::puts::put_all;
+use crate::setting::Setting;
 use crate::works::try_deeds;
 use sq_ast::AssignOp;
 use sq_columns::Line;
@@ -43,10 +49,10 @@ pub(crate) fn blocks(
 ) -> Result<(), Trap>
     requires inside { All (IsInside (length bytes.old)) frame.old.views }
     requires room { length frame.old.counters < 64 }
-    requires one { (vs : List View) (ks : List ℤ) (b : List ℕ) → running.run_actions body.now vs ks b
-        ≡ running.assigns cell.now op code.now vs ks b }
-    ensures ran { running.ran bytes.new result ≡ running.repeats (int_gap from end) from
-        (λ k. running.assigns cell.now op code.now frame.old.views (frame.old.counters ++ k ∷ [])) bytes.old }
+    requires one { (vs : List View) (ks : List ℤ) (b : List ℕ) → running.run_actions body.now vs ks b ≡ running.assigns
+        cell.now op code.now vs ks b }
+    ensures ran { running.ran bytes.new result ≡ running.repeats (int_gap from end) from (λ k. running.assigns cell.now
+        op code.now frame.old.views (frame.old.counters ++ k ∷ [])) bytes.old }
     ensures kept { frame.new ≡ frame.old }
 {
     let mut i = from;
@@ -87,10 +93,10 @@ fn some_turns(
     requires room { length frame.old.counters < 64 }
     requires few { count ≤ 256 }
     requires last { (i +ℤ pos count) ≤ℤ pos 9223372036854775807 }
-    requires one { (vs : List View) (ks : List ℤ) (b : List ℕ) → running.run_actions body.now vs ks b
-        ≡ running.assigns cell.now op code.now vs ks b }
-    ensures ran { running.ran bytes.new result ≡ running.repeats count i
-        (λ k. running.assigns cell.now op code.now frame.old.views (frame.old.counters ++ k ∷ [])) bytes.old }
+    requires one { (vs : List View) (ks : List ℤ) (b : List ℕ) → running.run_actions body.now vs ks b ≡ running.assigns
+        cell.now op code.now vs ks b }
+    ensures ran { running.ran bytes.new result ≡ running.repeats count i (λ k. running.assigns cell.now op code.now
+        frame.old.views (frame.old.counters ++ k ∷ [])) bytes.old }
     ensures kept { frame.new ≡ frame.old }
 {
     if count < LEAST {
@@ -119,8 +125,8 @@ fn one_by_one(
     requires room { length frame.old.counters < 64 }
     requires few { count ≤ 256 }
     requires last { (from +ℤ pos count) ≤ℤ pos 9223372036854775807 }
-    ensures ran { running.ran bytes.new result ≡ running.repeats count from
-        (λ k. running.assigns cell.now op code.now frame.old.views (frame.old.counters ++ k ∷ [])) bytes.old }
+    ensures ran { running.ran bytes.new result ≡ running.repeats count from (λ k. running.assigns cell.now op code.now
+        frame.old.views (frame.old.counters ++ k ∷ [])) bytes.old }
     ensures kept { frame.new ≡ frame.old }
 {
     for j in 0..count {
@@ -172,94 +178,57 @@ pub(crate) fn run_block(
     ensures { running.Goes bytes.new ≡ block_or_nothing result turns from (running.assigns cell.now op code.now)
         frame.now.views frame.now.counters bytes.old }
 {
-    if 4_611_686_018_427_387_904 <= bytes.len() {
+    if MOST <= bytes.len() || columns.len() < 2 * COLUMN {
         return false;
     }
-    match at(frame.views(), cell.array) {
-        Some(view) => {
-            let write = Write::over(view, bytes.len());
-            let block = Block::of(from, turns, write);
-            match spots(cell, view, frame, bytes, &block, columns) {
-                Some(spots) => {
-                    block_to(
-                        view.elem, spots, cell, op, code, &block, write, frame, bytes, columns,
-                    )
-                }
-                None => false,
-            }
-        }
-        None => false,
-    }
-}
-
-/// The same where the first bytes of the target's elements are known, in the first of the columns.
-fn block_to(
-    elem: Elem,
-    spots: Line,
-    cell: &Cell,
-    op: AssignOp,
-    code: &Code,
-    block: &Block,
-    write: Write,
-    frame: &Frame<'_>,
-    bytes: &mut [u8],
-    columns: &mut [i64],
-) -> bool
-    requires counted { IsCounted block.now }
-    requires near { length bytes.old < 2 ^ 62 }
-    requires inside { All (IsInside (length bytes.old)) frame.now.views }
-    requires places { Places block.now frame.now.counters bytes.old (running.run_cell cell.now frame.now.views) elem
-        spots columns.old }
-    requires lies { (j : ℕ) → j < block.now.turns → LiesIn write.low write.high elem spots columns.old j }
-    requires one { block.now.writes.items ≡ write ∷ [] }
-    requires within { write.high ≤ length bytes.old }
-    requires whole { write.high ≤ write.front }
-    ensures { running.Goes bytes.new ≡ block_or_nothing result block.now.turns block.now.from
-        (running.assigns cell.now op code.now) frame.now.views frame.now.counters bytes.old }
-{
-    if columns.len() < 2 * COLUMN {
+    let Some(view) = at(frame.views(), cell.array) else {
         return false;
-    }
-    let (front, rest) = columns.split_at_mut(COLUMN);
-    block_in(
-        elem, spots, front, cell, op, code, block, write, frame, bytes, rest,
-    )
+    };
+    let write = Write::over(view, bytes.len());
+    let block = Block::of(from, turns, write);
+    let setting = Setting {
+        block: &block,
+        frame,
+        bytes,
+    };
+    let Some(spots) = spots(cell, view, &setting, columns) else {
+        return false;
+    };
+    let (places, numbers) = columns.split_at_mut(COLUMN);
+    let Some(x) = assigned(view.elem, spots, places, code, write, &setting, numbers) else {
+        return false;
+    };
+    put_all(view.elem, op, spots, places, x, numbers, turns, bytes);
+    true
 }
 
-fn block_in(
+/// The line of the numbers that the turns put at these elements. None: it may trap, or may read what an earlier turn
+/// puts.
+fn assigned(
     elem: Elem,
     spots: Line,
     places: &[i64],
-    cell: &Cell,
-    op: AssignOp,
     code: &Code,
-    block: &Block,
     write: Write,
-    frame: &Frame<'_>,
-    bytes: &mut [u8],
-    columns: &mut [i64],
-) -> bool
-    requires counted { IsCounted block.now }
-    requires near { length bytes.old < 2 ^ 62 }
-    requires inside { All (IsInside (length bytes.old)) frame.now.views }
-    requires front { block.now.turns ≤ length places.now }
-    requires rest { block.now.turns ≤ length columns.old }
-    requires places { Places block.now frame.now.counters bytes.old (running.run_cell cell.now frame.now.views) elem
-        spots places.now }
-    requires lies { (j : ℕ) → j < block.now.turns → LiesIn write.low write.high elem spots places.now j }
-    requires one { block.now.writes.items ≡ write ∷ [] }
-    requires within { write.high ≤ length bytes.old }
+    setting: &Setting<'_>,
+    numbers: &mut [i64],
+) -> Option<Line>
+    requires lies { LieIn setting.now write.low write.high elem spots places.now }
+    requires one { setting.now.block.now.writes.items ≡ write ∷ [] }
+    requires within { write.high ≤ length setting.now.bytes.now }
     requires whole { write.high ≤ write.front }
-    ensures { running.Goes bytes.new ≡ block_or_nothing result block.now.turns block.now.from
-        (running.assigns cell.now op code.now) frame.now.views frame.now.counters bytes.old }
+    ensures { (cell : Cell) (op : AssignOp) → Places setting.now (running.run_cell cell) elem spots places.now → IfSome
+        result (λ x. running.Goes (puts elem (source.assigned op) (first_byte spots places.now) (line_at x numbers.new)
+        setting.now.block.now.turns 0 setting.now.bytes.now) ≡ all_turns setting.now (running.assigns cell op
+        code.now)) }
 {
-    let less = narrowed(elem, spots, places, block.turns, write);
-    let narrow = Block::of(block.from, block.turns, less);
-    match column(code, frame, bytes, &narrow, columns) {
-        Some(x) => {
-            put_all(elem, op, spots, places, x, columns, block.turns, bytes);
-            true
-        }
-        None => false,
-    }
+    let block = setting.block;
+    let narrow = narrowed(elem, spots, places, block.turns, write);
+    let narrow = Block::of(block.from, block.turns, narrow);
+    let setting = Setting {
+        block: &narrow,
+        frame: setting.frame,
+        bytes: setting.bytes,
+    };
+    column(code, &setting, numbers)
 }

@@ -18,6 +18,7 @@ mod plan;
 mod puts;
 mod reach;
 mod run;
+mod setting;
 mod spot;
 mod tested;
 mod turn;

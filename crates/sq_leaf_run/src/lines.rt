@@ -1,20 +1,20 @@
 //! The numbers that expressions have at the turns of a block.
 
-ghost use Rattle.std.specs.Prelude.{◌≡◌, ◌+◌, ◌-◌, ◌*◌, ◌^◌, ◌<◌, ◌≤◌, ℕ, ℤ, List, [], ◌∷◌, length, slice_get, map};
+ghost use Rattle.std.specs.Prelude.{◌≡◌, ◌+◌, ◌-◌, ◌*◌, ◌^◌, ◌<◌, ◌≤◌, ℕ, ℤ, List, [], length, slice_get};
 ghost use Rattle.std.specs.Prelude.{IfSome};
-ghost use Rattle.std.specs.List.{All};
 ghost use Rattle.sq_num.specs.Elements.{width};
 ghost use Rattle.sq_leaf.specs.Places as spec;
 ghost use Rattle.sq_leaf.specs.Spots.{IsInside};
-ghost use Rattle.sq_leaf.specs.declared.spot.Spot.{Spot};
 ghost use Rattle.sq_leaf.specs.Numbers as numbers;
 ghost use Rattle.sq_leaf.specs.Running as running;
 ghost use Rattle.sq_columns.specs.Lines.{line_at};
-ghost use Rattle.sq_leaf_run.specs.Blocks.{Read, value_alone, extreme, extreme_of, counters_at, IsCounted, Gives};
-ghost use Rattle.sq_leaf_run.specs.Blocks.{Follows, Places, LiesIn, Offset, AreSpots, along_value, offset_of};
+ghost use Rattle.sq_leaf_run.specs.declared.setting.Setting.{Setting};
+ghost use Rattle.sq_leaf_run.specs.Settings.{counters_at, value_alone, extreme, extreme_of, load_of, Gives, Follows};
+ghost use Rattle.sq_leaf_run.specs.Settings.{Places, LieIn, Offset, AreSpots, offset_of, offset_along};
+ghost use Rattle.sq_leaf_run.specs.Blocks.{end_of};
 
-use crate::block::{Block, end_of, is_clear};
-use crate::frame::Frame;
+use crate::block::{end_of, is_clear};
+use crate::setting::Setting;
 use sq_ast::UnOp;
 use sq_columns::{Line, along_line, binary_line, least_line, load_line, most_line, unary_line};
 use sq_leaf::{Cell, Code, Step};
@@ -28,44 +28,34 @@ pub(crate) const COLUMN: usize = 256;
 /// The line of an expression's values, in the first of the columns. None: it may trap, or may read what an earlier turn
 /// of the block writes.
 #[cycle(column)]
-pub(crate) fn column(
-    code: &Code,
-    frame: &Frame<'_>,
-    bytes: &[u8],
-    block: &Block,
-    columns: &mut [i64],
-) -> Option<Line>
-    requires counted { IsCounted block.now }
-    requires near { length bytes.now < 2 ^ 62 }
-    requires inside { All (IsInside (length bytes.now)) frame.now.views }
-    ensures { IfSome result (λ l. Gives block.now frame.now.counters bytes.now
-        (running.run_code code.now frame.now.views) l columns.new) }
+pub(crate) fn column(code: &Code, setting: &Setting<'_>, columns: &mut [i64]) -> Option<Line>
+    ensures { IfSome result (λ l. Gives setting.now (running.run_code code.now) l columns.new) }
 {
     match code {
         Code::Constant(n) => Some(Line::Same(*n)),
-        Code::Counter(k) => Some(counter(*k, frame, block)),
-        Code::Element(cell) => element(cell, frame, bytes, block, columns),
+        Code::Counter(k) => Some(counter(*k, setting)),
+        Code::Element(cell) => element(cell, setting, columns),
         Code::Chain(first, rest) => {
-            match column(first.get(), frame, bytes, block, columns) {
-                Some(x) => steps(x, rest.as_slice(), frame, bytes, block, columns),
+            match column(first.get(), setting, columns) {
+                Some(x) => steps(x, rest.as_slice(), setting, columns),
                 None => None,
             }
         }
         Code::Unary(op, inner) => {
-            match column(inner.get(), frame, bytes, block, columns) {
-                Some(x) => changed(*op, x, block, columns),
+            match column(inner.get(), setting, columns) {
+                Some(x) => changed(*op, x, setting, columns),
                 None => None,
             }
         }
         Code::Least(x, y) => {
-            match column(x.get(), frame, bytes, block, columns) {
-                Some(first) => extreme(false, first, y.get(), frame, bytes, block, columns),
+            match column(x.get(), setting, columns) {
+                Some(first) => extreme(false, first, y.get(), setting, columns),
                 None => None,
             }
         }
         Code::Most(x, y) => {
-            match column(x.get(), frame, bytes, block, columns) {
-                Some(first) => extreme(true, first, y.get(), frame, bytes, block, columns),
+            match column(x.get(), setting, columns) {
+                Some(first) => extreme(true, first, y.get(), setting, columns),
                 None => None,
             }
         }
@@ -73,15 +63,14 @@ pub(crate) fn column(
 }
 
 /// An operator of one side.
-fn changed(op: UnOp, x: Line, block: &Block, columns: &mut [i64]) -> Option<Line>
-    requires { IsCounted block.now }
-    ensures { IfSome result (λ l. (j : ℕ) → j < block.now.turns → line_at l columns.new j ≡ numbers.unary op
+fn changed(op: UnOp, x: Line, setting: &Setting<'_>, columns: &mut [i64]) -> Option<Line>
+    ensures { IfSome result (λ l. (j : ℕ) → j < setting.now.block.now.turns → line_at l columns.new j ≡ numbers.unary op
         (line_at x columns.old j)) }
 {
     if columns.len() < COLUMN {
         return None;
     }
-    Some(unary_line(op, x, columns, block.turns))
+    Some(unary_line(op, x, columns, setting.block.turns))
 }
 
 /// The lesser or the greater of two sides.
@@ -90,22 +79,17 @@ fn extreme(
     most: bool,
     x: Line,
     code: &Code,
-    frame: &Frame<'_>,
-    bytes: &[u8],
-    block: &Block,
+    setting: &Setting<'_>,
     columns: &mut [i64],
 ) -> Option<Line>
-    requires counted { IsCounted block.now }
-    requires near { length bytes.now < 2 ^ 62 }
-    requires inside { All (IsInside (length bytes.now)) frame.now.views }
-    ensures { IfSome result (λ l. Follows block.now frame.now.counters bytes.now value_alone
-        (extreme_of most (running.run_code code.now frame.now.views)) l columns.new x columns.old) }
+    ensures { IfSome result (λ l. Follows setting.now value_alone (extreme_of most (running.run_code code.now)) l
+        columns.new x columns.old) }
 {
     if columns.len() < 2 * COLUMN {
         return None;
     }
     let (front, rest) = columns.split_at_mut(COLUMN);
-    extreme_in(most, x, code, frame, bytes, block, front, rest)
+    extreme_in(most, x, code, setting, front, rest)
 }
 
 #[cycle(column)]
@@ -113,22 +97,17 @@ fn extreme_in(
     most: bool,
     x: Line,
     code: &Code,
-    frame: &Frame<'_>,
-    bytes: &[u8],
-    block: &Block,
+    setting: &Setting<'_>,
     front: &mut [i64],
     rest: &mut [i64],
 ) -> Option<Line>
-    requires counted { IsCounted block.now }
-    requires near { length bytes.now < 2 ^ 62 }
-    requires inside { All (IsInside (length bytes.now)) frame.now.views }
-    requires front { block.now.turns ≤ length front.old }
-    requires rest { block.now.turns ≤ length rest.old }
-    ensures { IfSome result (λ l. Follows block.now frame.now.counters bytes.now value_alone
-        (extreme_of most (running.run_code code.now frame.now.views)) l front.new x front.old) }
+    requires front { setting.now.block.now.turns ≤ length front.old }
+    requires rest { setting.now.block.now.turns ≤ length rest.old }
+    ensures { IfSome result (λ l. Follows setting.now value_alone (extreme_of most (running.run_code code.now)) l
+        front.new x front.old) }
 {
-    match column(code, frame, bytes, block, rest) {
-        Some(y) => Some(extreme_line(most, x, front, y, rest, block.turns)),
+    match column(code, setting, rest) {
+        Some(y) => Some(extreme_line(most, x, front, y, rest, setting.block.turns)),
         None => None,
     }
 }
@@ -148,23 +127,13 @@ fn extreme_line(most: bool, x: Line, xs: &mut [i64], y: Line, ys: &mut [i64], n:
 
 /// Operators and their right sides, from the left.
 #[cycle(column)]
-fn steps(
-    first: Line,
-    list: &[Step],
-    frame: &Frame<'_>,
-    bytes: &[u8],
-    block: &Block,
-    columns: &mut [i64],
-) -> Option<Line>
-    requires counted { IsCounted block.now }
-    requires near { length bytes.now < 2 ^ 62 }
-    requires inside { All (IsInside (length bytes.now)) frame.now.views }
-    ensures { IfSome result (λ l. Follows block.now frame.now.counters bytes.now value_alone
-        (running.run_each_step list.now frame.now.views) l columns.new first columns.old) }
+fn steps(first: Line, list: &[Step], setting: &Setting<'_>, columns: &mut [i64]) -> Option<Line>
+    ensures { IfSome result (λ l. Follows setting.now value_alone (running.run_each_step list.now) l columns.new first
+        columns.old) }
 {
     let mut x = first;
     for step in list {
-        match next(x, step, frame, bytes, block, columns) {
+        match next(x, step, setting, columns) {
             Some(y) => x = y,
             None => return None,
         }
@@ -174,25 +143,15 @@ fn steps(
 
 /// An operator and its right side. `&&` and `||` compute the right side at each turn, and nothing where it may trap.
 #[cycle(column)]
-fn next(
-    x: Line,
-    step: &Step,
-    frame: &Frame<'_>,
-    bytes: &[u8],
-    block: &Block,
-    columns: &mut [i64],
-) -> Option<Line>
-    requires counted { IsCounted block.now }
-    requires near { length bytes.now < 2 ^ 62 }
-    requires inside { All (IsInside (length bytes.now)) frame.now.views }
-    ensures { IfSome result (λ l. Follows block.now frame.now.counters bytes.now value_alone
-        (running.run_step step.now frame.now.views) l columns.new x columns.old) }
+fn next(x: Line, step: &Step, setting: &Setting<'_>, columns: &mut [i64]) -> Option<Line>
+    ensures { IfSome result (λ l. Follows setting.now value_alone (running.run_step step.now) l columns.new x
+        columns.old) }
 {
     if columns.len() < 2 * COLUMN {
         return None;
     }
     let (front, rest) = columns.split_at_mut(COLUMN);
-    next_in(x, step, frame, bytes, block, front, rest)
+    next_in(x, step, setting, front, rest)
 }
 
 #[cycle(column)]
@@ -200,44 +159,28 @@ fn next(
 fn next_in(
     x: Line,
     step: &Step,
-    frame: &Frame<'_>,
-    bytes: &[u8],
-    block: &Block,
+    setting: &Setting<'_>,
     front: &mut [i64],
     rest: &mut [i64],
 ) -> Option<Line>
-    requires counted { IsCounted block.now }
-    requires near { length bytes.now < 2 ^ 62 }
-    requires inside { All (IsInside (length bytes.now)) frame.now.views }
-    requires front { block.now.turns ≤ length front.old }
-    requires rest { block.now.turns ≤ length rest.old }
-    ensures { IfSome result (λ l. Follows block.now frame.now.counters bytes.now value_alone
-        (running.run_step step.now frame.now.views) l front.new x front.old) }
+    requires front { setting.now.block.now.turns ≤ length front.old }
+    requires rest { setting.now.block.now.turns ≤ length rest.old }
+    ensures { IfSome result (λ l. Follows setting.now value_alone (running.run_step step.now) l front.new x front.old) }
 {
-    match column(&step.right, frame, bytes, block, rest) {
-        Some(y) => binary_line(step.op, x, front, y, rest, block.turns),
+    match column(&step.right, setting, rest) {
+        Some(y) => binary_line(step.op, x, front, y, rest, setting.block.turns),
         None => None,
     }
 }
 
 /// The line of an element's numbers.
 #[cycle(column)]
-fn element(
-    cell: &Cell,
-    frame: &Frame<'_>,
-    bytes: &[u8],
-    block: &Block,
-    columns: &mut [i64],
-) -> Option<Line>
-    requires counted { IsCounted block.now }
-    requires near { length bytes.now < 2 ^ 62 }
-    requires inside { All (IsInside (length bytes.now)) frame.now.views }
-    ensures { IfSome result (λ l. Gives block.now frame.now.counters bytes.now
-        (λ ks c. running.load_from (running.run_cell cell.now frame.now.views ks c) c) l columns.new) }
+fn element(cell: &Cell, setting: &Setting<'_>, columns: &mut [i64]) -> Option<Line>
+    ensures { IfSome result (λ l. Gives setting.now (load_of (running.run_cell cell.now)) l columns.new) }
 {
-    match at(frame.views(), cell.array) {
-        Some(view) => match spots(cell, view, frame, bytes, block, columns) {
-            Some(spots) => loaded(spots, view, bytes, block, columns),
+    match at(setting.frame.views(), cell.array) {
+        Some(view) => match spots(cell, view, setting, columns) {
+            Some(spots) => loaded(spots, view, setting, columns),
             None => None,
         },
         None => None,
@@ -245,41 +188,45 @@ fn element(
 }
 
 /// The line of the numbers at these elements of a view. None: one may be written by an earlier turn of the block.
-fn loaded(
-    spots: Line,
-    view: &View,
-    bytes: &[u8],
-    block: &Block,
-    columns: &mut [i64],
-) -> Option<Line>
-    requires counted { IsCounted block.now }
-    requires one { IsInside (length bytes.now) view.now }
-    requires lies { (j : ℕ) → j < block.now.turns → LiesIn view.now.at (view.now.at + width view.now.elem *
-        (spec.reach view.now.extents view.now.strides + 1)) view.now.elem spots columns.old j }
-    ensures { (ks : List ℤ) (f : Read Spot) → Places block.now ks bytes.now f view.now.elem spots columns.old
-        → IfSome result (λ l. Gives block.now ks bytes.now (λ k c. running.load_from (f k c) c) l columns.new) }
+fn loaded(spots: Line, view: &View, setting: &Setting<'_>, columns: &mut [i64]) -> Option<Line>
+    requires one { IsInside (length setting.now.bytes.now) view.now }
+    requires lies { LieIn setting.now view.now.at (end_of view.now) view.now.elem spots columns.old }
+    ensures { (f : running.CellRun) → Places setting.now f view.now.elem spots columns.old → IfSome result (λ l. Gives
+        setting.now (load_of f) l columns.new) }
 {
-    let high = end_of(view, bytes.len());
+    let high = end_of(view, setting.bytes.len());
     if columns.len() < COLUMN {
         return None;
     }
-    if is_clear(view.elem, spots, columns, view.at as usize, high, block) {
-        Some(load_line(view.elem, spots, columns, bytes, block.turns))
+    if is_clear(
+        view.elem,
+        spots,
+        columns,
+        view.at as usize,
+        high,
+        setting.block,
+    ) {
+        Some(load_line(
+            view.elem,
+            spots,
+            columns,
+            setting.bytes,
+            setting.block.turns,
+        ))
     } else {
         None
     }
 }
 
 /// The line of a counter.
-fn counter(k: usize, frame: &Frame<'_>, block: &Block) -> Line
-    requires { IsCounted block.now }
-    ensures { (column : List ℤ) (j : ℕ) → j < block.now.turns
-        → running.counter (counters_at block.now frame.now.counters j) k ≡ line_at result column j }
+fn counter(k: usize, setting: &Setting<'_>) -> Line
+    ensures { (column : List ℤ) (j : ℕ) → j < setting.now.block.now.turns → running.counter (counters_at setting.now j)
+        k ≡ line_at result column j }
 {
-    if k == frame.depth() {
-        Line::Ramp(block.from, 1)
+    if k == setting.frame.depth() {
+        Line::Ramp(setting.block.from, 1)
     } else {
-        Line::Same(frame.counter(k))
+        Line::Same(setting.frame.counter(k))
     }
 }
 
@@ -288,36 +235,22 @@ fn counter(k: usize, frame: &Frame<'_>, block: &Block) -> Line
 pub(crate) fn spots(
     cell: &Cell,
     view: &View,
-    frame: &Frame<'_>,
-    bytes: &[u8],
-    block: &Block,
+    setting: &Setting<'_>,
     columns: &mut [i64],
 ) -> Option<Line>
-    requires counted { IsCounted block.now }
-    requires near { length bytes.now < 2 ^ 62 }
-    requires inside { All (IsInside (length bytes.now)) frame.now.views }
-    requires one { IsInside (length bytes.now) view.now }
-    requires there { Some view.now ≡ slice_get frame.now.views cell.now.array }
-    ensures places { IfSome result (λ l. Places block.now frame.now.counters bytes.now
-        (running.run_cell cell.now frame.now.views) view.now.elem l columns.new) }
-    ensures lies { IfSome result (λ l. (j : ℕ) → j < block.now.turns → LiesIn view.now.at
-        (view.now.at + width view.now.elem * (spec.reach view.now.extents view.now.strides + 1)) view.now.elem l
-        columns.new j) }
+    requires one { IsInside (length setting.now.bytes.now) view.now }
+    requires there { Some view.now ≡ slice_get setting.now.frame.now.views cell.now.array }
+    ensures places { IfSome result (λ l. Places setting.now (running.run_cell cell.now) view.now.elem l columns.new) }
+    ensures lies { IfSome result (λ l. LieIn setting.now view.now.at (end_of view.now) view.now.elem l columns.new) }
 {
     let extents = view.extents.as_slice();
     let strides = view.strides.as_slice();
     let (at, elem) = (view.at, view.elem);
     let index = cell.index.as_slice();
     match index.len() {
-        1 => places_one(
-            extents, strides, index, at, elem, frame, bytes, block, columns,
-        ),
-        2 => places_two(
-            extents, strides, index, at, elem, frame, bytes, block, columns,
-        ),
-        3 => places_three(
-            extents, strides, index, at, elem, frame, bytes, block, columns,
-        ),
+        1 => places_one(extents, strides, index, at, elem, setting, columns),
+        2 => places_two(extents, strides, index, at, elem, setting, columns),
+        3 => places_three(extents, strides, index, at, elem, setting, columns),
         _ => None,
     }
 }
@@ -330,23 +263,17 @@ fn places_one(
     index: &[Code],
     at: u32,
     elem: Elem,
-    frame: &Frame<'_>,
-    bytes: &[u8],
-    block: &Block,
+    setting: &Setting<'_>,
     columns: &mut [i64],
 ) -> Option<Line>
-    requires counted { IsCounted block.now }
-    requires near { length bytes.now < 2 ^ 62 }
-    requires inside { All (IsInside (length bytes.now)) frame.now.views }
-    ensures { at + width elem * spec.reach extents.now strides.now < 2 ^ 62
-        → IfSome result (λ l. AreSpots block.now frame.now.counters bytes.now
-        (offset_of extents.now strides.now index.now frame.now.views) at (width elem)
-        (spec.reach extents.now strides.now) l columns.new) }
+    ensures { at + width elem * spec.reach extents.now strides.now < 2 ^ 62 → IfSome result (λ l. AreSpots setting.now
+        (offset_of extents.now strides.now index.now) at (width elem) (spec.reach extents.now strides.now) l
+        columns.new) }
 {
     let ([x], [n], [s]) = (index, extents, strides) else {
         return None;
     };
-    along(first(at), x, *n, *s, elem, frame, bytes, block, columns)
+    along(first(at), x, *n, *s, elem, setting, columns)
 }
 
 /// The same by two indices.
@@ -357,24 +284,18 @@ fn places_two(
     index: &[Code],
     at: u32,
     elem: Elem,
-    frame: &Frame<'_>,
-    bytes: &[u8],
-    block: &Block,
+    setting: &Setting<'_>,
     columns: &mut [i64],
 ) -> Option<Line>
-    requires counted { IsCounted block.now }
-    requires near { length bytes.now < 2 ^ 62 }
-    requires inside { All (IsInside (length bytes.now)) frame.now.views }
-    ensures { at + width elem * spec.reach extents.now strides.now < 2 ^ 62
-        → IfSome result (λ l. AreSpots block.now frame.now.counters bytes.now
-        (offset_of extents.now strides.now index.now frame.now.views) at (width elem)
-        (spec.reach extents.now strides.now) l columns.new) }
+    ensures { at + width elem * spec.reach extents.now strides.now < 2 ^ 62 → IfSome result (λ l. AreSpots setting.now
+        (offset_of extents.now strides.now index.now) at (width elem) (spec.reach extents.now strides.now) l
+        columns.new) }
 {
     let ([x, y], [n, m], [s, t]) = (index, extents, strides) else {
         return None;
     };
-    let spots = along(first(at), y, *m, *t, elem, frame, bytes, block, columns)?;
-    along(spots, x, *n, *s, elem, frame, bytes, block, columns)
+    let spots = along(first(at), y, *m, *t, elem, setting, columns)?;
+    along(spots, x, *n, *s, elem, setting, columns)
 }
 
 /// The same by three indices.
@@ -385,31 +306,24 @@ fn places_three(
     index: &[Code],
     at: u32,
     elem: Elem,
-    frame: &Frame<'_>,
-    bytes: &[u8],
-    block: &Block,
+    setting: &Setting<'_>,
     columns: &mut [i64],
 ) -> Option<Line>
-    requires counted { IsCounted block.now }
-    requires near { length bytes.now < 2 ^ 62 }
-    requires inside { All (IsInside (length bytes.now)) frame.now.views }
-    ensures { at + width elem * spec.reach extents.now strides.now < 2 ^ 62
-        → IfSome result (λ l. AreSpots block.now frame.now.counters bytes.now
-        (offset_of extents.now strides.now index.now frame.now.views) at (width elem)
-        (spec.reach extents.now strides.now) l columns.new) }
+    ensures { at + width elem * spec.reach extents.now strides.now < 2 ^ 62 → IfSome result (λ l. AreSpots setting.now
+        (offset_of extents.now strides.now index.now) at (width elem) (spec.reach extents.now strides.now) l
+        columns.new) }
 {
     let ([x, y, z], [n, m, k], [s, t, u]) = (index, extents, strides) else {
         return None;
     };
-    let spots = along(first(at), z, *k, *u, elem, frame, bytes, block, columns)?;
-    let spots = along(spots, y, *m, *t, elem, frame, bytes, block, columns)?;
-    along(spots, x, *n, *s, elem, frame, bytes, block, columns)
+    let spots = along(first(at), z, *k, *u, elem, setting, columns)?;
+    let spots = along(spots, y, *m, *t, elem, setting, columns)?;
+    along(spots, x, *n, *s, elem, setting, columns)
 }
 
 /// The first byte where no dimension is left.
 fn first(at: u32) -> Line
-    ensures { (t : Block) (ks : List ℤ) (b : List ℕ) (vs : List View) (w : ℕ) (column : List ℤ)
-        → AreSpots t ks b (offset_of [] [] [] vs) at w 0 result column }
+    ensures { (t : Setting) (w : ℕ) (column : List ℤ) → AreSpots t (offset_of [] [] []) at w 0 result column }
 {
     Line::Same(i64::from(at))
 }
@@ -422,27 +336,18 @@ fn along(
     extent: u32,
     stride: u32,
     elem: Elem,
-    frame: &Frame<'_>,
-    bytes: &[u8],
-    block: &Block,
+    setting: &Setting<'_>,
     columns: &mut [i64],
 ) -> Option<Line>
-    requires counted { IsCounted block.now }
-    requires near { length bytes.now < 2 ^ 62 }
-    requires inside { All (IsInside (length bytes.now)) frame.now.views }
-    ensures { (at most : ℕ) (off : Offset) → at + width elem * ((extent - 1) * stride + most) < 2 ^ 62
-        → AreSpots block.now frame.now.counters bytes.now off at (width elem) most spots columns.old
-        → IfSome result (λ l. AreSpots block.now frame.now.counters bytes.now
-        (λ ks c. along_value (running.run_code code.now frame.now.views ks c) extent stride (off ks c)) at (width elem)
-        ((extent - 1) * stride + most) l columns.new) }
+    ensures { (at most : ℕ) (off : Offset) → at + width elem * ((extent - 1) * stride + most) < 2 ^ 62 → AreSpots
+        setting.now off at (width elem) most spots columns.old → IfSome result (λ l. AreSpots setting.now (offset_along
+        (running.run_code code.now) extent stride off) at (width elem) ((extent - 1) * stride + most) l columns.new) }
 {
     if columns.len() < 2 * COLUMN {
         return None;
     }
     let (front, rest) = columns.split_at_mut(COLUMN);
-    along_in(
-        spots, code, extent, stride, elem, frame, bytes, block, front, rest,
-    )
+    along_in(spots, code, extent, stride, elem, setting, front, rest)
 }
 
 #[cycle(column)]
@@ -453,25 +358,27 @@ fn along_in(
     extent: u32,
     stride: u32,
     elem: Elem,
-    frame: &Frame<'_>,
-    bytes: &[u8],
-    block: &Block,
+    setting: &Setting<'_>,
     front: &mut [i64],
     rest: &mut [i64],
 ) -> Option<Line>
-    requires counted { IsCounted block.now }
-    requires near { length bytes.now < 2 ^ 62 }
-    requires inside { All (IsInside (length bytes.now)) frame.now.views }
-    requires front { block.now.turns ≤ length front.old }
-    requires rest { block.now.turns ≤ length rest.old }
-    ensures { (at most : ℕ) (off : Offset) → at + width elem * ((extent - 1) * stride + most) < 2 ^ 62
-        → AreSpots block.now frame.now.counters bytes.now off at (width elem) most spots front.old
-        → IfSome result (λ l. AreSpots block.now frame.now.counters bytes.now
-        (λ ks c. along_value (running.run_code code.now frame.now.views ks c) extent stride (off ks c)) at (width elem)
-        ((extent - 1) * stride + most) l front.new) }
+    requires front { setting.now.block.now.turns ≤ length front.old }
+    requires rest { setting.now.block.now.turns ≤ length rest.old }
+    ensures { (at most : ℕ) (off : Offset) → at + width elem * ((extent - 1) * stride + most) < 2 ^ 62 → AreSpots
+        setting.now off at (width elem) most spots front.old → IfSome result (λ l. AreSpots setting.now (offset_along
+        (running.run_code code.now) extent stride off) at (width elem) ((extent - 1) * stride + most) l front.new) }
 {
-    match column(code, frame, bytes, block, rest) {
-        Some(index) => along_line(spots, front, index, rest, extent, stride, elem, block.turns),
+    match column(code, setting, rest) {
+        Some(index) => along_line(
+            spots,
+            front,
+            index,
+            rest,
+            extent,
+            stride,
+            elem,
+            setting.block.turns,
+        ),
         None => None,
     }
 }

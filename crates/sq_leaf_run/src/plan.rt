@@ -10,15 +10,16 @@ ghost use Rattle.std.specs.List.{All};
 ghost use Rattle.sq_num.specs.Elements.{width};
 ghost use Rattle.sq_leaf.specs.Spots.{IsInside};
 ghost use Rattle.sq_leaf.specs.Running as running;
-ghost use Rattle.sq_leaf_run.specs.Blocks.{IsCounted};
 ghost use Rattle.sq_leaf_run.specs.Deeds.{IsRoomy, DeedFits, AreKept, turns_done};
+ghost use Rattle.sq_leaf_run.specs.Settings.{all_turns};
 ghost use Rattle.sq_leaf_run.specs.Plans as spec;
 ghost use Rattle.sq_leaf_run.specs.Plans.{AimsAt, StaysIn, IsPut, IsBranch, IsDeed, IsNext, block_past};
 
-use crate::block::{Block, Rise, WRITES, Write, rise_of, rising};
+use crate::block::{Block, MOST, Rise, WRITES, Write, rise_of, rising};
 use crate::deeds::{Deed, Put};
 use crate::frame::Frame;
 use crate::lines::{COLUMN, spots};
+use crate::setting::Setting;
 use crate::values::{numbers, value};
 use arrayvec::ArrayVec;
 use sq_ast::AssignOp;
@@ -29,9 +30,6 @@ use sqlite_items::at;
 
 /// How many statements a body may have.
 pub(crate) const DEEDS: usize = 4;
-
-/// No number of bytes or of a byte is as great.
-const MOST: usize = 4_611_686_018_427_387_904;
 
 /// An assignment, and the first of the columns' numbers that is free behind its own.
 #[derive(Drop)]
@@ -71,49 +69,50 @@ pub(crate) fn plan(
     requires none { deeds.old.items ≡ [] }
     ensures fits { result ≡ true → All (DeedFits turns (length columns.new) (length bytes.now)) deeds.new.items }
     ensures runs { result ≡ true → running.repeats turns from (λ k. running.run_actions body.now frame.now.views
-        (frame.now.counters ++ k ∷ [])) bytes.now
-        ≡ running.Goes (turns_done columns.new deeds.new.items turns 0 bytes.now) }
+        (frame.now.counters ++ k ∷ [])) bytes.now ≡ running.Goes (turns_done columns.new deeds.new.items turns 0
+        bytes.now) }
 {
     if MOST <= bytes.len() {
         return false;
     }
     let mut writes = ArrayVec::new();
-    if !guess(body, frame, bytes, from, turns, columns, &mut writes) {
-        return false;
-    }
-    plan_each(
-        body,
-        writes.as_slice(),
-        frame,
-        bytes,
+    let block = Block {
         from,
         turns,
-        columns,
-        deeds,
-    )
+        writes: ArrayVec::new(),
+    };
+    let setting = Setting {
+        block: &block,
+        frame: &*frame,
+        bytes: &*bytes,
+    };
+    if !guess(body, &setting, columns, &mut writes) {
+        return false;
+    }
+    let block = Block {
+        from,
+        turns,
+        writes,
+    };
+    let setting = Setting {
+        block: &block,
+        frame: &*frame,
+        bytes: &*bytes,
+    };
+    plan_each(body, &setting, columns, deeds)
 }
 
 fn plan_each(
     body: &[Action],
-    writes: &[Write],
-    frame: &Frame<'_>,
-    bytes: &[u8],
-    from: i64,
-    turns: usize,
+    setting: &Setting<'_>,
     columns: &mut [i64],
     deeds: &mut ArrayVec<Deed, DEEDS>,
 ) -> bool
-    requires few { turns ≤ 256 }
-    requires some { 0 < turns }
-    requires last { (from +ℤ pos turns) ≤ℤ pos 9223372036854775807 }
-    requires near { length bytes.now < 2 ^ 62 }
-    requires inside { All (IsInside (length bytes.now)) frame.now.views }
-    requires writes { length writes.now ≤ 8 }
     requires none { deeds.old.items ≡ [] }
-    ensures fits { result ≡ true → All (DeedFits turns (length columns.new) (length bytes.now)) deeds.new.items }
-    ensures runs { result ≡ true → running.repeats turns from (λ k. running.run_actions body.now frame.now.views
-        (frame.now.counters ++ k ∷ [])) bytes.now
-        ≡ running.Goes (turns_done columns.new deeds.new.items turns 0 bytes.now) }
+    ensures fits { result ≡ true → All (DeedFits setting.now.block.now.turns (length columns.new) (length
+        setting.now.bytes.now)) deeds.new.items }
+    ensures runs { result ≡ true → all_turns setting.now (running.run_actions body.now) ≡ running.Goes (turns_done
+        columns.new deeds.new.items setting.now.block.now.turns 0 setting.now.bytes.now) }
 {
     let mut next = 0;
     for action in body {
@@ -121,7 +120,7 @@ fn plan_each(
         if 2 * DEEDS <= k {
             return false;
         }
-        match next_deed(action, writes, k, frame, bytes, from, turns, columns, next) {
+        match next_deed(action, k, setting, columns, next) {
             Some(Planned { deed, free }) => {
                 deeds.push(deed);
                 next = free;
@@ -135,31 +134,28 @@ fn plan_each(
 /// The statement that has the writes k and k + 1, where those before it are done.
 fn next_deed(
     action: &Action,
-    writes: &[Write],
     k: usize,
-    frame: &Frame<'_>,
-    bytes: &[u8],
-    from: i64,
-    turns: usize,
+    setting: &Setting<'_>,
     columns: &mut [i64],
     next: usize,
 ) -> Option<Planned>
-    requires few { turns ≤ 256 }
-    requires some { 0 < turns }
-    requires last { (from +ℤ pos turns) ≤ℤ pos 9223372036854775807 }
-    requires near { length bytes.now < 2 ^ 62 }
-    requires inside { All (IsInside (length bytes.now)) frame.now.views }
-    requires writes { length writes.now ≤ 8 }
     requires low { k < 8 }
-    ensures is { IfSome result (λ m. IsNext (block_past from turns writes.now k)
-        (block_past from turns writes.now (k + 2)) frame.now.counters frame.now.views bytes.now
-        (running.run_action action.now) columns.new next m.free m.deed) }
+    ensures is { IfSome result (λ m. IsNext setting.now k (running.run_action action.now) columns.new next m.free
+        m.deed) }
     ensures kept { AreKept next columns.old columns.new }
 {
+    let writes = setting.block.writes.as_slice();
     match at(writes, k) {
         Some(v) => match at(writes, k + 1) {
-            Some(w) => match past(from, turns, writes, k) {
-                Some(block) => deed(action, frame, bytes, &block, v, w, columns, next),
+            Some(w) => match past(setting.block, k) {
+                Some(block) => {
+                    let setting = Setting {
+                        block: &block,
+                        frame: setting.frame,
+                        bytes: setting.bytes,
+                    };
+                    deed(action, &setting, v, w, columns, next)
+                }
                 None => None,
             },
             None => None,
@@ -169,15 +165,14 @@ fn next_deed(
 }
 
 /// The block whose first k writes are done.
-fn past(from: i64, turns: usize, writes: &[Write], k: usize) -> Option<Block>
-    requires { length writes.now ≤ 8 }
-    ensures { IfSome result (λ t. t ≡ block_past from turns writes.now k) }
+fn past(block: &Block, k: usize) -> Option<Block>
+    ensures { IfSome result (λ t. t ≡ block_past block.now k) }
 {
     let mut list = ArrayVec::new();
-    if push_past(writes, k, &mut list) {
+    if push_past(block.writes.as_slice(), k, &mut list) {
         Some(Block {
-            from,
-            turns,
+            from: block.from,
+            turns: block.turns,
             writes: list,
         })
     } else {
@@ -221,33 +216,24 @@ fn passed(write: &Write) -> Write
 /// What a statement does.
 fn deed(
     action: &Action,
-    frame: &Frame<'_>,
-    bytes: &[u8],
-    block: &Block,
+    setting: &Setting<'_>,
     v: &Write,
     w: &Write,
     columns: &mut [i64],
     next: usize,
 ) -> Option<Planned>
-    requires counted { IsCounted block.now }
-    requires near { length bytes.now < 2 ^ 62 }
-    requires inside { All (IsInside (length bytes.now)) frame.now.views }
-    ensures is { IfSome result (λ m. IsDeed block.now v.now w.now frame.now.counters frame.now.views bytes.now
-        (running.run_action action.now) columns.new next m.free m.deed) }
+    ensures is { IfSome result (λ m. IsDeed setting.now v.now w.now (running.run_action action.now) columns.new next
+        m.free m.deed) }
     ensures kept { AreKept next columns.old columns.new }
 {
     match action {
-        Action::Assign(cell, op, code) => {
-            always(cell, *op, code, frame, bytes, block, v, w, columns, next)
-        }
+        Action::Assign(cell, op, code) => always(cell, *op, code, setting, v, w, columns, next),
         Action::If(test, taken, other) => {
             choice(
                 test,
                 taken.as_slice(),
                 other.as_slice(),
-                frame,
-                bytes,
-                block,
+                setting,
                 v,
                 w,
                 columns,
@@ -262,23 +248,18 @@ fn always(
     cell: &Cell,
     op: AssignOp,
     code: &Code,
-    frame: &Frame<'_>,
-    bytes: &[u8],
-    block: &Block,
+    setting: &Setting<'_>,
     v: &Write,
     w: &Write,
     columns: &mut [i64],
     next: usize,
 ) -> Option<Planned>
-    requires counted { IsCounted block.now }
-    requires near { length bytes.now < 2 ^ 62 }
-    requires inside { All (IsInside (length bytes.now)) frame.now.views }
-    ensures is { IfSome result (λ m. IsDeed block.now v.now w.now frame.now.counters frame.now.views bytes.now
-        (running.assigns cell.now op code.now) columns.new next m.free m.deed) }
+    ensures is { IfSome result (λ m. IsDeed setting.now v.now w.now (running.assigns cell.now op code.now) columns.new
+        next m.free m.deed) }
     ensures kept { AreKept next columns.old columns.new }
 {
     let _w = w;
-    match assignment(cell, op, code, frame, bytes, block, v, columns, next) {
+    match assignment(cell, op, code, setting, v, columns, next) {
         Some(PlannedPut { put, free }) => Some(Planned {
             deed: Deed::Always(put),
             free,
@@ -292,31 +273,25 @@ fn choice(
     test: &Code,
     taken: &[Action],
     other: &[Action],
-    frame: &Frame<'_>,
-    bytes: &[u8],
-    block: &Block,
+    setting: &Setting<'_>,
     v: &Write,
     w: &Write,
     columns: &mut [i64],
     next: usize,
 ) -> Option<Planned>
-    requires counted { IsCounted block.now }
-    requires near { length bytes.now < 2 ^ 62 }
-    requires inside { All (IsInside (length bytes.now)) frame.now.views }
-    ensures is { IfSome result (λ m. IsDeed block.now v.now w.now frame.now.counters frame.now.views bytes.now
-        (spec.chooses test.now (map running.run_action taken.now) (map running.run_action other.now)) columns.new next
-        m.free m.deed) }
+    ensures is { IfSome result (λ m. IsDeed setting.now v.now w.now (spec.chooses test.now (map running.run_action
+        taken.now) (map running.run_action other.now)) columns.new next m.free m.deed) }
     ensures kept { AreKept next columns.old columns.new }
 {
-    match numbers(test, frame, bytes, block, columns, next) {
+    match numbers(test, setting, columns, next) {
         Some(x) => {
             let free = behind(x.from, next);
             if columns.len() < free {
                 return None;
             }
-            match branch(taken, frame, bytes, block, v, columns, free) {
+            match branch(taken, setting, v, columns, free) {
                 Some(PlannedBranch { put: first, free }) => {
-                    match branch(other, frame, bytes, block, w, columns, free) {
+                    match branch(other, setting, w, columns, free) {
                         Some(PlannedBranch { put: second, free }) => Some(Planned {
                             deed: Deed::Choice(x, first, second),
                             free,
@@ -343,19 +318,14 @@ fn behind(from: usize, next: usize) -> usize
 /// At most one assignment.
 fn branch(
     list: &[Action],
-    frame: &Frame<'_>,
-    bytes: &[u8],
-    block: &Block,
+    setting: &Setting<'_>,
     write: &Write,
     columns: &mut [i64],
     next: usize,
 ) -> Option<PlannedBranch>
-    requires counted { IsCounted block.now }
-    requires near { length bytes.now < 2 ^ 62 }
-    requires inside { All (IsInside (length bytes.now)) frame.now.views }
     requires next { next ≤ length columns.old }
-    ensures is { IfSome result (λ m. IsBranch block.now write.now frame.now.counters frame.now.views bytes.now
-        (map running.run_action list.now) columns.new next m.free m.put) }
+    ensures is { IfSome result (λ m. IsBranch setting.now write.now (map running.run_action list.now) columns.new next
+        m.free m.put) }
     ensures kept { AreKept next columns.old columns.new }
 {
     match list {
@@ -364,7 +334,7 @@ fn branch(
             free: next,
         }),
         [Action::Assign(cell, op, code)] => {
-            match assignment(cell, *op, code, frame, bytes, block, write, columns, next) {
+            match assignment(cell, *op, code, setting, write, columns, next) {
                 Some(PlannedPut { put, free }) => Some(PlannedBranch {
                     put: Some(put),
                     free,
@@ -381,25 +351,18 @@ fn assignment(
     cell: &Cell,
     op: AssignOp,
     code: &Code,
-    frame: &Frame<'_>,
-    bytes: &[u8],
-    block: &Block,
+    setting: &Setting<'_>,
     write: &Write,
     columns: &mut [i64],
     next: usize,
 ) -> Option<PlannedPut>
-    requires counted { IsCounted block.now }
-    requires near { length bytes.now < 2 ^ 62 }
-    requires inside { All (IsInside (length bytes.now)) frame.now.views }
-    ensures is { IfSome result (λ m. IsPut block.now write.now frame.now.counters frame.now.views bytes.now
-        (running.assigns cell.now op code.now) columns.new next m.free m.put) }
+    ensures is { IfSome result (λ m. IsPut setting.now write.now (running.assigns cell.now op code.now) columns.new next
+        m.free m.put) }
     ensures kept { AreKept next columns.old columns.new }
 {
-    match at(frame.views(), cell.array) {
-        Some(view) => match target(cell, view, frame, bytes, block, columns, next) {
-            Some(to) => put_to(
-                view.elem, to, cell, op, code, frame, bytes, block, write, columns, next,
-            ),
+    match at(setting.frame.views(), cell.array) {
+        Some(view) => match target(cell, view, setting, columns, next) {
+            Some(to) => put_to(view.elem, to, cell, op, code, setting, write, columns, next),
             None => None,
         },
         None => None,
@@ -413,27 +376,22 @@ fn put_to(
     cell: &Cell,
     op: AssignOp,
     code: &Code,
-    frame: &Frame<'_>,
-    bytes: &[u8],
-    block: &Block,
+    setting: &Setting<'_>,
     write: &Write,
     columns: &mut [i64],
     next: usize,
 ) -> Option<PlannedPut>
-    requires counted { IsCounted block.now }
-    requires near { length bytes.now < 2 ^ 62 }
-    requires inside { All (IsInside (length bytes.now)) frame.now.views }
-    requires aims { AimsAt block.now frame.now.counters bytes.now (running.run_cell cell.now frame.now.views) elem to }
-    requires room { IsRoomy block.now.turns (length bytes.now) elem to }
-    ensures is { IfSome result (λ m. IsPut block.now write.now frame.now.counters frame.now.views bytes.now
-        (running.assigns cell.now op code.now) columns.new next m.free m.put) }
+    requires aims { AimsAt setting.now (running.run_cell cell.now) elem to }
+    requires room { IsRoomy setting.now.block.now.turns (length setting.now.bytes.now) elem to }
+    ensures is { IfSome result (λ m. IsPut setting.now write.now (running.assigns cell.now op code.now) columns.new next
+        m.free m.put) }
     ensures kept { AreKept next columns.old columns.new }
 {
     let _cell = cell;
-    if !stays_in(elem, to, block.turns, write) {
+    if !stays_in(elem, to, setting.block.turns, write) {
         return None;
     }
-    match value(code, frame, bytes, block, columns, next) {
+    match value(code, setting, columns, next) {
         Some(made) => Some(PlannedPut {
             put: Put {
                 elem,
@@ -467,47 +425,35 @@ fn stays_in(elem: Elem, rise: Rise, turns: usize, write: &Write) -> bool
 fn target(
     cell: &Cell,
     view: &View,
-    frame: &Frame<'_>,
-    bytes: &[u8],
-    block: &Block,
+    setting: &Setting<'_>,
     columns: &mut [i64],
     next: usize,
 ) -> Option<Rise>
-    requires counted { IsCounted block.now }
-    requires near { length bytes.now < 2 ^ 62 }
-    requires inside { All (IsInside (length bytes.now)) frame.now.views }
-    requires one { IsInside (length bytes.now) view.now }
-    requires there { Some view.now ≡ slice_get frame.now.views cell.now.array }
-    ensures aims { IfSome result (AimsAt block.now frame.now.counters bytes.now
-        (running.run_cell cell.now frame.now.views) view.now.elem) }
-    ensures room { IfSome result (IsRoomy block.now.turns (length bytes.now) view.now.elem) }
+    requires one { IsInside (length setting.now.bytes.now) view.now }
+    requires there { Some view.now ≡ slice_get setting.now.frame.now.views cell.now.array }
+    ensures aims { IfSome result (AimsAt setting.now (running.run_cell cell.now) view.now.elem) }
+    ensures room { IfSome result (IsRoomy setting.now.block.now.turns (length setting.now.bytes.now) view.now.elem) }
     ensures kept { AreKept next columns.old columns.new }
 {
     if columns.len() < next {
         return None;
     }
     let (_front, rest) = columns.split_at_mut(next);
-    rising_spots(cell, view, frame, bytes, block, rest)
+    rising_spots(cell, view, setting, rest)
 }
 
 fn rising_spots(
     cell: &Cell,
     view: &View,
-    frame: &Frame<'_>,
-    bytes: &[u8],
-    block: &Block,
+    setting: &Setting<'_>,
     columns: &mut [i64],
 ) -> Option<Rise>
-    requires counted { IsCounted block.now }
-    requires near { length bytes.now < 2 ^ 62 }
-    requires inside { All (IsInside (length bytes.now)) frame.now.views }
-    requires one { IsInside (length bytes.now) view.now }
-    requires there { Some view.now ≡ slice_get frame.now.views cell.now.array }
-    ensures aims { IfSome result (AimsAt block.now frame.now.counters bytes.now
-        (running.run_cell cell.now frame.now.views) view.now.elem) }
-    ensures room { IfSome result (IsRoomy block.now.turns (length bytes.now) view.now.elem) }
+    requires one { IsInside (length setting.now.bytes.now) view.now }
+    requires there { Some view.now ≡ slice_get setting.now.frame.now.views cell.now.array }
+    ensures aims { IfSome result (AimsAt setting.now (running.run_cell cell.now) view.now.elem) }
+    ensures room { IfSome result (IsRoomy setting.now.block.now.turns (length setting.now.bytes.now) view.now.elem) }
 {
-    match spots(cell, view, frame, bytes, block, columns) {
+    match spots(cell, view, setting, columns) {
         Some(spots) => rise_of(spots),
         None => None,
     }
@@ -516,26 +462,12 @@ fn rising_spots(
 /// Where the assignments of the statements may write, two for each statement. What is told here is tested later.
 fn guess(
     body: &[Action],
-    frame: &Frame<'_>,
-    bytes: &[u8],
-    from: i64,
-    turns: usize,
+    setting: &Setting<'_>,
     columns: &mut [i64],
     writes: &mut ArrayVec<Write, WRITES>,
-) -> bool
-    requires few { turns ≤ 256 }
-    requires some { 0 < turns }
-    requires last { (from +ℤ pos turns) ≤ℤ pos 9223372036854775807 }
-    requires near { length bytes.now < 2 ^ 62 }
-    requires inside { All (IsInside (length bytes.now)) frame.now.views }
-{
-    let block = Block {
-        from,
-        turns,
-        writes: ArrayVec::new(),
-    };
+) -> bool {
     for action in body {
-        if !guess_statement(action, frame, bytes, &block, columns, writes) {
+        if !guess_statement(action, setting, columns, writes) {
             return false;
         }
     }
@@ -544,23 +476,17 @@ fn guess(
 
 fn guess_statement(
     action: &Action,
-    frame: &Frame<'_>,
-    bytes: &[u8],
-    block: &Block,
+    setting: &Setting<'_>,
     columns: &mut [i64],
     writes: &mut ArrayVec<Write, WRITES>,
-) -> bool
-    requires counted { IsCounted block.now }
-    requires near { length bytes.now < 2 ^ 62 }
-    requires inside { All (IsInside (length bytes.now)) frame.now.views }
-{
+) -> bool {
     match action {
         Action::Assign(cell, _, _) => {
-            guess_cell(cell, frame, bytes, block, columns, writes) && add(Write::default(), writes)
+            guess_cell(cell, setting, columns, writes) && add(Write::default(), writes)
         }
         Action::If(_, taken, other) => {
-            guess_branch(taken.as_slice(), frame, bytes, block, columns, writes)
-                && guess_branch(other.as_slice(), frame, bytes, block, columns, writes)
+            guess_branch(taken.as_slice(), setting, columns, writes)
+                && guess_branch(other.as_slice(), setting, columns, writes)
         }
         Action::For(_, _, _) => false,
     }
@@ -568,38 +494,26 @@ fn guess_statement(
 
 fn guess_branch(
     list: &[Action],
-    frame: &Frame<'_>,
-    bytes: &[u8],
-    block: &Block,
+    setting: &Setting<'_>,
     columns: &mut [i64],
     writes: &mut ArrayVec<Write, WRITES>,
-) -> bool
-    requires counted { IsCounted block.now }
-    requires near { length bytes.now < 2 ^ 62 }
-    requires inside { All (IsInside (length bytes.now)) frame.now.views }
-{
+) -> bool {
     match list {
         [] => add(Write::default(), writes),
-        [Action::Assign(cell, _, _)] => guess_cell(cell, frame, bytes, block, columns, writes),
+        [Action::Assign(cell, _, _)] => guess_cell(cell, setting, columns, writes),
         _ => false,
     }
 }
 
 fn guess_cell(
     cell: &Cell,
-    frame: &Frame<'_>,
-    bytes: &[u8],
-    block: &Block,
+    setting: &Setting<'_>,
     columns: &mut [i64],
     writes: &mut ArrayVec<Write, WRITES>,
-) -> bool
-    requires counted { IsCounted block.now }
-    requires near { length bytes.now < 2 ^ 62 }
-    requires inside { All (IsInside (length bytes.now)) frame.now.views }
-{
-    match at(frame.views(), cell.array) {
-        Some(view) => match rising_spots(cell, view, frame, bytes, block, columns) {
-            Some(rise) => add(rising(view.elem, rise, block.turns), writes),
+) -> bool {
+    match at(setting.frame.views(), cell.array) {
+        Some(view) => match rising_spots(cell, view, setting, columns) {
+            Some(rise) => add(rising(view.elem, rise, setting.block.turns), writes),
             None => false,
         },
         None => false,

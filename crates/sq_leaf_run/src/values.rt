@@ -1,23 +1,23 @@
 //! What an assignment puts at the turns of a block: numbers that are known before it, or one element that each turn
 //! reads as it meets it, and the operators behind it.
 
-ghost use Rattle.std.specs.Prelude.{◌≡◌, ◌+◌, ◌^◌, ◌<◌, ◌≤◌, true, false, ℕ, ℤ, List, [], ◌∷◌, length, drop, slice_get};
+ghost use Rattle.std.specs.Prelude.{◌≡◌, ◌+◌, ◌<◌, ◌≤◌, true, false, ℕ, ℤ, List, length, drop, slice_get};
 ghost use Rattle.std.specs.Prelude.{IfSome};
-ghost use Rattle.std.specs.List.{All};
 ghost use Rattle.sq_leaf.specs.Spots.{IsInside};
 ghost use Rattle.sq_leaf.specs.Numbers as spec;
 ghost use Rattle.sq_leaf.specs.Running as running;
 ghost use Rattle.sq_columns.specs.Lines.{line_at, divides};
 ghost use Rattle.sq_leaf_run.specs.declared.deeds.Link.TheVariants.{Onto};
-ghost use Rattle.sq_leaf_run.specs.Blocks.{IsCounted, Gives, Follows, IsRise, value_alone, extreme_of};
+ghost use Rattle.sq_leaf_run.specs.Blocks.{IsRise};
+ghost use Rattle.sq_leaf_run.specs.Settings.{Gives, Follows, value_alone, extreme_of, load_of};
 ghost use Rattle.sq_leaf_run.specs.Deeds.{number_at, HasColumn, LinkFits, ValueFits, AreKept};
 ghost use Rattle.sq_leaf_run.specs.Values.{AreNumbers, IsValue, IsCarried, Leads, Starts, IsPath, IsLonger};
 ghost use Rattle.sq_leaf_run.specs.Values.{extreme_link, extreme_read, unary_of};
 
-use crate::block::{Block, Rise, rise_of};
+use crate::block::{Rise, rise_of};
 use crate::deeds::{Carried, LINKS, Link, Numbers, Value};
-use crate::frame::Frame;
 use crate::lines::{COLUMN, column, spots};
+use crate::setting::Setting;
 use arrayvec::ArrayVec;
 use sq_ast::{BinOp, UnOp};
 use sq_columns::{Line, binary_line};
@@ -53,28 +53,23 @@ struct Prefix {
 /// operators or too few columns.
 pub(crate) fn value(
     code: &Code,
-    frame: &Frame<'_>,
-    bytes: &[u8],
-    block: &Block,
+    setting: &Setting<'_>,
     columns: &mut [i64],
     next: usize,
 ) -> Option<Made>
-    requires counted { IsCounted block.now }
-    requires near { length bytes.now < 2 ^ 62 }
-    requires inside { All (IsInside (length bytes.now)) frame.now.views }
-    ensures gives { IfSome result (λ m. IsValue block.now frame.now.counters bytes.now
-        (running.run_code code.now frame.now.views) columns.new m.value) }
-    ensures fits { IfSome result (λ m. ValueFits block.now.turns m.free (length bytes.now) m.value) }
+    ensures gives { IfSome result (λ m. IsValue setting.now (running.run_code code.now) columns.new m.value) }
+    ensures fits { IfSome result (λ m. ValueFits setting.now.block.now.turns m.free (length setting.now.bytes.now)
+        m.value) }
     ensures after { IfSome result (λ m. next ≤ m.free) }
     ensures within { IfSome result (λ m. m.free ≤ length columns.new) }
     ensures kept { AreKept next columns.old columns.new }
 {
-    match numbers(code, frame, bytes, block, columns, next) {
+    match numbers(code, setting, columns, next) {
         Some(x) => Some(Made {
             value: Value::Known(x),
             free: free_behind(x, next, columns),
         }),
-        None => carried_value(code, frame, bytes, block, columns, next),
+        None => carried_value(code, setting, columns, next),
     }
 }
 
@@ -82,41 +77,24 @@ pub(crate) fn value(
 /// earlier turn of the block writes, or there is no column left.
 pub(crate) fn numbers(
     code: &Code,
-    frame: &Frame<'_>,
-    bytes: &[u8],
-    block: &Block,
+    setting: &Setting<'_>,
     columns: &mut [i64],
     next: usize,
 ) -> Option<Numbers>
-    requires counted { IsCounted block.now }
-    requires near { length bytes.now < 2 ^ 62 }
-    requires inside { All (IsInside (length bytes.now)) frame.now.views }
-    ensures gives { IfSome result (AreNumbers block.now frame.now.counters bytes.now
-        (running.run_code code.now frame.now.views) columns.new) }
+    ensures gives { IfSome result (AreNumbers setting.now (running.run_code code.now) columns.new) }
     ensures has { IfSome result (HasColumn (length columns.new)) }
     ensures within { IfSome result (λ x. next ≤ length columns.new) }
     ensures kept { AreKept next columns.old columns.new }
 {
-    match line(code, frame, bytes, block, columns, next) {
+    match line(code, setting, columns, next) {
         Some(x) => Some(numbers_of(x, next)),
         None => None,
     }
 }
 
 /// The line of an expression's values, whose column begins with `next`.
-fn line(
-    code: &Code,
-    frame: &Frame<'_>,
-    bytes: &[u8],
-    block: &Block,
-    columns: &mut [i64],
-    next: usize,
-) -> Option<Line>
-    requires counted { IsCounted block.now }
-    requires near { length bytes.now < 2 ^ 62 }
-    requires inside { All (IsInside (length bytes.now)) frame.now.views }
-    ensures gives { IfSome result (λ l. Gives block.now frame.now.counters bytes.now
-        (running.run_code code.now frame.now.views) l (drop next columns.new)) }
+fn line(code: &Code, setting: &Setting<'_>, columns: &mut [i64], next: usize) -> Option<Line>
+    ensures gives { IfSome result (λ l. Gives setting.now (running.run_code code.now) l (drop next columns.new)) }
     ensures room { IfSome result (λ l. next + 256 ≤ length columns.new) }
     ensures kept { AreKept next columns.old columns.new }
 {
@@ -124,7 +102,7 @@ fn line(
         return None;
     }
     let (_front, free) = columns.split_at_mut(next);
-    column(code, frame, bytes, block, free)
+    column(code, setting, free)
 }
 
 /// The numbers of a line whose column begins with `next`.
@@ -152,24 +130,19 @@ fn free_behind(x: Numbers, next: usize, columns: &[i64]) -> usize
 
 fn carried_value(
     code: &Code,
-    frame: &Frame<'_>,
-    bytes: &[u8],
-    block: &Block,
+    setting: &Setting<'_>,
     columns: &mut [i64],
     next: usize,
 ) -> Option<Made>
-    requires counted { IsCounted block.now }
-    requires near { length bytes.now < 2 ^ 62 }
-    requires inside { All (IsInside (length bytes.now)) frame.now.views }
-    ensures gives { IfSome result (λ m. IsValue block.now frame.now.counters bytes.now
-        (running.run_code code.now frame.now.views) columns.new m.value) }
-    ensures fits { IfSome result (λ m. ValueFits block.now.turns m.free (length bytes.now) m.value) }
+    ensures gives { IfSome result (λ m. IsValue setting.now (running.run_code code.now) columns.new m.value) }
+    ensures fits { IfSome result (λ m. ValueFits setting.now.block.now.turns m.free (length setting.now.bytes.now)
+        m.value) }
     ensures after { IfSome result (λ m. next ≤ m.free) }
     ensures within { IfSome result (λ m. m.free ≤ length columns.new) }
     ensures kept { AreKept next columns.old columns.new }
 {
     let mut links = ArrayVec::new();
-    match carried(code, frame, bytes, block, columns, next, &mut links) {
+    match carried(code, setting, columns, next, &mut links) {
         Some(hole) => Some(Made {
             value: Value::Carried(Carried {
                 elem: hole.elem,
@@ -186,110 +159,54 @@ fn carried_value(
 #[cycle(carried)]
 fn carried(
     code: &Code,
-    frame: &Frame<'_>,
-    bytes: &[u8],
-    block: &Block,
+    setting: &Setting<'_>,
     columns: &mut [i64],
     next: usize,
     links: &mut ArrayVec<Link, LINKS>,
 ) -> Option<Hole>
-    requires counted { IsCounted block.now }
-    requires near { length bytes.now < 2 ^ 62 }
-    requires inside { All (IsInside (length bytes.now)) frame.now.views }
-    ensures gives { IfSome result (λ h. IsCarried block.now frame.now.counters bytes.now
-        (running.run_code code.now frame.now.views) columns.new h links.new.items) }
-    ensures path { IfSome result (λ h. IsPath block.now (length bytes.now) next columns.new h links.new.items) }
+    ensures gives { IfSome result (λ h. IsCarried setting.now (running.run_code code.now) columns.new h
+        links.new.items) }
+    ensures path { IfSome result (λ h. IsPath setting.now next columns.new h links.new.items) }
     ensures kept { AreKept next columns.old columns.new }
 {
     match code {
         Code::Constant(_) | Code::Counter(_) => None,
-        Code::Element(cell) => element(cell, frame, bytes, block, columns, next, links),
+        Code::Element(cell) => element(cell, setting, columns, next, links),
         Code::Unary(op, inner) => {
-            match carried(inner.get(), frame, bytes, block, columns, next, links) {
-                Some(hole) => changed(*op, hole, frame, bytes, block, columns, next, links),
+            match carried(inner.get(), setting, columns, next, links) {
+                Some(hole) => changed(*op, hole, setting, columns, next, links),
                 None => None,
             }
         }
         Code::Chain(first, rest) => {
-            match line(first.get(), frame, bytes, block, columns, next) {
-                Some(x) => {
-                    behind(
-                        x,
-                        rest.as_slice(),
-                        frame,
-                        bytes,
-                        block,
-                        columns,
-                        next,
-                        links,
-                    )
-                }
-                None => match carried(first.get(), frame, bytes, block, columns, next, links) {
-                    Some(hole) => {
-                        steps(
-                            hole,
-                            rest.as_slice(),
-                            frame,
-                            bytes,
-                            block,
-                            columns,
-                            next,
-                            links,
-                        )
-                    }
+            match line(first.get(), setting, columns, next) {
+                Some(x) => behind(x, rest.as_slice(), setting, columns, next, links),
+                None => match carried(first.get(), setting, columns, next, links) {
+                    Some(hole) => steps(hole, rest.as_slice(), setting, columns, next, links),
                     None => None,
                 },
             }
         }
-        Code::Least(x, y) => {
-            extreme(
-                false,
-                x.get(),
-                y.get(),
-                frame,
-                bytes,
-                block,
-                columns,
-                next,
-                links,
-            )
-        }
-        Code::Most(x, y) => {
-            extreme(
-                true,
-                x.get(),
-                y.get(),
-                frame,
-                bytes,
-                block,
-                columns,
-                next,
-                links,
-            )
-        }
+        Code::Least(x, y) => extreme(false, x.get(), y.get(), setting, columns, next, links),
+        Code::Most(x, y) => extreme(true, x.get(), y.get(), setting, columns, next, links),
     }
 }
 
 /// A path that begins with this element, and has no operator yet.
 fn element(
     cell: &Cell,
-    frame: &Frame<'_>,
-    bytes: &[u8],
-    block: &Block,
+    setting: &Setting<'_>,
     columns: &mut [i64],
     next: usize,
     links: &mut ArrayVec<Link, LINKS>,
 ) -> Option<Hole>
-    requires counted { IsCounted block.now }
-    requires near { length bytes.now < 2 ^ 62 }
-    requires inside { All (IsInside (length bytes.now)) frame.now.views }
-    ensures gives { IfSome result (λ h. IsCarried block.now frame.now.counters bytes.now
-        (λ ks c. running.load_from (running.run_cell cell.now frame.now.views ks c) c) columns.new h links.new.items) }
-    ensures path { IfSome result (λ h. IsPath block.now (length bytes.now) next columns.new h links.new.items) }
+    ensures gives { IfSome result (λ h. IsCarried setting.now (load_of (running.run_cell cell.now)) columns.new h
+        links.new.items) }
+    ensures path { IfSome result (λ h. IsPath setting.now next columns.new h links.new.items) }
     ensures kept { AreKept next columns.old columns.new }
 {
-    match at(frame.views(), cell.array) {
-        Some(view) => element_of(cell, view, frame, bytes, block, columns, next, links),
+    match at(setting.frame.views(), cell.array) {
+        Some(view) => element_of(cell, view, setting, columns, next, links),
         None => None,
     }
 }
@@ -297,21 +214,16 @@ fn element(
 fn element_of(
     cell: &Cell,
     view: &View,
-    frame: &Frame<'_>,
-    bytes: &[u8],
-    block: &Block,
+    setting: &Setting<'_>,
     columns: &mut [i64],
     next: usize,
     links: &mut ArrayVec<Link, LINKS>,
 ) -> Option<Hole>
-    requires counted { IsCounted block.now }
-    requires near { length bytes.now < 2 ^ 62 }
-    requires inside { All (IsInside (length bytes.now)) frame.now.views }
-    requires one { IsInside (length bytes.now) view.now }
-    requires there { Some view.now ≡ slice_get frame.now.views cell.now.array }
-    ensures gives { IfSome result (λ h. IsCarried block.now frame.now.counters bytes.now
-        (λ ks c. running.load_from (running.run_cell cell.now frame.now.views ks c) c) columns.new h links.new.items) }
-    ensures path { IfSome result (λ h. IsPath block.now (length bytes.now) next columns.new h links.new.items) }
+    requires one { IsInside (length setting.now.bytes.now) view.now }
+    requires there { Some view.now ≡ slice_get setting.now.frame.now.views cell.now.array }
+    ensures gives { IfSome result (λ h. IsCarried setting.now (load_of (running.run_cell cell.now)) columns.new h
+        links.new.items) }
+    ensures path { IfSome result (λ h. IsPath setting.now next columns.new h links.new.items) }
     ensures kept { AreKept next columns.old columns.new }
 {
     if columns.len() < next {
@@ -319,7 +231,7 @@ fn element_of(
     }
     links.clear();
     let (_front, free) = columns.split_at_mut(next);
-    match spots(cell, view, frame, bytes, block, free) {
+    match spots(cell, view, setting, free) {
         Some(spots) => hole_of(view.elem, spots, next),
         None => None,
     }
@@ -370,19 +282,17 @@ fn lengthened(
 fn changed(
     op: UnOp,
     hole: Hole,
-    frame: &Frame<'_>,
-    bytes: &[u8],
-    block: &Block,
+    setting: &Setting<'_>,
     columns: &[i64],
     next: usize,
     links: &mut ArrayVec<Link, LINKS>,
 ) -> Option<Hole>
-    requires path { IsPath block.now (length bytes.now) next columns.now hole links.old.items }
-    ensures leads { IfSome result (λ h. Leads block.now frame.now.counters bytes.now value_alone (unary_of op)
-        columns.now h links.new.items columns.now hole links.old.items) }
-    ensures path { IfSome result (λ h. IsPath block.now (length bytes.now) next columns.now h links.new.items) }
+    requires path { IsPath setting.now next columns.now hole links.old.items }
+    ensures leads { IfSome result (λ h. Leads setting.now value_alone (unary_of op) columns.now h links.new.items
+        columns.now hole links.old.items) }
+    ensures path { IfSome result (λ h. IsPath setting.now next columns.now h links.new.items) }
 {
-    let (_frame, _bytes, _block, _next) = (frame, bytes, block, next);
+    let (_setting, _next) = (setting, next);
     lengthened(hole, Link::Unary(op), hole.free, columns, links)
 }
 
@@ -391,26 +301,21 @@ fn changed(
 fn behind(
     x: Line,
     list: &[Step],
-    frame: &Frame<'_>,
-    bytes: &[u8],
-    block: &Block,
+    setting: &Setting<'_>,
     columns: &mut [i64],
     next: usize,
     links: &mut ArrayVec<Link, LINKS>,
 ) -> Option<Hole>
-    requires counted { IsCounted block.now }
-    requires near { length bytes.now < 2 ^ 62 }
-    requires inside { All (IsInside (length bytes.now)) frame.now.views }
     requires room { next + 256 ≤ length columns.old }
-    ensures gives { IfSome result (λ h. Starts block.now frame.now.counters bytes.now value_alone
-        (running.run_each_step list.now frame.now.views) columns.new h links.new.items x (drop next columns.old)) }
-    ensures path { IfSome result (λ h. IsPath block.now (length bytes.now) next columns.new h links.new.items) }
+    ensures gives { IfSome result (λ h. Starts setting.now value_alone (running.run_each_step list.now) columns.new h
+        links.new.items x (drop next columns.old)) }
+    ensures path { IfSome result (λ h. IsPath setting.now next columns.new h links.new.items) }
     ensures kept { AreKept next columns.old columns.new }
 {
-    match front(x, list, frame, bytes, block, columns, next) {
+    match front(x, list, setting, columns, next) {
         Some(prefix) => {
             let rest = &list[prefix.count..];
-            behind_front(prefix.line, rest, frame, bytes, block, columns, next, links)
+            behind_front(prefix.line, rest, setting, columns, next, links)
         }
         None => None,
     }
@@ -420,28 +325,21 @@ fn behind(
 fn front(
     first: Line,
     list: &[Step],
-    frame: &Frame<'_>,
-    bytes: &[u8],
-    block: &Block,
+    setting: &Setting<'_>,
     columns: &mut [i64],
     next: usize,
 ) -> Option<Prefix>
-    requires counted { IsCounted block.now }
-    requires near { length bytes.now < 2 ^ 62 }
-    requires inside { All (IsInside (length bytes.now)) frame.now.views }
     requires room { next + 256 ≤ length columns.old }
     ensures count { IfSome result (λ f. f.count ≤ length list.now) }
-    ensures follows { IfSome result (λ f. Follows block.now frame.now.counters bytes.now
-        (running.run_each_step (drop f.count list.now) frame.now.views)
-        (running.run_each_step list.now frame.now.views) f.line (drop next columns.new) first
-        (drop next columns.old)) }
+    ensures follows { IfSome result (λ f. Follows setting.now (running.run_each_step (drop f.count list.now))
+        (running.run_each_step list.now) f.line (drop next columns.new) first (drop next columns.old)) }
     ensures kept { AreKept next columns.old columns.new }
 {
     let mut x = first;
     let mut count = 0;
     for step in list {
-        match line(&step.right, frame, bytes, block, columns, next + COLUMN) {
-            Some(y) => match joined(step.op, x, y, columns, next, block.turns) {
+        match line(&step.right, setting, columns, next + COLUMN) {
+            Some(y) => match joined(step.op, x, y, columns, next, setting.block.turns) {
                 Some(z) => {
                     x = z;
                     count += 1;
@@ -459,26 +357,21 @@ fn front(
 fn behind_front(
     x: Line,
     list: &[Step],
-    frame: &Frame<'_>,
-    bytes: &[u8],
-    block: &Block,
+    setting: &Setting<'_>,
     columns: &mut [i64],
     next: usize,
     links: &mut ArrayVec<Link, LINKS>,
 ) -> Option<Hole>
-    requires counted { IsCounted block.now }
-    requires near { length bytes.now < 2 ^ 62 }
-    requires inside { All (IsInside (length bytes.now)) frame.now.views }
     requires room { next + 256 ≤ length columns.old }
-    ensures gives { IfSome result (λ h. Starts block.now frame.now.counters bytes.now value_alone
-        (running.run_each_step list.now frame.now.views) columns.new h links.new.items x (drop next columns.old)) }
-    ensures path { IfSome result (λ h. IsPath block.now (length bytes.now) next columns.new h links.new.items) }
+    ensures gives { IfSome result (λ h. Starts setting.now value_alone (running.run_each_step list.now) columns.new h
+        links.new.items x (drop next columns.old)) }
+    ensures path { IfSome result (λ h. IsPath setting.now next columns.new h links.new.items) }
     ensures kept { AreKept next columns.old columns.new }
 {
     match list {
         [] => None,
-        [step, rest @ ..] => match under(step, x, frame, bytes, block, columns, next, links) {
-            Some(hole) => steps(hole, rest, frame, bytes, block, columns, next, links),
+        [step, rest @ ..] => match under(step, x, setting, columns, next, links) {
+            Some(hole) => steps(hole, rest, setting, columns, next, links),
             None => None,
         },
     }
@@ -497,8 +390,8 @@ fn joined(
     requires room { next + 512 ≤ length columns.old }
     ensures gives { IfSome result (λ l. (j : ℕ) → j < turns → line_at l (drop next columns.new) j ≡ spec.binary op
         (line_at x (drop next columns.old) j) (line_at y (drop (next + 256) columns.old) j)) }
-    ensures divides { IfSome result (λ l. divides op ≡ true → (j : ℕ) → j < turns
-        → spec.is_zero (line_at y (drop (next + 256) columns.old) j) ≡ false) }
+    ensures divides { IfSome result (λ l. divides op ≡ true → (j : ℕ) → j < turns → spec.is_zero (line_at y (drop (next
+        + 256) columns.old) j) ≡ false) }
     ensures kept { AreKept next columns.old columns.new }
 {
     let (_front, free) = columns.split_at_mut(next);
@@ -509,10 +402,10 @@ fn joined(
 fn joined_first(op: BinOp, x: Line, y: Line, columns: &mut [i64], turns: usize) -> Option<Line>
     requires few { turns ≤ 256 }
     requires room { 512 ≤ length columns.old }
-    ensures gives { IfSome result (λ l. (j : ℕ) → j < turns → line_at l columns.new j ≡ spec.binary op
-        (line_at x columns.old j) (line_at y (drop 256 columns.old) j)) }
-    ensures divides { IfSome result (λ l. divides op ≡ true → (j : ℕ) → j < turns
-        → spec.is_zero (line_at y (drop 256 columns.old) j) ≡ false) }
+    ensures gives { IfSome result (λ l. (j : ℕ) → j < turns → line_at l columns.new j ≡ spec.binary op (line_at x
+        columns.old j) (line_at y (drop 256 columns.old) j)) }
+    ensures divides { IfSome result (λ l. divides op ≡ true → (j : ℕ) → j < turns → spec.is_zero (line_at y (drop 256
+        columns.old) j) ≡ false) }
 {
     let (xs, ys) = columns.split_at_mut(COLUMN);
     binary_line(op, x, xs, y, ys, turns)
@@ -523,20 +416,15 @@ fn joined_first(op: BinOp, x: Line, y: Line, columns: &mut [i64], turns: usize) 
 fn under(
     step: &Step,
     x: Line,
-    frame: &Frame<'_>,
-    bytes: &[u8],
-    block: &Block,
+    setting: &Setting<'_>,
     columns: &mut [i64],
     next: usize,
     links: &mut ArrayVec<Link, LINKS>,
 ) -> Option<Hole>
-    requires counted { IsCounted block.now }
-    requires near { length bytes.now < 2 ^ 62 }
-    requires inside { All (IsInside (length bytes.now)) frame.now.views }
     requires room { next + 256 ≤ length columns.old }
-    ensures gives { IfSome result (λ h. Starts block.now frame.now.counters bytes.now value_alone
-        (running.run_step step.now frame.now.views) columns.new h links.new.items x (drop next columns.old)) }
-    ensures path { IfSome result (λ h. IsPath block.now (length bytes.now) next columns.new h links.new.items) }
+    ensures gives { IfSome result (λ h. Starts setting.now value_alone (running.run_step step.now) columns.new h
+        links.new.items x (drop next columns.old)) }
+    ensures path { IfSome result (λ h. IsPath setting.now next columns.new h links.new.items) }
     ensures kept { AreKept next columns.old columns.new }
 {
     if !may_stand_before(step.op) {
@@ -544,7 +432,7 @@ fn under(
     }
     let left = numbers_of(x, next);
     let free = free_behind(left, next, columns);
-    match carried(&step.right, frame, bytes, block, columns, free, links) {
+    match carried(&step.right, setting, columns, free, links) {
         Some(hole) => lengthened(hole, Link::Under(step.op, left), hole.free, columns, links),
         None => None,
     }
@@ -564,26 +452,20 @@ fn may_stand_before(op: BinOp) -> bool
 fn steps(
     first: Hole,
     list: &[Step],
-    frame: &Frame<'_>,
-    bytes: &[u8],
-    block: &Block,
+    setting: &Setting<'_>,
     columns: &mut [i64],
     next: usize,
     links: &mut ArrayVec<Link, LINKS>,
 ) -> Option<Hole>
-    requires counted { IsCounted block.now }
-    requires near { length bytes.now < 2 ^ 62 }
-    requires inside { All (IsInside (length bytes.now)) frame.now.views }
-    requires path { IsPath block.now (length bytes.now) next columns.old first links.old.items }
-    ensures leads { IfSome result (λ h. Leads block.now frame.now.counters bytes.now value_alone
-        (running.run_each_step list.now frame.now.views) columns.new h links.new.items columns.old first
-        links.old.items) }
-    ensures path { IfSome result (λ h. IsPath block.now (length bytes.now) next columns.new h links.new.items) }
+    requires path { IsPath setting.now next columns.old first links.old.items }
+    ensures leads { IfSome result (λ h. Leads setting.now value_alone (running.run_each_step list.now) columns.new h
+        links.new.items columns.old first links.old.items) }
+    ensures path { IfSome result (λ h. IsPath setting.now next columns.new h links.new.items) }
     ensures kept { AreKept next columns.old columns.new }
 {
     let mut hole = first;
     for step in list {
-        match onto(step, hole, frame, bytes, block, columns, next, links) {
+        match onto(step, hole, setting, columns, next, links) {
             Some(longer) => hole = longer,
             None => return None,
         }
@@ -595,24 +477,19 @@ fn steps(
 fn onto(
     step: &Step,
     hole: Hole,
-    frame: &Frame<'_>,
-    bytes: &[u8],
-    block: &Block,
+    setting: &Setting<'_>,
     columns: &mut [i64],
     next: usize,
     links: &mut ArrayVec<Link, LINKS>,
 ) -> Option<Hole>
-    requires counted { IsCounted block.now }
-    requires near { length bytes.now < 2 ^ 62 }
-    requires inside { All (IsInside (length bytes.now)) frame.now.views }
-    requires path { IsPath block.now (length bytes.now) next columns.old hole links.old.items }
-    ensures leads { IfSome result (λ h. Leads block.now frame.now.counters bytes.now value_alone
-        (running.run_step step.now frame.now.views) columns.new h links.new.items columns.old hole links.old.items) }
-    ensures path { IfSome result (λ h. IsPath block.now (length bytes.now) next columns.new h links.new.items) }
+    requires path { IsPath setting.now next columns.old hole links.old.items }
+    ensures leads { IfSome result (λ h. Leads setting.now value_alone (running.run_step step.now) columns.new h
+        links.new.items columns.old hole links.old.items) }
+    ensures path { IfSome result (λ h. IsPath setting.now next columns.new h links.new.items) }
     ensures kept { AreKept next columns.old columns.new }
 {
-    match numbers(&step.right, frame, bytes, block, columns, hole.free) {
-        Some(y) => onto_numbers(step.op, y, hole, columns, block.turns, links),
+    match numbers(&step.right, setting, columns, hole.free) {
+        Some(y) => onto_numbers(step.op, y, hole, columns, setting.block.turns, links),
         None => None,
     }
 }
@@ -630,8 +507,8 @@ fn onto_numbers(
     requires within { hole.free ≤ length columns.now }
     ensures longer { IfSome result (λ h. IsLonger (length columns.now) (Onto op y) hole links.old.items h
         links.new.items) }
-    ensures divides { IfSome result (λ h. divides op ≡ true → (j : ℕ) → j < turns
-        → spec.is_zero (number_at columns.now y j) ≡ false) }
+    ensures divides { IfSome result (λ h. divides op ≡ true → (j : ℕ) → j < turns → spec.is_zero (number_at columns.now
+        y j) ≡ false) }
 {
     if may_stand_behind(op, y, columns, turns) {
         let free = free_behind(y, hole.free, columns);
@@ -645,8 +522,8 @@ fn onto_numbers(
 fn may_stand_behind(op: BinOp, y: Numbers, columns: &[i64], turns: usize) -> bool
     requires few { turns ≤ 256 }
     requires has { HasColumn (length columns.now) y }
-    ensures { result ≡ true → divides op ≡ true → (j : ℕ) → j < turns
-        → spec.is_zero (number_at columns.now y j) ≡ false }
+    ensures { result ≡ true → divides op ≡ true → (j : ℕ) → j < turns → spec.is_zero (number_at columns.now y j) ≡
+        false }
 {
     match op {
         BinOp::AndAlso | BinOp::OrElse => false,
@@ -674,26 +551,20 @@ fn extreme(
     most: bool,
     x: &Code,
     y: &Code,
-    frame: &Frame<'_>,
-    bytes: &[u8],
-    block: &Block,
+    setting: &Setting<'_>,
     columns: &mut [i64],
     next: usize,
     links: &mut ArrayVec<Link, LINKS>,
 ) -> Option<Hole>
-    requires counted { IsCounted block.now }
-    requires near { length bytes.now < 2 ^ 62 }
-    requires inside { All (IsInside (length bytes.now)) frame.now.views }
-    ensures gives { IfSome result (λ h. IsCarried block.now frame.now.counters bytes.now
-        (extreme_read most (running.run_code x.now frame.now.views) (running.run_code y.now frame.now.views))
-        columns.new h links.new.items) }
-    ensures path { IfSome result (λ h. IsPath block.now (length bytes.now) next columns.new h links.new.items) }
+    ensures gives { IfSome result (λ h. IsCarried setting.now (extreme_read most (running.run_code x.now)
+        (running.run_code y.now)) columns.new h links.new.items) }
+    ensures path { IfSome result (λ h. IsPath setting.now next columns.new h links.new.items) }
     ensures kept { AreKept next columns.old columns.new }
 {
-    match numbers(x, frame, bytes, block, columns, next) {
-        Some(x) => under_extreme(most, x, y, frame, bytes, block, columns, next, links),
-        None => match carried(x, frame, bytes, block, columns, next, links) {
-            Some(hole) => onto_extreme(most, hole, y, frame, bytes, block, columns, next, links),
+    match numbers(x, setting, columns, next) {
+        Some(x) => under_extreme(most, x, y, setting, columns, next, links),
+        None => match carried(x, setting, columns, next, links) {
+            Some(hole) => onto_extreme(most, hole, y, setting, columns, next, links),
             None => None,
         },
     }
@@ -705,26 +576,20 @@ fn under_extreme(
     most: bool,
     x: Numbers,
     code: &Code,
-    frame: &Frame<'_>,
-    bytes: &[u8],
-    block: &Block,
+    setting: &Setting<'_>,
     columns: &mut [i64],
     next: usize,
     links: &mut ArrayVec<Link, LINKS>,
 ) -> Option<Hole>
-    requires counted { IsCounted block.now }
-    requires near { length bytes.now < 2 ^ 62 }
-    requires inside { All (IsInside (length bytes.now)) frame.now.views }
     requires has { HasColumn (length columns.old) x }
     requires within { next ≤ length columns.old }
-    ensures gives { IfSome result (λ h. Starts block.now frame.now.counters bytes.now value_alone
-        (extreme_of most (running.run_code code.now frame.now.views)) columns.new h links.new.items x.line
-        (drop x.from columns.old)) }
-    ensures path { IfSome result (λ h. IsPath block.now (length bytes.now) next columns.new h links.new.items) }
+    ensures gives { IfSome result (λ h. Starts setting.now value_alone (extreme_of most (running.run_code code.now))
+        columns.new h links.new.items x.line (drop x.from columns.old)) }
+    ensures path { IfSome result (λ h. IsPath setting.now next columns.new h links.new.items) }
     ensures kept { AreKept next columns.old columns.new }
 {
     let free = free_behind(x, next, columns);
-    match carried(code, frame, bytes, block, columns, free, links) {
+    match carried(code, setting, columns, free, links) {
         Some(hole) => lengthened(hole, extreme_link(most, x), hole.free, columns, links),
         None => None,
     }
@@ -735,24 +600,18 @@ fn onto_extreme(
     most: bool,
     hole: Hole,
     code: &Code,
-    frame: &Frame<'_>,
-    bytes: &[u8],
-    block: &Block,
+    setting: &Setting<'_>,
     columns: &mut [i64],
     next: usize,
     links: &mut ArrayVec<Link, LINKS>,
 ) -> Option<Hole>
-    requires counted { IsCounted block.now }
-    requires near { length bytes.now < 2 ^ 62 }
-    requires inside { All (IsInside (length bytes.now)) frame.now.views }
-    requires path { IsPath block.now (length bytes.now) next columns.old hole links.old.items }
-    ensures leads { IfSome result (λ h. Leads block.now frame.now.counters bytes.now value_alone
-        (extreme_of most (running.run_code code.now frame.now.views)) columns.new h links.new.items columns.old hole
-        links.old.items) }
-    ensures path { IfSome result (λ h. IsPath block.now (length bytes.now) next columns.new h links.new.items) }
+    requires path { IsPath setting.now next columns.old hole links.old.items }
+    ensures leads { IfSome result (λ h. Leads setting.now value_alone (extreme_of most (running.run_code code.now))
+        columns.new h links.new.items columns.old hole links.old.items) }
+    ensures path { IfSome result (λ h. IsPath setting.now next columns.new h links.new.items) }
     ensures kept { AreKept next columns.old columns.new }
 {
-    match numbers(code, frame, bytes, block, columns, hole.free) {
+    match numbers(code, setting, columns, hole.free) {
         Some(y) => {
             let free = free_behind(y, hole.free, columns);
             lengthened(hole, extreme_link(most, y), free, columns, links)

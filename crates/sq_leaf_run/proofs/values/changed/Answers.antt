@@ -3,4 +3,4 @@ use Rattle.sq_leaf_run.proofs.values.changed.Goals as goal
 
 pub returns-clause-leads : goal.returns-clause-leads
 returns-clause-leads c =
-    unary_leads c.args.block.now c.args.frame.now.counters c.args.bytes.now c.args.columns.now c.args.op c.args.hole c.args.links.now.items c.lengthened.result c.lengthened.new.links.items c.lengthened.ensures
+    unary_leads c.args.setting.now c.args.columns.now c.args.op c.args.hole c.args.links.now.items c.lengthened.result c.lengthened.new.links.items c.lengthened.ensures

@@ -1,12 +1,12 @@
 use Rattle.std.proofs.Common.{◌≡◌, drop}
 use Rattle.sq_leaf.specs.Running as running
-use Rattle.sq_leaf_run.specs.Blocks.{Follows}
+use Rattle.sq_leaf_run.specs.Settings.{Follows}
 use Rattle.sq_leaf_run.specs.Deeds.{AreKept}
 use Rattle.sq_leaf_run.proofs.values.front.Given as goal
 
 abbrev pub invariant-loop-step : goal.invariant-loop-step
 invariant-loop-step l = record {
-  follows : Follows l.block l.frame.counters l.bytes (running.run_each_step (drop l.step-index l.list) l.frame.views) (running.run_each_step l.list l.frame.views) l.x (drop l.next l.columns) l.fn.first (drop l.next l.fn.columns);
+  follows : Follows l.setting (running.run_each_step (drop l.step-index l.list)) (running.run_each_step l.list) l.x (drop l.next l.columns) l.fn.first (drop l.next l.fn.columns);
   count : l.count ≡ l.step-index;
   kept : AreKept l.next l.fn.columns l.columns;
 }

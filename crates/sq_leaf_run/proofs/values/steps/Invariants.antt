@@ -1,4 +1,4 @@
-use Rattle.std.proofs.Common.{length, drop}
+use Rattle.std.proofs.Common.{drop}
 use Rattle.sq_leaf.specs.Running as running
 use Rattle.sq_leaf_run.specs.Deeds.{AreKept}
 use Rattle.sq_leaf_run.specs.Values.{Leads, IsPath}
@@ -6,7 +6,7 @@ use Rattle.sq_leaf_run.proofs.values.steps.Given as goal
 
 abbrev pub invariant-loop-step : goal.invariant-loop-step
 invariant-loop-step l = record {
-  path : IsPath l.block (length l.bytes) l.next l.columns l.hole l.links.items;
-  leads : Leads l.block l.frame.counters l.bytes (running.run_each_step (drop l.step-index l.list) l.frame.views) (running.run_each_step l.list l.frame.views) l.columns l.hole l.links.items l.fn.columns l.fn.first l.fn.links.items;
+  path : IsPath l.setting l.next l.columns l.hole l.links.items;
+  leads : Leads l.setting (running.run_each_step (drop l.step-index l.list)) (running.run_each_step l.list) l.columns l.hole l.links.items l.fn.columns l.fn.first l.fn.links.items;
   kept : AreKept l.next l.fn.columns l.columns;
 }
