@@ -126,7 +126,7 @@ fn find_in<'a>(
 ) {
     match code {
         Code::Constant(_) | Code::Counter(_) => {}
-        Code::Element(cell) => find_cell(cell, behind, body, counter, reads),
+        Code::Element(cell) => find_cell(cell, false, behind, body, counter, reads),
         Code::Unary(_, inner) => {
             find(inner.get(), behind.saturating_add(1), body, counter, reads);
         }
@@ -134,7 +134,7 @@ fn find_in<'a>(
             let mut behind = behind.saturating_add(rest.len());
             find(first.get(), behind, body, counter, reads);
             for step in rest.as_slice() {
-                find(&step.right, behind, body, counter, reads);
+                find_side(&step.right, behind, body, counter, reads);
                 behind = behind.saturating_sub(1);
             }
         }
@@ -145,9 +145,25 @@ fn find_in<'a>(
     }
 }
 
+/// The same of an operator's right side.
+#[cycle(find)]
+fn find_side<'a>(
+    code: &'a Code,
+    behind: usize,
+    body: &[Action],
+    counter: usize,
+    reads: &mut Reads<'a>,
+) {
+    match code {
+        Code::Element(cell) => find_cell(cell, true, behind, body, counter, reads),
+        code => find(code, behind, body, counter, reads),
+    }
+}
+
 #[cycle(find)]
 fn find_cell<'a>(
     cell: &'a Cell,
+    is_side: bool,
     behind: usize,
     body: &[Action],
     counter: usize,
@@ -157,18 +173,19 @@ fn find_cell<'a>(
         find(code, LINKS + 1, body, counter, reads);
     }
     if may_be_written(cell, body, counter) {
-        note(cell, behind, reads);
+        note(cell, is_side, behind, reads);
     }
 }
 
-fn note<'a>(cell: &'a Cell, behind: usize, reads: &mut Reads<'a>) {
+/// An element may be read once more where it alone is an operator's right side.
+fn note<'a>(cell: &'a Cell, is_side: bool, behind: usize, reads: &mut Reads<'a>) {
     if LINKS < behind {
         reads.others = true;
     }
     match reads.first {
         None => reads.first = Some(cell),
         Some(first) => {
-            if !(first.array == cell.array && is_same_place(first, cell)) {
+            if !(is_side && first.array == cell.array && is_same_place(first, cell)) {
                 reads.others = true;
             }
         }
