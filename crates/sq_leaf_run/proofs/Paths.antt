@@ -1,5 +1,5 @@
 -- Paths: an element that a turn reads as it meets it, and the operators behind it.
-use Rattle.std.proofs.Common.{◌≡◌, ℕ, suc, max, ◌+◌, ◌<◌, ◌≤◌, Bool, true, false, List, [], ◌∷◌, ◌++◌, length, take, drop, get_or, Option, Some, None, Result, Ok, ℤ, pos, IfSome, refl, sym, subst, ◌∙◌, ap, arith, take-append-drop, drop-cons}
+use Rattle.std.proofs.Common.{◌≡◌, ℕ, suc, max, ◌+◌, ◌*◌, ◌<◌, ◌≤◌, Bool, true, false, List, [], ◌∷◌, ◌++◌, length, take, drop, get_or, Option, Some, None, Result, Ok, ℤ, pos, IfSome, refl, sym, subst, ◌∙◌, ap, arith, take-append-drop, drop-cons}
 use denote.Param.Weighed.{most, most-append}
 use Rattle.std.specs.List.{All}
 use Rattle.std.specs.Int.{int_min, int_max}
@@ -170,6 +170,34 @@ onto_leads t next s y h ls old new (Some n) more path kept right longer safe = r
       ∙ (sym (linked_is (out-Step s).op (out-Step s).place (path_at old h ls j d) (number_at new y j) (λ e. safe e j below))
       ∙ (ap (source.linked (out-Step s).op (out-Step s).place (path_at old h ls j d)) (sym (right.each j d below met))
       ∙ sym (step_is s t.frame.now.views (counters_at t j) d (path_at old h ls j d))));
+}
+
+pub itself_leads : (t : Setting) (next : ℕ) (s : Step) (h : Hole) (ls : List Link) (old new : List ℤ) (o : Option Hole) (more : List Link)
+    → divides (out-Step s).op ≡ false → IsPath t next old h ls → AreKept h.free old new → IsCarried t (run_code (out-Step s).right) new h []
+    → IfSome o (λ n. IsLonger (length new) (Itself (out-Step s).op) h ls n more)
+    → IfSome o (λ n. Leads t value_alone (run_step s) new n more old h ls)
+itself_leads t next s h ls old new o more whole path kept start longer = some_after o _ _ (λ n is. go n is) longer
+  where
+    never : (z : Bool) → divides (out-Step s).op ≡ true → z ≡ false
+    never z e = cc
+
+    go : (n : Hole) → IsLonger (length new) (Itself (out-Step s).op) h ls n more → Leads t value_alone (run_step s) new n more old h ls
+    go n is = record {
+      each = λ j d below met.
+          ap Ok (path_longer (length new) (Itself (out-Step s).op) h ls n more is new j d
+          ∙ ap (λ (w : ℤ). binary (out-Step s).op w (path_first h j d)) (path_kept t next h ls old new path kept j d (omega (arith, below, t.few))))
+          ∙ (sym (linked_is (out-Step s).op (out-Step s).place (path_at old h ls j d) (path_first h j d) (λ e. never (is_zero (path_first h j d)) e))
+          ∙ (ap (source.linked (out-Step s).op (out-Step s).place (path_at old h ls j d)) (sym (start.each j d below met))
+          ∙ sym (step_is s t.frame.now.views (counters_at t j) d (path_at old h ls j d))));
+    }
+
+-- a path without operators from the same element
+pub start_is : (t : Setting) (f : CodeRun) (columns : List ℤ) (h other : Hole) (links : List Link) → IsCarried t f columns other links → links ≡ []
+    → other.elem ≡ h.elem → other.read.at ≡ h.read.at → other.read.step ≡ h.read.step → IsCarried t f columns h []
+start_is t f columns h other links is none elem at step = record {
+  each = λ j c below met.
+      is.each j c below met
+      ∙ (ap (λ (ls : List Link). Ok (path_at columns other ls j c)) none ∙ (λ i. Ok (load (record { elem = elem i; at = at i + step i * j }) c)));
 }
 
 extreme_is : (columns : List ℤ) (most : Bool) (y : Numbers) (j : ℕ) (e x : ℤ) → linked columns (extreme_link most y) j e x ≡ extreme most x (number_at columns y j)

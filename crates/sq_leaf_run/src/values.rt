@@ -1,7 +1,7 @@
 //! What an assignment puts at the turns of a block: numbers that are known before it, or one element that each turn
 //! reads as it meets it, and the operators behind it.
 
-ghost use Rattle.std.specs.Prelude.{◌≡◌, ◌+◌, ◌<◌, ◌≤◌, true, false, ℕ, ℤ, List, length, drop, slice_get};
+ghost use Rattle.std.specs.Prelude.{◌≡◌, ◌+◌, ◌<◌, ◌≤◌, true, false, ℕ, ℤ, List, [], length, drop, slice_get};
 ghost use Rattle.std.specs.Prelude.{IfSome};
 ghost use Rattle.sq_leaf.specs.Spots.{IsInside};
 ghost use Rattle.sq_leaf.specs.Numbers as spec;
@@ -202,6 +202,7 @@ fn element(
 ) -> Option<Hole>
     ensures gives { IfSome result (λ h. IsCarried setting.now (load_of (running.run_cell cell.now)) columns.new h
         links.new.items) }
+    ensures none { IfSome result (λ h. links.new.items ≡ []) }
     ensures path { IfSome result (λ h. IsPath setting.now next columns.new h links.new.items) }
     ensures kept { AreKept next columns.old columns.new }
 {
@@ -223,6 +224,7 @@ fn element_of(
     requires there { Some view.now ≡ slice_get setting.now.frame.now.views cell.now.array }
     ensures gives { IfSome result (λ h. IsCarried setting.now (load_of (running.run_cell cell.now)) columns.new h
         links.new.items) }
+    ensures none { IfSome result (λ h. links.new.items ≡ []) }
     ensures path { IfSome result (λ h. IsPath setting.now next columns.new h links.new.items) }
     ensures kept { AreKept next columns.old columns.new }
 {
@@ -473,7 +475,7 @@ fn steps(
     Some(hole)
 }
 
-/// An operator behind a path, whose right side is known.
+/// An operator behind a path, whose right side is known, or is the element with which the path begins.
 fn onto(
     step: &Step,
     hole: Hole,
@@ -490,8 +492,44 @@ fn onto(
 {
     match numbers(&step.right, setting, columns, hole.free) {
         Some(y) => onto_numbers(step.op, y, hole, columns, setting.block.turns, links),
-        None => None,
+        None => {
+            if may_stand_before(step.op) && is_start(&step.right, hole, setting, columns) {
+                lengthened(hole, Link::Itself(step.op), hole.free, columns, links)
+            } else {
+                None
+            }
+        }
     }
+}
+
+/// Whether an expression is the element with which the path begins. The columns behind the path's are used up.
+fn is_start(code: &Code, hole: Hole, setting: &Setting<'_>, columns: &mut [i64]) -> bool
+    ensures is { result ≡ true → IsCarried setting.now (running.run_code code.now) columns.new hole [] }
+    ensures kept { AreKept hole.free columns.old columns.new }
+{
+    match code {
+        Code::Element(cell) => is_element(cell, hole, setting, columns),
+        _ => false,
+    }
+}
+
+fn is_element(cell: &Cell, hole: Hole, setting: &Setting<'_>, columns: &mut [i64]) -> bool
+    ensures is { result ≡ true → IsCarried setting.now (load_of (running.run_cell cell.now)) columns.new hole [] }
+    ensures kept { AreKept hole.free columns.old columns.new }
+{
+    let mut links = ArrayVec::new();
+    match element(cell, setting, columns, hole.free, &mut links) {
+        Some(other) => is_same(other, hole),
+        None => false,
+    }
+}
+
+fn is_same(other: Hole, hole: Hole) -> bool
+    ensures elem { result ≡ true → other.elem ≡ hole.elem }
+    ensures at { result ≡ true → other.read.at ≡ hole.read.at }
+    ensures step { result ≡ true → other.read.step ≡ hole.read.step }
+{
+    other.elem == hole.elem && other.read.at == hole.read.at && other.read.step == hole.read.step
 }
 
 fn onto_numbers(
