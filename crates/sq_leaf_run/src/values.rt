@@ -1,7 +1,7 @@
 //! What an assignment puts at the turns of a block: numbers that are known before it, or one element that each turn
 //! reads as it meets it, and the operators behind it.
 
-ghost use Rattle.std.specs.Prelude.{◌≡◌, ◌+◌, ◌<◌, ◌≤◌, true, false, ℕ, ℤ, List, length, drop, slice_get, []};
+ghost use Rattle.std.specs.Prelude.{◌≡◌, ◌+◌, ◌<◌, ◌≤◌, true, false, ℕ, ℤ, List, [], length, drop, slice_get};
 ghost use Rattle.std.specs.Prelude.{IfSome};
 ghost use Rattle.sq_leaf.specs.Spots.{IsInside};
 ghost use Rattle.sq_leaf.specs.Numbers as spec;
