@@ -22,6 +22,7 @@ ghost use Rattle.sq_leaf_run.specs.Settings.{all_turns, Places, LieIn};
 use crate::act::assign;
 use crate::block::{Block, MOST, Write, narrowed};
 use crate::frame::Frame;
+use crate::history::Memo;
 use crate::lines::{COLUMN, column, spots};
 use crate::puts::put_all;
 use crate::setting::Setting;
@@ -52,14 +53,18 @@ pub(crate) fn blocks(
         op code.now frame.old.views (frame.old.counters ++ k ∷ [])) bytes.old }
     ensures kept { frame.new ≡ frame.old }
 {
+    let mut memo = frame.recall(body, end.abs_diff(from));
     let mut i = from;
     while i < end {
         let count = next_count(i, end);
-        match some_turns(body, cell, op, code, i, count, frame, bytes, columns) {
+        match some_turns(
+            body, cell, op, code, i, count, &mut memo, frame, bytes, columns,
+        ) {
             Ok(()) => i += count as i64,
             Err(trap) => return Err(trap),
         }
     }
+    frame.keep(memo);
     Ok(())
 }
 
@@ -82,6 +87,7 @@ fn some_turns(
     code: &Code,
     i: i64,
     count: usize,
+    memo: &mut Memo,
     frame: &mut Frame<'_>,
     bytes: &mut [u8],
     columns: &mut [i64],
@@ -96,17 +102,17 @@ fn some_turns(
         frame.old.views (frame.old.counters ++ k ∷ [])) bytes.old }
     ensures kept { frame.new ≡ frame.old }
 {
-    if count == 0 || !frame.is_due(body, count) {
+    if count == 0 || !memo.is_due(count) {
         return one_by_one(cell, op, code, i, count, frame, bytes);
     }
     if run_block(cell, op, code, i, count, frame, bytes, columns) {
-        frame.note(body, true);
+        memo.note(true);
         Ok(())
     } else if try_deeds(body, i, count, frame, bytes, columns) {
-        frame.note(body, true);
+        memo.note(true);
         Ok(())
     } else {
-        frame.note(body, false);
+        memo.note(false);
         one_by_one(cell, op, code, i, count, frame, bytes)
     }
 }

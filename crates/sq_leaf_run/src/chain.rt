@@ -94,7 +94,7 @@ fn next_one(row: Row, link: Link, columns: &[i64], turns: usize, bytes: &mut [u8
     }
 }
 
-// Loops for one operator and a column, a function for each.
+// Loops for one operator and a column, a function for each, with the calls for each type within it (see puts.rt).
 #[inline(never)]
 fn next_sum(row: Row, from: usize, columns: &[i64], turns: usize, bytes: &mut [u8])
     requires few { turns ≤ 256 }
@@ -104,7 +104,11 @@ fn next_sum(row: Row, from: usize, columns: &[i64], turns: usize, bytes: &mut [u
         turns 0 bytes.old }
 {
     let link = Link::Onto(BinOp::Add, Numbers::column(from));
-    next_types(row, link, columns, turns, bytes);
+    match row.elem {
+        Elem::Byte => next_steps(Elem::Byte, row.rise, link, columns, turns, bytes),
+        Elem::Int => next_steps(Elem::Int, row.rise, link, columns, turns, bytes),
+        Elem::Long => next_steps(Elem::Long, row.rise, link, columns, turns, bytes),
+    }
 }
 
 #[inline(never)]
@@ -116,7 +120,11 @@ fn next_difference(row: Row, from: usize, columns: &[i64], turns: usize, bytes: 
         turns 0 bytes.old }
 {
     let link = Link::Onto(BinOp::Sub, Numbers::column(from));
-    next_types(row, link, columns, turns, bytes);
+    match row.elem {
+        Elem::Byte => next_steps(Elem::Byte, row.rise, link, columns, turns, bytes),
+        Elem::Int => next_steps(Elem::Int, row.rise, link, columns, turns, bytes),
+        Elem::Long => next_steps(Elem::Long, row.rise, link, columns, turns, bytes),
+    }
 }
 
 #[inline(never)]
@@ -128,7 +136,11 @@ fn next_product(row: Row, from: usize, columns: &[i64], turns: usize, bytes: &mu
         turns 0 bytes.old }
 {
     let link = Link::Onto(BinOp::Mul, Numbers::column(from));
-    next_types(row, link, columns, turns, bytes);
+    match row.elem {
+        Elem::Byte => next_steps(Elem::Byte, row.rise, link, columns, turns, bytes),
+        Elem::Int => next_steps(Elem::Int, row.rise, link, columns, turns, bytes),
+        Elem::Long => next_steps(Elem::Long, row.rise, link, columns, turns, bytes),
+    }
 }
 
 #[inline(never)]
@@ -139,13 +151,12 @@ fn next_least(row: Row, from: usize, columns: &[i64], turns: usize, bytes: &mut 
     ensures { bytes.new ≡ in_turn (next_turn columns.now row.elem row.rise (link_of.Least (column from) ∷ [])) turns 0
         bytes.old }
 {
-    next_types(
-        row,
-        Link::Least(Numbers::column(from)),
-        columns,
-        turns,
-        bytes,
-    );
+    let link = Link::Least(Numbers::column(from));
+    match row.elem {
+        Elem::Byte => next_steps(Elem::Byte, row.rise, link, columns, turns, bytes),
+        Elem::Int => next_steps(Elem::Int, row.rise, link, columns, turns, bytes),
+        Elem::Long => next_steps(Elem::Long, row.rise, link, columns, turns, bytes),
+    }
 }
 
 #[inline(never)]
@@ -156,13 +167,12 @@ fn next_most(row: Row, from: usize, columns: &[i64], turns: usize, bytes: &mut [
     ensures { bytes.new ≡ in_turn (next_turn columns.now row.elem row.rise (link_of.Most (column from) ∷ [])) turns 0
         bytes.old }
 {
-    next_types(
-        row,
-        Link::Most(Numbers::column(from)),
-        columns,
-        turns,
-        bytes,
-    );
+    let link = Link::Most(Numbers::column(from));
+    match row.elem {
+        Elem::Byte => next_steps(Elem::Byte, row.rise, link, columns, turns, bytes),
+        Elem::Int => next_steps(Elem::Int, row.rise, link, columns, turns, bytes),
+        Elem::Long => next_steps(Elem::Long, row.rise, link, columns, turns, bytes),
+    }
 }
 
 #[inline(never)]
@@ -176,21 +186,6 @@ fn next_any(row: Row, link: Link, columns: &[i64], turns: usize, bytes: &mut [u8
         Elem::Byte => next_each(Elem::Byte, row.rise, link, columns, turns, bytes),
         Elem::Int => next_each(Elem::Int, row.rise, link, columns, turns, bytes),
         Elem::Long => next_each(Elem::Long, row.rise, link, columns, turns, bytes),
-    }
-}
-
-/// Each type by loops of its own.
-#[inline(always)]
-fn next_types(row: Row, link: Link, columns: &[i64], turns: usize, bytes: &mut [u8])
-    requires few { turns ≤ 256 }
-    requires room { IsRoomy (turns + 1) (length bytes.old) row.elem row.rise }
-    requires link { LinkFits (length columns.now) link }
-    ensures { bytes.new ≡ in_turn (next_turn columns.now row.elem row.rise (link ∷ [])) turns 0 bytes.old }
-{
-    match row.elem {
-        Elem::Byte => next_steps(Elem::Byte, row.rise, link, columns, turns, bytes),
-        Elem::Int => next_steps(Elem::Int, row.rise, link, columns, turns, bytes),
-        Elem::Long => next_steps(Elem::Long, row.rise, link, columns, turns, bytes),
     }
 }
 

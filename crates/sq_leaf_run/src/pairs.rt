@@ -58,7 +58,7 @@ fn then_sum(row: Row, first: Link, from: usize, columns: &[i64], turns: usize, b
     }
 }
 
-// Loops with both operators known, a function for each first one.
+// Loops with both operators known, a function for each first one, with the calls for each type within it (see puts.rt).
 #[inline(never)]
 fn add_add(row: Row, y: Numbers, from: usize, columns: &[i64], turns: usize, bytes: &mut [u8])
     requires few { turns ≤ 256 }
@@ -68,7 +68,13 @@ fn add_add(row: Row, y: Numbers, from: usize, columns: &[i64], turns: usize, byt
     ensures { bytes.new ≡ in_turn (next_turn columns.now row.elem row.rise (and_column (link_of.Onto binary.Add y)
         from)) turns 0 bytes.old }
 {
-    sum_types(row, Link::Onto(BinOp::Add, y), from, columns, turns, bytes);
+    let first = Link::Onto(BinOp::Add, y);
+    let second = Link::Onto(BinOp::Add, Numbers::column(from));
+    match row.elem {
+        Elem::Byte => pair_each(Elem::Byte, row.rise, first, second, columns, turns, bytes),
+        Elem::Int => pair_each(Elem::Int, row.rise, first, second, columns, turns, bytes),
+        Elem::Long => pair_each(Elem::Long, row.rise, first, second, columns, turns, bytes),
+    }
 }
 
 #[inline(never)]
@@ -80,7 +86,13 @@ fn mul_add(row: Row, y: Numbers, from: usize, columns: &[i64], turns: usize, byt
     ensures { bytes.new ≡ in_turn (next_turn columns.now row.elem row.rise (and_column (link_of.Onto binary.Mul y)
         from)) turns 0 bytes.old }
 {
-    sum_types(row, Link::Onto(BinOp::Mul, y), from, columns, turns, bytes);
+    let first = Link::Onto(BinOp::Mul, y);
+    let second = Link::Onto(BinOp::Add, Numbers::column(from));
+    match row.elem {
+        Elem::Byte => pair_each(Elem::Byte, row.rise, first, second, columns, turns, bytes),
+        Elem::Int => pair_each(Elem::Int, row.rise, first, second, columns, turns, bytes),
+        Elem::Long => pair_each(Elem::Long, row.rise, first, second, columns, turns, bytes),
+    }
 }
 
 #[inline(never)]
@@ -92,7 +104,13 @@ fn least_add(row: Row, y: Numbers, from: usize, columns: &[i64], turns: usize, b
     ensures { bytes.new ≡ in_turn (next_turn columns.now row.elem row.rise (and_column (link_of.Least y) from)) turns 0
         bytes.old }
 {
-    sum_types(row, Link::Least(y), from, columns, turns, bytes);
+    let first = Link::Least(y);
+    let second = Link::Onto(BinOp::Add, Numbers::column(from));
+    match row.elem {
+        Elem::Byte => pair_each(Elem::Byte, row.rise, first, second, columns, turns, bytes),
+        Elem::Int => pair_each(Elem::Int, row.rise, first, second, columns, turns, bytes),
+        Elem::Long => pair_each(Elem::Long, row.rise, first, second, columns, turns, bytes),
+    }
 }
 
 #[inline(never)]
@@ -104,35 +122,17 @@ fn most_add(row: Row, y: Numbers, from: usize, columns: &[i64], turns: usize, by
     ensures { bytes.new ≡ in_turn (next_turn columns.now row.elem row.rise (and_column (link_of.Most y) from)) turns 0
         bytes.old }
 {
-    sum_types(row, Link::Most(y), from, columns, turns, bytes);
-}
-
-/// Each type by a loop of its own.
-#[inline(always)]
-fn sum_types(row: Row, first: Link, from: usize, columns: &[i64], turns: usize, bytes: &mut [u8])
-    requires few { turns ≤ 256 }
-    requires room { IsRoomy (turns + 1) (length bytes.old) row.elem row.rise }
-    requires first { LinkFits (length columns.now) first }
-    requires column { from + 256 ≤ length columns.now }
-    ensures { bytes.new ≡ in_turn (next_turn columns.now row.elem row.rise (and_column first from)) turns 0 bytes.old }
-{
+    let first = Link::Most(y);
     let second = Link::Onto(BinOp::Add, Numbers::column(from));
-    pair_types(row, first, second, columns, turns, bytes);
+    match row.elem {
+        Elem::Byte => pair_each(Elem::Byte, row.rise, first, second, columns, turns, bytes),
+        Elem::Int => pair_each(Elem::Int, row.rise, first, second, columns, turns, bytes),
+        Elem::Long => pair_each(Elem::Long, row.rise, first, second, columns, turns, bytes),
+    }
 }
 
 #[inline(never)]
 fn pair_any(row: Row, first: Link, second: Link, columns: &[i64], turns: usize, bytes: &mut [u8])
-    requires few { turns ≤ 256 }
-    requires room { IsRoomy (turns + 1) (length bytes.old) row.elem row.rise }
-    requires first { LinkFits (length columns.now) first }
-    requires second { LinkFits (length columns.now) second }
-    ensures { bytes.new ≡ in_turn (next_turn columns.now row.elem row.rise (first ∷ second ∷ [])) turns 0 bytes.old }
-{
-    pair_types(row, first, second, columns, turns, bytes);
-}
-
-#[inline(always)]
-fn pair_types(row: Row, first: Link, second: Link, columns: &[i64], turns: usize, bytes: &mut [u8])
     requires few { turns ≤ 256 }
     requires room { IsRoomy (turns + 1) (length bytes.old) row.elem row.rise }
     requires first { LinkFits (length columns.now) first }

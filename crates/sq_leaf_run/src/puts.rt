@@ -88,7 +88,8 @@ pub(crate) fn put_row(
     }
 }
 
-// A function for each operator: `inline(always)` counts for nothing on what would grow large, as all of them in one.
+// A function for each operator, and the calls for each type within it: `inline(always)` counts for nothing on what
+// would grow large, as one function with these calls, or with those for all operators.
 #[inline(never)]
 fn put_set(row: Row, x: Line, numbers: &[i64], turns: usize, bytes: &mut [u8])
     requires few { turns ≤ 256 }
@@ -97,7 +98,27 @@ fn put_set(row: Row, x: Line, numbers: &[i64], turns: usize, bytes: &mut [u8])
     ensures { bytes.new ≡ puts row.elem (source.assigned ops.Set) (byte_at row.rise) (line_at x numbers.now) turns 0
         bytes.old }
 {
-    put_types(AssignOp::Set, row, x, numbers, turns, bytes);
+    match row.elem {
+        Elem::Byte => put_steps(
+            Elem::Byte,
+            AssignOp::Set,
+            row.rise,
+            x,
+            numbers,
+            turns,
+            bytes,
+        ),
+        Elem::Int => put_steps(Elem::Int, AssignOp::Set, row.rise, x, numbers, turns, bytes),
+        Elem::Long => put_steps(
+            Elem::Long,
+            AssignOp::Set,
+            row.rise,
+            x,
+            numbers,
+            turns,
+            bytes,
+        ),
+    }
 }
 
 #[inline(never)]
@@ -108,7 +129,27 @@ fn put_add(row: Row, x: Line, numbers: &[i64], turns: usize, bytes: &mut [u8])
     ensures { bytes.new ≡ puts row.elem (source.assigned ops.Add) (byte_at row.rise) (line_at x numbers.now) turns 0
         bytes.old }
 {
-    put_types(AssignOp::Add, row, x, numbers, turns, bytes);
+    match row.elem {
+        Elem::Byte => put_steps(
+            Elem::Byte,
+            AssignOp::Add,
+            row.rise,
+            x,
+            numbers,
+            turns,
+            bytes,
+        ),
+        Elem::Int => put_steps(Elem::Int, AssignOp::Add, row.rise, x, numbers, turns, bytes),
+        Elem::Long => put_steps(
+            Elem::Long,
+            AssignOp::Add,
+            row.rise,
+            x,
+            numbers,
+            turns,
+            bytes,
+        ),
+    }
 }
 
 #[inline(never)]
@@ -119,7 +160,27 @@ fn put_sub(row: Row, x: Line, numbers: &[i64], turns: usize, bytes: &mut [u8])
     ensures { bytes.new ≡ puts row.elem (source.assigned ops.Sub) (byte_at row.rise) (line_at x numbers.now) turns 0
         bytes.old }
 {
-    put_types(AssignOp::Sub, row, x, numbers, turns, bytes);
+    match row.elem {
+        Elem::Byte => put_steps(
+            Elem::Byte,
+            AssignOp::Sub,
+            row.rise,
+            x,
+            numbers,
+            turns,
+            bytes,
+        ),
+        Elem::Int => put_steps(Elem::Int, AssignOp::Sub, row.rise, x, numbers, turns, bytes),
+        Elem::Long => put_steps(
+            Elem::Long,
+            AssignOp::Sub,
+            row.rise,
+            x,
+            numbers,
+            turns,
+            bytes,
+        ),
+    }
 }
 
 #[inline(never)]
@@ -130,22 +191,26 @@ fn put_mul(row: Row, x: Line, numbers: &[i64], turns: usize, bytes: &mut [u8])
     ensures { bytes.new ≡ puts row.elem (source.assigned ops.Mul) (byte_at row.rise) (line_at x numbers.now) turns 0
         bytes.old }
 {
-    put_types(AssignOp::Mul, row, x, numbers, turns, bytes);
-}
-
-/// Each type by loops of its own.
-#[inline(always)]
-fn put_types(op: AssignOp, row: Row, x: Line, numbers: &[i64], turns: usize, bytes: &mut [u8])
-    requires few { turns ≤ 256 }
-    requires numbers { turns ≤ length numbers.now }
-    requires room { IsRoomy turns (length bytes.old) row.elem row.rise }
-    ensures { bytes.new ≡ puts row.elem (source.assigned op) (byte_at row.rise) (line_at x numbers.now) turns 0
-        bytes.old }
-{
     match row.elem {
-        Elem::Byte => put_steps(Elem::Byte, op, row.rise, x, numbers, turns, bytes),
-        Elem::Int => put_steps(Elem::Int, op, row.rise, x, numbers, turns, bytes),
-        Elem::Long => put_steps(Elem::Long, op, row.rise, x, numbers, turns, bytes),
+        Elem::Byte => put_steps(
+            Elem::Byte,
+            AssignOp::Mul,
+            row.rise,
+            x,
+            numbers,
+            turns,
+            bytes,
+        ),
+        Elem::Int => put_steps(Elem::Int, AssignOp::Mul, row.rise, x, numbers, turns, bytes),
+        Elem::Long => put_steps(
+            Elem::Long,
+            AssignOp::Mul,
+            row.rise,
+            x,
+            numbers,
+            turns,
+            bytes,
+        ),
     }
 }
 

@@ -34,7 +34,8 @@ pub(crate) fn put_where(row: Row, it: Tested, columns: &[i64], turns: usize, byt
     }
 }
 
-// Loops with the operator and the test's column known, a function for each operator.
+// Loops with the operator and the test's column known, a function for each operator, with the calls for each type within
+// it (see puts.rt).
 #[inline(never)]
 fn where_set(row: Row, it: Tested, columns: &[i64], turns: usize, bytes: &mut [u8])
     requires few { turns ≤ 256 }
@@ -45,8 +46,16 @@ fn where_set(row: Row, it: Tested, columns: &[i64], turns: usize, bytes: &mut [u
     ensures { bytes.new ≡ in_turn (where_turn columns.now row.elem row.rise it) turns 0 bytes.old }
 {
     let test = Numbers::column(it.test.from);
-    let op = AssignOp::Set;
-    where_types(row, Tested { test, op, ..it }, columns, turns, bytes);
+    let known = Tested {
+        test,
+        op: AssignOp::Set,
+        ..it
+    };
+    match row.elem {
+        Elem::Byte => where_steps(Elem::Byte, row.rise, known, columns, turns, bytes),
+        Elem::Int => where_steps(Elem::Int, row.rise, known, columns, turns, bytes),
+        Elem::Long => where_steps(Elem::Long, row.rise, known, columns, turns, bytes),
+    }
 }
 
 #[inline(never)]
@@ -59,22 +68,15 @@ fn where_add(row: Row, it: Tested, columns: &[i64], turns: usize, bytes: &mut [u
     ensures { bytes.new ≡ in_turn (where_turn columns.now row.elem row.rise it) turns 0 bytes.old }
 {
     let test = Numbers::column(it.test.from);
-    let op = AssignOp::Add;
-    where_types(row, Tested { test, op, ..it }, columns, turns, bytes);
-}
-
-/// Each type by loops of its own.
-#[inline(always)]
-fn where_types(row: Row, it: Tested, columns: &[i64], turns: usize, bytes: &mut [u8])
-    requires few { turns ≤ 256 }
-    requires room { IsRoomy turns (length bytes.old) row.elem row.rise }
-    requires fits { AreTested (length columns.now) it }
-    ensures { bytes.new ≡ in_turn (where_turn columns.now row.elem row.rise it) turns 0 bytes.old }
-{
+    let known = Tested {
+        test,
+        op: AssignOp::Add,
+        ..it
+    };
     match row.elem {
-        Elem::Byte => where_steps(Elem::Byte, row.rise, it, columns, turns, bytes),
-        Elem::Int => where_steps(Elem::Int, row.rise, it, columns, turns, bytes),
-        Elem::Long => where_steps(Elem::Long, row.rise, it, columns, turns, bytes),
+        Elem::Byte => where_steps(Elem::Byte, row.rise, known, columns, turns, bytes),
+        Elem::Int => where_steps(Elem::Int, row.rise, known, columns, turns, bytes),
+        Elem::Long => where_steps(Elem::Long, row.rise, known, columns, turns, bytes),
     }
 }
 

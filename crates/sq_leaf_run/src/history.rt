@@ -12,11 +12,11 @@ const LOOPS: usize = 4;
 /// The least number of turns that are worth a block.
 pub(crate) const FEW: usize = 8;
 
-/// The same where an element may be carried.
+/// The same where an element may be carried, or where there are several statements.
 const SOME: usize = 12;
 
 /// From so many turns on a block that comes to nothing costs little beside them.
-const LONG: usize = 192;
+const LONG: u64 = 192;
 
 /// So many turns that could have been run by blocks are worth columns for the loops round them.
 const WORTH: usize = 64;
@@ -26,7 +26,7 @@ const MOST: u32 = 4;
 
 /// What is known of a loop.
 #[derive(Clone, Copy, Default)]
-struct Memo {
+pub(crate) struct Memo {
     /// Where its first assignment stands.
     name: u64,
     /// The least number of turns that are worth a block.
@@ -39,50 +39,44 @@ struct Memo {
 
 /// What is known of all loops of a run.
 #[derive(Drop)]
-pub(crate) struct Memory {
+pub(crate) struct History {
     memos: ArrayVec<Memo, LOOPS>,
     /// Turns that could have been run by blocks.
     wanted: usize,
 }
 
-impl Memory {
-    pub fn new() -> Memory {
-        Memory {
+impl History {
+    pub fn new() -> History {
+        History {
             memos: ArrayVec::new(),
             wanted: 0,
         }
     }
 
-    /// Whether so many turns of the loop with this counter are to be run by a block.
-    pub fn is_due(&mut self, body: &[Action], turns: usize, counter: usize) -> bool {
+    /// What is known of a loop of so many turns with this body and the counter of this number: what a look at it says,
+    /// where it is new.
+    pub fn recall(&self, body: &[Action], counter: usize, turns: u64) -> Memo {
         let name = name_of(body);
-        for memo in self.memos.as_mut_slice() {
+        for memo in self.memos.as_slice() {
             if memo.name == name {
-                return memo.is_due(turns);
+                return *memo;
             }
         }
-        let mut memo = Memo::new(name, look(body, counter), turns);
-        let due = memo.is_due(turns);
-        self.learn(memo);
-        due
+        Memo::new(name, body, look(body, counter), turns)
     }
 
-    /// The last one gives way where there are too many.
-    fn learn(&mut self, memo: Memo) {
+    /// What is now known of a loop. The last one gives way where there are too many.
+    pub fn keep(&mut self, memo: Memo) {
+        for known in self.memos.as_mut_slice() {
+            if known.name == memo.name {
+                *known = memo;
+                return;
+            }
+        }
         if self.memos.is_full() {
             let _ = self.memos.pop();
         }
         let _ = self.memos.try_push(memo);
-    }
-
-    /// Whether a block of the loop came to something.
-    pub fn note(&mut self, body: &[Action], done: bool) {
-        let name = name_of(body);
-        for memo in self.memos.as_mut_slice() {
-            if memo.name == name {
-                memo.note(done);
-            }
-        }
     }
 
     /// So many turns could have been run by blocks.
@@ -97,13 +91,13 @@ impl Memory {
 }
 
 impl Memo {
-    /// What a look at a loop says of it.
-    fn new(name: u64, outlook: Outlook, turns: usize) -> Memo {
+    /// What a look at a loop of so many turns says of it.
+    fn new(name: u64, body: &[Action], outlook: Outlook, turns: u64) -> Memo {
         let is_open = outlook == Outlook::Open && turns < LONG;
         Memo {
             name,
             least: match outlook {
-                Outlook::Clear => FEW,
+                Outlook::Clear => if body.len() == 1 { FEW } else { SOME },
                 Outlook::Carried | Outlook::Open => SOME,
                 Outlook::Hopeless => usize::MAX,
             },
@@ -112,7 +106,8 @@ impl Memo {
         }
     }
 
-    fn is_due(&mut self, turns: usize) -> bool {
+    /// Whether so many of its turns are to be run by a block.
+    pub fn is_due(&mut self, turns: usize) -> bool {
         if turns < self.least {
             false
         } else if self.pause == 0 {
@@ -123,7 +118,8 @@ impl Memo {
         }
     }
 
-    fn note(&mut self, done: bool) {
+    /// Whether a block came to something.
+    pub fn note(&mut self, done: bool) {
         if done {
             self.misses = 0;
         } else {
