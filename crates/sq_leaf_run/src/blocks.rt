@@ -5,7 +5,7 @@
 //! as nothing traps each turn comes to its put. Where it isn't known that a turn doesn't trap, or that it doesn't read
 //! what an earlier one writes, no byte is changed, and the turns may still be known as deeds.
 
-ghost use Rattle.std.specs.Prelude.{◌≡◌, ◌+◌, ◌<◌, ◌≤◌, ◌+ℤ◌, ◌<ℤ◌, ◌≤ℤ◌, [], ◌∷◌, ◌++◌, ℕ, ℤ, List, pos, length};
+ghost use Rattle.std.specs.Prelude.{◌≡◌, ◌+◌, ◌<◌, ◌≤◌, ◌+ℤ◌, ◌<ℤ◌, ◌≤ℤ◌, [], ◌∷◌, ◌++◌, ℕ, ℤ, List, pos, length, map};
 ghost use Rattle.std.specs.Prelude.{IfSome};
 ghost use Rattle.std.specs.Int.{int_gap};
 ghost use Rattle.std.specs.List.{All};
@@ -164,6 +164,57 @@ fn one_turn(
     let ended = assign(cell, op, code, frame, bytes);
     frame.leave();
     ended
+}
+
+/// Runs the assignment for each number from `from` up to but not including `end`, one turn after another.
+pub(crate) fn assign_turns(
+    body: &[Action],
+    cell: &Cell,
+    op: AssignOp,
+    code: &Code,
+    from: i64,
+    end: i64,
+    frame: &mut Frame<'_>,
+    bytes: &mut [u8],
+) -> Result<(), Trap>
+    requires inside { All (IsInside (length bytes.old)) frame.old.views }
+    requires room { length frame.old.counters < 64 }
+    requires one { (vs : List View) (ks : List ℤ) (b : List ℕ) → running.run_actions body.now vs ks b ≡ running.assigns
+        cell.now op code.now vs ks b }
+    ensures ran { running.ran bytes.new result ≡ running.loop_from (map running.run_action body.now) from end
+        frame.old.views frame.old.counters bytes.old }
+    ensures kept { frame.new ≡ frame.old }
+{
+    for i in from..end {
+        match assign_turn(body, cell, op, code, i, frame, bytes) {
+            Ok(()) => {}
+            Err(trap) => return Err(trap),
+        }
+    }
+    Ok(())
+}
+
+/// Runs the body, which is this assignment, with this value of the counter.
+#[inline(always)]
+fn assign_turn(
+    body: &[Action],
+    cell: &Cell,
+    op: AssignOp,
+    code: &Code,
+    i: i64,
+    frame: &mut Frame<'_>,
+    bytes: &mut [u8],
+) -> Result<(), Trap>
+    requires inside { All (IsInside (length bytes.old)) frame.old.views }
+    requires room { length frame.old.counters < 64 }
+    requires one { (vs : List View) (ks : List ℤ) (b : List ℕ) → running.run_actions body.now vs ks b ≡ running.assigns
+        cell.now op code.now vs ks b }
+    ensures ran { running.ran bytes.new result ≡ running.run_actions body.now frame.old.views
+        (frame.old.counters ++ i ∷ []) bytes.old }
+    ensures kept { frame.new ≡ frame.old }
+{
+    let _body = body;
+    one_turn(cell, op, code, i, frame, bytes)
 }
 
 /// Runs the turns from this value of the counter on, or changes nothing.

@@ -13,7 +13,7 @@ const LOOPS: usize = 4;
 pub(crate) const FEW: usize = 8;
 
 /// The same where an element may be carried, or where there are several statements.
-const SOME: usize = 12;
+pub(crate) const SOME: usize = 14;
 
 /// From so many turns on a block that comes to nothing costs little beside them.
 const LONG: u64 = 192;

@@ -25,6 +25,8 @@ struct Reads<'a> {
     first: Option<&'a Cell>,
     /// There are others, or more operators stand behind this one than a block does.
     others: bool,
+    /// One of them doesn't go up by the same step from turn to turn, so that no block is clear of it.
+    uneven: bool,
 }
 
 /// Looks at a body whose loop has the counter of this number.
@@ -95,9 +97,12 @@ fn outlook_of(code: &Code, body: &[Action], counter: usize) -> Outlook {
     let mut reads = Reads {
         first: None,
         others: false,
+        uneven: false,
     };
     find(code, 0, body, counter, &mut reads);
-    if reads.others {
+    if reads.uneven {
+        Outlook::Hopeless
+    } else if reads.others {
         Outlook::Open
     } else if reads.first.is_some() {
         Outlook::Carried
@@ -173,6 +178,9 @@ fn find_cell<'a>(
         find(code, LINKS + 1, body, counter, reads);
     }
     if may_be_written(cell, body, counter) {
+        if !rises(cell, counter) {
+            reads.uneven = true;
+        }
         note(cell, is_side, behind, reads);
     }
 }

@@ -7,13 +7,11 @@ ghost use Rattle.sq_leaf.specs.Running as running;
 ghost use Rattle.sq_leaf_run.specs.Blocks.{block_or_nothing};
 
 use crate::frame::Frame;
+use crate::history::SOME;
 use crate::perform::perform;
 use crate::plan::{DEEDS, plan};
 use arrayvec::ArrayVec;
 use sq_leaf::Action;
-
-/// The least number of turns that are worth a plan.
-const LEAST: usize = 12;
 
 /// Runs the turns from this value of the counter on, or changes nothing.
 pub(crate) fn try_deeds(
@@ -30,7 +28,7 @@ pub(crate) fn try_deeds(
     ensures { running.Goes bytes.new ≡ block_or_nothing result turns from (running.run_actions body.now)
         frame.now.views frame.now.counters bytes.old }
 {
-    LEAST <= turns && run_deeds(body, from, turns, frame, bytes, columns)
+    SOME <= turns && run_deeds(body, from, turns, frame, bytes, columns)
 }
 
 // The deeds aren't to lie in the frames of callers that recurse.
