@@ -15,6 +15,9 @@ pub(crate) const FEW: usize = 8;
 /// The same where an element may be carried, or where there are several statements.
 pub(crate) const SOME: usize = 14;
 
+/// So many more are worth a block for each statement after the first.
+const MORE: usize = 3;
+
 /// From so many turns on a block that comes to nothing costs little beside them.
 const LONG: u64 = 192;
 
@@ -96,11 +99,7 @@ impl Memo {
         let is_open = outlook == Outlook::Open && turns < LONG;
         Memo {
             name,
-            least: match outlook {
-                Outlook::Clear => if body.len() == 1 { FEW } else { SOME },
-                Outlook::Carried | Outlook::Open => SOME,
-                Outlook::Hopeless => usize::MAX,
-            },
+            least: least_of(body, outlook),
             pause: if is_open { 1 << MOST } else { 0 },
             misses: if is_open { MOST } else { 0 },
         }
@@ -126,6 +125,17 @@ impl Memo {
             self.misses = MOST.min(self.misses.saturating_add(1));
             self.pause = 1 << self.misses;
         }
+    }
+}
+
+/// The least number of turns that are worth a block.
+fn least_of(body: &[Action], outlook: Outlook) -> usize {
+    let others = body.len().saturating_sub(1);
+    let some = SOME.saturating_add(MORE.saturating_mul(others));
+    match outlook {
+        Outlook::Clear => if others == 0 { FEW } else { some },
+        Outlook::Carried | Outlook::Open => some,
+        Outlook::Hopeless => usize::MAX,
     }
 }
 
