@@ -1,6 +1,6 @@
 -- A block whose elements and values are known is the loop over its turns.
-use Rattle.std.proofs.Common.{◌≡◌, ℕ, zero, suc, ◌+◌, ◌<◌, ◌≤◌, List, [], ◌∷◌, ◌++◌, length, Result, Ok, ℤ, pos, negsuc, ◌-◌, ◌+ℤ◌, ◌<ℤ◌, ◌≤ℤ◌, subst, w64, to_z, of_z, FitsSigned, refl, sym, ◌∙◌, ap, arith}
-use Rattle.std.proofs.lemmas.Int.{ints, to_z-of_z, to_z_pos}
+use Rattle.std.proofs.Common.{◌≡◌, ℕ, zero, suc, ◌+◌, ◌<◌, ◌≤◌, List, [], ◌∷◌, ◌++◌, length, Result, Ok, ℤ, pos, negsuc, ◌+ℤ◌, ◌<ℤ◌, ◌≤ℤ◌, subst, refl, sym, ◌∙◌, ap, arith}
+use Rattle.std.proofs.lemmas.Int.{ints}
 use Rattle.std.specs.Int.{int_gap}
 use Rattle.sq_num.specs.declared.Elem.{Elem}
 use Rattle.sq_num.specs.Elements.{width}
@@ -140,49 +140,3 @@ fewer i j end n h some is =
     let split : int_gap i end ≡ n + int_gap (i +ℤ pos n) end = gap_split i end n h in
     let same : int_gap j end ≡ int_gap (i +ℤ pos n) end = ap (λ (k : ℤ). int_gap k end) is in
     omega (arith, split, same, some)
-
--- ---- turns one after another
-
-pub next_one : (a : ActionRun) (i k : ℤ) (n j : ℕ) (s now : Sight) (b c : List ℕ) (whole : Ran) → j < n → now ≡ s → Goes c ≡ a now.views (now.counters ++ k ∷ []) b
-    → repeats (n - j) (i +ℤ pos j) (λ m. a s.views (s.counters ++ m ∷ [])) b ≡ whole → k ≡ i +ℤ pos j
-    → repeats (n - (j + 1)) (i +ℤ pos (j + 1)) (λ m. a s.views (s.counters ++ m ∷ [])) c ≡ whole
-next_one a i k n j s now b c whole below same e w is =
-    let more : n - j ≡ suc (n - (j + 1)) = omega arith in
-    let next : i +ℤ pos (j + 1) ≡ i +ℤ pos j +ℤ pos 1 = omega (arith, ints) in
-    ap (λ (m : ℤ). repeats (n - (j + 1)) m (λ l. a s.views (s.counters ++ l ∷ [])) c) next
-    ∙ (ap (λ (r : Ran). onward r (repeats (n - (j + 1)) (i +ℤ pos j +ℤ pos 1) (λ l. a s.views (s.counters ++ l ∷ []))))
-    (e ∙ (ap (λ (l : Sight). a l.views (l.counters ++ k ∷ []) b) same ∙ ap (λ (m : ℤ). a s.views (s.counters ++ m ∷ []) b) is))
-    ∙ (sym (ap (λ (m : ℕ). repeats m (i +ℤ pos j) (λ l. a s.views (s.counters ++ l ∷ [])) b) more) ∙ w))
-
-pub last_one : (a : ActionRun) (i k : ℤ) (n j : ℕ) (s now : Sight) (b c : List ℕ) (t : Trap) (whole : Ran) → j < n → now ≡ s → Stops c t ≡ a now.views (now.counters ++ k ∷ []) b
-    → repeats (n - j) (i +ℤ pos j) (λ m. a s.views (s.counters ++ m ∷ [])) b ≡ whole → k ≡ i +ℤ pos j → Stops c t ≡ whole
-last_one a i k n j s now b c t whole below same e w is =
-    let more : n - j ≡ suc (n - (j + 1)) = omega arith in
-    ap (λ (r : Ran). onward r (repeats (n - (j + 1)) (i +ℤ pos j +ℤ pos 1) (λ l. a s.views (s.counters ++ l ∷ []))))
-    (e ∙ (ap (λ (l : Sight). a l.views (l.counters ++ k ∷ []) b) same ∙ ap (λ (m : ℤ). a s.views (s.counters ++ m ∷ []) b) is))
-    ∙ (sym (ap (λ (m : ℕ). repeats m (i +ℤ pos j) (λ l. a s.views (s.counters ++ l ∷ [])) b) more) ∙ w)
-
-negative_fits : (a : ℕ) → a < 9223372036854775808 → FitsSigned w64 (negsuc a)
-negative_fits a low = record { sfits = low }
-
-natural_fits : (a : ℕ) → a < 9223372036854775808 → FitsSigned w64 (pos a)
-natural_fits a low = record { sfits = low }
-
-below_fits : (a j : ℕ) → a < 9223372036854775808 → j ≤ 9223372036854775807 + a → FitsSigned w64 (negsuc a +ℤ pos j)
-below_fits a zero low high = let e : negsuc a ≡ negsuc a +ℤ pos 0 = omega (arith, ints) in subst (FitsSigned w64) e (negative_fits a low)
-below_fits zero (suc j) low high = let e : pos j ≡ negsuc 0 +ℤ pos (suc j) = omega (arith, ints) in subst (FitsSigned w64) e (natural_fits j (omega (arith, high)))
-below_fits (suc a) (suc j) low high =
-    let e : negsuc a +ℤ pos j ≡ negsuc (suc a) +ℤ pos (suc j) = omega (arith, ints) in subst (FitsSigned w64) e (below_fits a j (omega (arith, low)) (omega (arith, high)))
-
-sum_fits : (i : ℤ) (j n : ℕ) → FitsSigned w64 i → j < n → (i +ℤ pos n) ≤ℤ pos 9223372036854775807 → FitsSigned w64 (i +ℤ pos j)
-sum_fits (pos a) j n fits below last = natural_fits (a + j) (omega (arith, ints, below, last))
-sum_fits (negsuc a) j n fits below last = below_fits a j fits.sfits (omega (arith, ints, below, last))
-
--- the code's counter of turn j
-pub counter_is : (i : ℤ) (j n : ℕ) → FitsSigned w64 i → j < n → n ≤ 256 → (i +ℤ pos n) ≤ℤ pos 9223372036854775807
-    → to_z w64 (of_z w64 (to_z w64 (of_z w64 i) +ℤ to_z w64 j)) ≡ to_z w64 (of_z w64 i) +ℤ pos j
-counter_is i j n fits below few last =
-    let here : to_z w64 (of_z w64 i) ≡ i = to_z-of_z w64 i fits in
-    let turn : to_z w64 j ≡ pos j = to_z_pos w64 j (omega (arith, below, few)) in
-    let in_range : FitsSigned w64 (i +ℤ pos j) = sum_fits i j n fits below last in
-    ap (λ (z : ℤ). to_z w64 (of_z w64 z)) (ap (λ (z : ℤ). z +ℤ to_z w64 j) here ∙ ap (λ (z : ℤ). i +ℤ z) turn) ∙ (to_z-of_z w64 (i +ℤ pos j) in_range ∙ ap (λ (z : ℤ). z +ℤ pos j) (sym here))

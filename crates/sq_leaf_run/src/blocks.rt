@@ -5,7 +5,7 @@
 //! as nothing traps each turn comes to its put. Where it isn't known that a turn doesn't trap, or that it doesn't read
 //! what an earlier one writes, no byte is changed, and the turns may still be known as deeds.
 
-ghost use Rattle.std.specs.Prelude.{◌≡◌, ◌+◌, ◌<◌, ◌≤◌, ◌+ℤ◌, ◌<ℤ◌, ◌≤ℤ◌, [], ◌∷◌, ◌++◌, ℕ, ℤ, List, pos, length, map};
+ghost use Rattle.std.specs.Prelude.{◌≡◌, ◌+◌, ◌<◌, ◌≤◌, ◌+ℤ◌, ◌<ℤ◌, ◌≤ℤ◌, [], ◌∷◌, ◌++◌, ℕ, ℤ, List, pos, length};
 ghost use Rattle.std.specs.Prelude.{IfSome};
 ghost use Rattle.std.specs.Int.{int_gap};
 ghost use Rattle.std.specs.List.{All};
@@ -103,40 +103,61 @@ fn some_turns(
     ensures kept { frame.new ≡ frame.old }
 {
     if count == 0 || !memo.is_due(count) {
-        return one_by_one(cell, op, code, i, count, frame, bytes);
+        return assign_turns(cell, op, code, i, i + count as i64, frame, bytes);
     }
-    if run_block(cell, op, code, i, count, frame, bytes, columns) {
+    if clear_block(cell, op, code, i, count, memo, frame, bytes, columns) {
         memo.note(true);
         Ok(())
     } else if try_deeds(body, i, count, frame, bytes, columns) {
-        memo.note(true);
+        memo.note_carried();
         Ok(())
     } else {
         memo.note(false);
-        one_by_one(cell, op, code, i, count, frame, bytes)
+        assign_turns(cell, op, code, i, i + count as i64, frame, bytes)
     }
 }
 
-/// Runs so many turns one after another.
-fn one_by_one(
+/// A block whose turns read nothing that an earlier one writes. It isn't tried where the last one carried an element.
+#[inline(always)]
+fn clear_block(
     cell: &Cell,
     op: AssignOp,
     code: &Code,
     from: i64,
-    count: usize,
+    turns: usize,
+    memo: &Memo,
+    frame: &Frame<'_>,
+    bytes: &mut [u8],
+    columns: &mut [i64],
+) -> bool
+    requires few { turns ≤ 256 }
+    requires some { 0 < turns }
+    requires last { (from +ℤ pos turns) ≤ℤ pos 9223372036854775807 }
+    requires inside { All (IsInside (length bytes.old)) frame.now.views }
+    ensures { running.Goes bytes.new ≡ block_or_nothing result turns from (running.assigns cell.now op code.now)
+        frame.now.views frame.now.counters bytes.old }
+{
+    !memo.is_carried() && run_block(cell, op, code, from, turns, frame, bytes, columns)
+}
+
+/// Runs the assignment for each number from `from` up to but not including `end`, one turn after another.
+pub(crate) fn assign_turns(
+    cell: &Cell,
+    op: AssignOp,
+    code: &Code,
+    from: i64,
+    end: i64,
     frame: &mut Frame<'_>,
     bytes: &mut [u8],
 ) -> Result<(), Trap>
     requires inside { All (IsInside (length bytes.old)) frame.old.views }
     requires room { length frame.old.counters < 64 }
-    requires few { count ≤ 256 }
-    requires last { (from +ℤ pos count) ≤ℤ pos 9223372036854775807 }
-    ensures ran { running.ran bytes.new result ≡ running.repeats count from (λ k. running.assigns cell.now op code.now
-        frame.old.views (frame.old.counters ++ k ∷ [])) bytes.old }
+    ensures ran { running.ran bytes.new result ≡ running.repeats (int_gap from end) from (λ k. running.assigns cell.now
+        op code.now frame.old.views (frame.old.counters ++ k ∷ [])) bytes.old }
     ensures kept { frame.new ≡ frame.old }
 {
-    for j in 0..count {
-        match one_turn(cell, op, code, from + j as i64, frame, bytes) {
+    for i in from..end {
+        match one_turn(cell, op, code, i, frame, bytes) {
             Ok(()) => {}
             Err(trap) => return Err(trap),
         }
@@ -164,57 +185,6 @@ fn one_turn(
     let ended = assign(cell, op, code, frame, bytes);
     frame.leave();
     ended
-}
-
-/// Runs the assignment for each number from `from` up to but not including `end`, one turn after another.
-pub(crate) fn assign_turns(
-    body: &[Action],
-    cell: &Cell,
-    op: AssignOp,
-    code: &Code,
-    from: i64,
-    end: i64,
-    frame: &mut Frame<'_>,
-    bytes: &mut [u8],
-) -> Result<(), Trap>
-    requires inside { All (IsInside (length bytes.old)) frame.old.views }
-    requires room { length frame.old.counters < 64 }
-    requires one { (vs : List View) (ks : List ℤ) (b : List ℕ) → running.run_actions body.now vs ks b ≡ running.assigns
-        cell.now op code.now vs ks b }
-    ensures ran { running.ran bytes.new result ≡ running.loop_from (map running.run_action body.now) from end
-        frame.old.views frame.old.counters bytes.old }
-    ensures kept { frame.new ≡ frame.old }
-{
-    for i in from..end {
-        match assign_turn(body, cell, op, code, i, frame, bytes) {
-            Ok(()) => {}
-            Err(trap) => return Err(trap),
-        }
-    }
-    Ok(())
-}
-
-/// Runs the body, which is this assignment, with this value of the counter.
-#[inline(always)]
-fn assign_turn(
-    body: &[Action],
-    cell: &Cell,
-    op: AssignOp,
-    code: &Code,
-    i: i64,
-    frame: &mut Frame<'_>,
-    bytes: &mut [u8],
-) -> Result<(), Trap>
-    requires inside { All (IsInside (length bytes.old)) frame.old.views }
-    requires room { length frame.old.counters < 64 }
-    requires one { (vs : List View) (ks : List ℤ) (b : List ℕ) → running.run_actions body.now vs ks b ≡ running.assigns
-        cell.now op code.now vs ks b }
-    ensures ran { running.ran bytes.new result ≡ running.run_actions body.now frame.old.views
-        (frame.old.counters ++ i ∷ []) bytes.old }
-    ensures kept { frame.new ≡ frame.old }
-{
-    let _body = body;
-    one_turn(cell, op, code, i, frame, bytes)
 }
 
 /// Runs the turns from this value of the counter on, or changes nothing.

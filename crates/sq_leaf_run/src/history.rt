@@ -25,7 +25,7 @@ const LONG: u64 = 192;
 const WORTH: usize = 64;
 
 /// After blocks that came to nothing up to two to the power of this are left out.
-const MOST: u32 = 4;
+const MOST: u8 = 4;
 
 /// What is known of a loop.
 #[derive(Clone, Copy, Default)]
@@ -35,9 +35,11 @@ pub(crate) struct Memo {
     /// The least number of turns that are worth a block.
     least: usize,
     /// So many blocks are still left out.
-    pause: u32,
+    pause: u16,
     /// How many blocks in a row came to nothing.
-    misses: u32,
+    misses: u8,
+    /// Its last block carried an element from turn to turn.
+    is_carried: bool,
 }
 
 /// What is known of all loops of a run.
@@ -102,6 +104,7 @@ impl Memo {
             least: least_of(body, outlook),
             pause: if is_open { 1 << MOST } else { 0 },
             misses: if is_open { MOST } else { 0 },
+            is_carried: false,
         }
     }
 
@@ -117,6 +120,17 @@ impl Memo {
         }
     }
 
+    /// Whether its last block carried an element from turn to turn.
+    pub fn is_carried(&self) -> bool {
+        self.is_carried
+    }
+
+    /// A block carried an element.
+    pub fn note_carried(&mut self) {
+        self.misses = 0;
+        self.is_carried = true;
+    }
+
     /// Whether a block came to something.
     pub fn note(&mut self, done: bool) {
         if done {
@@ -124,6 +138,7 @@ impl Memo {
         } else {
             self.misses = MOST.min(self.misses.saturating_add(1));
             self.pause = 1 << self.misses;
+            self.is_carried = false;
         }
     }
 }

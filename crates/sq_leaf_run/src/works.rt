@@ -58,10 +58,15 @@ fn run_deeds(
 }
 
 /// Whether the statements are few, and each an assignment or a choice of assignments.
+#[inline(always)]
 pub(crate) fn may_plan(list: &[Action]) -> bool {
-    if DEEDS < list.len() {
-        return false;
+    match list {
+        [Action::Assign(_, _, _)] => true,
+        list => list.len() <= DEEDS && are_simple(list),
     }
+}
+
+fn are_simple(list: &[Action]) -> bool {
     for action in list {
         if !is_simple(action) {
             return false;

@@ -1,9 +1,11 @@
-use Rattle.std.proofs.Common.{◌≡◌, map}
+use Rattle.std.proofs.Common.{◌≡◌, [], ◌∷◌, ◌++◌}
+use Rattle.std.specs.Int.{int_gap}
 use Rattle.sq_leaf.specs.Running as running
 use Rattle.sq_leaf_run.proofs.blocks.assign_turns.Given as goal
 
 abbrev pub invariant-loop-i : goal.invariant-loop-i
 invariant-loop-i l = record {
-  ran : running.loop_from (map running.run_action l.body) l.i l.end l.fn.frame.views l.fn.frame.counters l.bytes ≡ running.loop_from (map running.run_action l.body) l.fn.from l.end l.fn.frame.views l.fn.frame.counters l.fn.bytes;
+  ran : running.repeats (int_gap l.i l.end) l.i (λ k. running.assigns l.cell l.op l.code l.fn.frame.views (l.fn.frame.counters ++ k ∷ [])) l.bytes
+      ≡ running.repeats (int_gap l.fn.from l.end) l.fn.from (λ k. running.assigns l.cell l.op l.code l.fn.frame.views (l.fn.frame.counters ++ k ∷ [])) l.fn.bytes;
   kept : l.frame ≡ l.fn.frame;
 }
