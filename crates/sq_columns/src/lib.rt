@@ -9,5 +9,5 @@ mod operators;
 
 pub use indices::{along_line, is_inside_line};
 pub use line::{Line, TURNS};
-pub use loads::load_line;
+pub use loads::{load_line, times_elements};
 pub use operators::{binary_line, least_line, most_line, unary_line};

@@ -7,6 +7,8 @@ use Rattle.sq_columns.specs.declared.line.Line.{Line}
 use Rattle.sq_columns.specs.Lines.{line_at, first_byte, IsSpot}
 use Rattle.sq_leaf.specs.declared.trap.Trap.{Trap}
 use Rattle.sq_leaf.specs.declared.code.Code.{Code}
+use Rattle.sq_ast.specs.declared.expr.BinOp.TheVariants.{Mul}
+use Rattle.sq_leaf.specs.Numbers.{binary}
 use Rattle.sq_leaf.specs.Outcome.{and_then}
 use Rattle.sq_leaf.specs.Places as places
 use Rattle.sq_leaf.specs.Running.{CodeRun, StepRun, CellRun, ActionRun, Ran, repeats, run_code, load_from}
@@ -65,6 +67,10 @@ LieIn t low high e l column = (j : ℕ) → j < t.block.now.turns → LiesIn low
 -- the number of an element
 abbrev pub load_of : CellRun → CodeRun
 load_of f vs ks c = load_from (f vs ks c) c
+
+-- the product of a number and that of an element
+abbrev pub times_of : CellRun → StepRun
+times_of f vs ks c x = and_then (load_of f vs ks c) (λ y. Ok (binary Mul x y))
 
 -- ---- indices
 

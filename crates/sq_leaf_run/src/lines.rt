@@ -10,13 +10,15 @@ ghost use Rattle.sq_leaf.specs.Running as running;
 ghost use Rattle.sq_columns.specs.Lines.{line_at};
 ghost use Rattle.sq_leaf_run.specs.declared.setting.Setting.{Setting};
 ghost use Rattle.sq_leaf_run.specs.Settings.{counters_at, value_alone, extreme, extreme_of, load_of, Gives, Follows};
-ghost use Rattle.sq_leaf_run.specs.Settings.{Places, LieIn, Offset, AreSpots, offset_of, offset_along};
+ghost use Rattle.sq_leaf_run.specs.Settings.{times_of, Places, LieIn, Offset, AreSpots, offset_of, offset_along};
 ghost use Rattle.sq_leaf_run.specs.Blocks.{end_of};
 
 use crate::block::{end_of, is_clear};
 use crate::setting::Setting;
-use sq_ast::UnOp;
-use sq_columns::{Line, along_line, binary_line, least_line, load_line, most_line, unary_line};
+use sq_ast::{BinOp, UnOp};
+use sq_columns::{
+    Line, along_line, binary_line, least_line, load_line, most_line, times_elements, unary_line,
+};
 use sq_leaf::{Cell, Code, Step};
 use sq_num::Elem;
 use sq_rect::View;
@@ -167,9 +169,94 @@ fn next_in(
     requires rest { setting.now.block.now.turns ≤ length rest.old }
     ensures { IfSome result (λ l. Follows setting.now value_alone (running.run_step step.now) l front.new x front.old) }
 {
+    match step.op {
+        BinOp::Mul => match &step.right {
+            Code::Element(cell) => times_element(x, cell, setting, front, rest),
+            _ => next_line(x, step, setting, front, rest),
+        },
+        _ => next_line(x, step, setting, front, rest),
+    }
+}
+
+#[cycle(column)]
+fn next_line(
+    x: Line,
+    step: &Step,
+    setting: &Setting<'_>,
+    front: &mut [i64],
+    rest: &mut [i64],
+) -> Option<Line>
+    requires front { setting.now.block.now.turns ≤ length front.old }
+    requires rest { setting.now.block.now.turns ≤ length rest.old }
+    ensures { IfSome result (λ l. Follows setting.now value_alone (running.run_step step.now) l front.new x front.old) }
+{
     match column(&step.right, setting, rest) {
         Some(y) => binary_line(step.op, x, front, y, rest, setting.block.turns),
         None => None,
+    }
+}
+
+/// The products with an element.
+#[cycle(column)]
+fn times_element(
+    x: Line,
+    cell: &Cell,
+    setting: &Setting<'_>,
+    front: &mut [i64],
+    rest: &mut [i64],
+) -> Option<Line>
+    requires front { setting.now.block.now.turns ≤ length front.old }
+    requires rest { setting.now.block.now.turns ≤ length rest.old }
+    ensures { IfSome result (λ l. Follows setting.now value_alone (times_of (running.run_cell cell.now)) l front.new x
+        front.old) }
+{
+    match at(setting.frame.views(), cell.array) {
+        Some(view) => match spots(cell, view, setting, rest) {
+            Some(spots) => times_loaded(x, spots, view, setting, front, rest),
+            None => None,
+        },
+        None => None,
+    }
+}
+
+/// The products with these elements of a view. None: one may be written by an earlier turn of the block.
+fn times_loaded(
+    x: Line,
+    spots: Line,
+    view: &View,
+    setting: &Setting<'_>,
+    front: &mut [i64],
+    rest: &mut [i64],
+) -> Option<Line>
+    requires front { setting.now.block.now.turns ≤ length front.old }
+    requires rest { setting.now.block.now.turns ≤ length rest.old }
+    requires one { IsInside (length setting.now.bytes.now) view.now }
+    requires lies { LieIn setting.now view.now.at (end_of view.now) view.now.elem spots rest.old }
+    ensures { (f : running.CellRun) → Places setting.now f view.now.elem spots rest.old → IfSome result (λ l. Follows
+        setting.now value_alone (times_of f) l front.new x front.old) }
+{
+    let turns = setting.block.turns;
+    let high = end_of(view, setting.bytes.len());
+    if is_clear(
+        view.elem,
+        spots,
+        rest,
+        view.at as usize,
+        high,
+        setting.block,
+    ) {
+        match spots {
+            Line::Same(_) => {
+                let y = load_line(view.elem, spots, rest, setting.bytes, turns);
+                binary_line(BinOp::Mul, x, front, y, rest, turns)
+            }
+            _ => {
+                times_elements(x, front, view.elem, spots, rest, setting.bytes, turns);
+                Some(Line::Column)
+            }
+        }
+    } else {
+        None
     }
 }
 
@@ -321,6 +408,19 @@ fn places_three(
     along(spots, x, *n, *s, elem, setting, columns)
 }
 
+/// The line of an index, without a call where it is a counter or a number.
+#[cycle(column)]
+#[inline(always)]
+fn index(code: &Code, setting: &Setting<'_>, columns: &mut [i64]) -> Option<Line>
+    ensures { IfSome result (λ l. Gives setting.now (running.run_code code.now) l columns.new) }
+{
+    match code {
+        Code::Constant(n) => Some(Line::Same(*n)),
+        Code::Counter(k) => Some(counter(*k, setting)),
+        code => column(code, setting, columns),
+    }
+}
+
 /// The first byte where no dimension is left.
 fn first(at: u32) -> Line
     ensures { (t : Setting) (w : ℕ) (column : List ℤ) → AreSpots t (offset_of [] [] []) at w 0 result column }
@@ -368,7 +468,7 @@ fn along_in(
         setting.now off at (width elem) most spots front.old → IfSome result (λ l. AreSpots setting.now (offset_along
         (running.run_code code.now) extent stride off) at (width elem) ((extent - 1) * stride + most) l front.new) }
 {
-    match column(code, setting, rest) {
+    match index(code, setting, rest) {
         Some(index) => along_line(
             spots,
             front,

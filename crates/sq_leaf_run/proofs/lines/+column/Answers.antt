@@ -18,11 +18,11 @@ next-returns t c =
 pub along_in-returns-in-Some : goal.along_in-returns-in-Some
 along_in-returns-in-Some t c = λ at most off near h.
     some_after c.along_line.result _ _
-    (λ m g. spots_along c.args.setting.now off at _ most c.args.spots c.args.front.now _ c.in-Some.index c.column.new.columns c.args.extent c.args.stride m c.along_line.new.column h c.in-Some.ensures g)
+    (λ m g. spots_along c.args.setting.now off at _ most c.args.spots c.args.front.now _ c.in-Some.index c.index.new.columns c.args.extent c.args.stride m c.along_line.new.column h c.in-Some.ensures g)
     (c.along_line.ensures.each at most (λ j. at_turn off c.args.setting.now j c.args.setting.now.bytes.now) near h.spot)
 
-pub next_in-returns-in-Some : goal.next_in-returns-in-Some
-next_in-returns-in-Some t c =
+pub next_line-returns-in-Some : goal.next_line-returns-in-Some
+next_line-returns-in-Some t c =
     next_follows c.args.setting.now c.args.step.now c.args.x c.in-Some.y c.binary_line.result c.args.front.now c.column.new.columns c.binary_line.new.xs
     c.in-Some.ensures c.binary_line.ensures.each c.binary_line.ensures.divides
 
