@@ -47,14 +47,19 @@ pub fn move_from(
       own = terms.own_view shape.now home outside;
     }) }
 {
-    let own = own_view(alloc, shape, home, &outside)?;
-    Ok(Move {
-        mode,
-        gathers,
-        home,
-        outside,
-        own,
-    })
+    match own_view(alloc, shape, home, &outside) {
+        Err(end) => {
+            drop(outside);
+            Err(end)
+        }
+        Ok(own) => Ok(Move {
+            mode,
+            gathers,
+            home,
+            outside,
+            own,
+        }),
+    }
 }
 
 /// The shape of a parameter.

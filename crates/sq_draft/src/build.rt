@@ -18,7 +18,7 @@ use crate::parts::{
     call_scope, case_term, child_scope, leaf_term, locals_scope, map_term, push_fills,
 };
 use crate::pipes::{
-    moves_in, pipe_in, piped_term, places_of, push_come, push_leave, push_turns, shell_of,
+    moves_in, pipe_in, piped_term, places_in, push_come, push_leave, push_turns, shell_of,
 };
 use crate::transfers::{Transfer, push_transfers};
 use sq_contexts::{LocalArrays, at_child_already, count_num, in_callee, in_map, start_table};
@@ -192,8 +192,9 @@ fn held_loop(
         spread: None,
         inside: true,
     };
-    let made = run_term(alloc, left, forms, held, table, &inner)?;
-    Ok(made)
+    let made = run_term(alloc, left, forms, held, table, &inner);
+    drop(inner);
+    made
 }
 
 // A map whose transfers overlap or don't.
@@ -278,8 +279,7 @@ fn piped_call(
         (building.callee_in forms.now.bodies.now forms.now.homes.now forms.now.depth) (piping.seen pipe.now) spread
         (terms.count_num counts.now c.now) c.now) }
 {
-    let count = count_num(alloc, counts, c)?;
-    let places = places_of(alloc, spread, &count, pipe.starts, c)?;
+    let places = places_in(alloc, spread, counts, pipe.starts, c)?;
     let made = piped_at(alloc, left, forms, pipe, spread, &places, c)?;
     Ok(made)
 }
@@ -303,8 +303,7 @@ fn piped_at(
         places.now c.now) }
 {
     let shell = shell_of(alloc, pipe, &places.outer.lane, c)?;
-    let count = places.outer.lane.many.copy(alloc)?;
-    let parts = lane_parts(alloc, left, forms, pipe, places, count)?;
+    let parts = lane_parts(alloc, left, forms, pipe, places)?;
     let made = piped_term(alloc, spread, shell, parts)?;
     Ok(made)
 }
@@ -317,9 +316,7 @@ fn lane_parts(
     forms: &Forms<'_>,
     pipe: &PipeCall<'_>,
     places: &Places,
-    count: Num,
 ) -> Result<Terms, AllocError>
-    requires count { count ≡ places.now.outer.lane.many }
     requires outer { piping.HasTables pipe.now places.now.outer.context }
     requires inner { piping.HasTables pipe.now places.now.inner.context }
     requires work { piping.HasTables pipe.now places.now.work }
@@ -330,7 +327,7 @@ fn lane_parts(
     let mut parts = Items::new(alloc);
     push_come(alloc, &mut parts, pipe, &places.outer)?;
     let made = works(alloc, left, forms, pipe, &places.work)?;
-    push_turns(alloc, &mut parts, pipe, &places.inner, count, made)?;
+    push_turns(alloc, &mut parts, pipe, places, made)?;
     push_leave(alloc, &mut parts, pipe, &places.outer)?;
     Ok(parts)
 }
@@ -435,7 +432,9 @@ fn turn(
         round.op round.inside (terms.in_map round.spread count.now table.now.starts.now c.now)) }
 {
     let inner = in_map(alloc, round.spread, count, table.starts, c)?;
-    statements(alloc, left, forms, round, table.body, &inner)
+    let made = statements(alloc, left, forms, round, table.body, &inner);
+    drop(inner);
+    made
 }
 
 // A call, which has an arm for each form that it reaches.
@@ -609,8 +608,9 @@ fn called(
         (terms.in_callee c.now ms.now (tables.placed_locals locals.now.shapes.now locals.now.buffers.now)))) }
 {
     let inner = in_callee(alloc, c, ms, locals)?;
-    let made = callee(alloc, left, forms, form, locals, &inner)?;
-    Ok(made)
+    let made = callee(alloc, left, forms, form, locals, &inner);
+    drop(inner);
+    made
 }
 
 #[cycle(build)]

@@ -64,6 +64,23 @@ fn entry_call(
     Ok(made)
 }
 
+// In a context that is let go behind it.
+fn entry_in(
+    alloc: Global,
+    bodies: &[FormBody],
+    homes: &[Homes],
+    instances: &[CallInstance],
+    row: &CallInstance,
+    c: Context,
+) -> Result<Term, AllocError>
+    ensures { IfOk result (λ t. t ≡ terms.arm_term (terms.body_in bodies.now) (terms.homes_in homes.now)
+        (building.callee_in bodies.now homes.now (length bodies.now)) [] None false c instances.now row.now) }
+{
+    let made = entry_call(alloc, bodies, homes, instances, row, &c);
+    drop(c);
+    made
+}
+
 /// The term of the entry, called with these arguments, where its buffers are in scope: forms do what the first list
 /// says, and their arrays have the homes of the second one.
 pub fn draft_term(
@@ -81,12 +98,12 @@ pub fn draft_term(
     let Some(body) = at(bodies, 0) else {
         return Err(AllocError);
     };
-    let c = entry_context(alloc, body, own)?;
     let rows = entry_rows(alloc, args)?;
     let list = rows.as_slice();
     let Some(row) = at(list, 0) else {
         return Err(AllocError);
     };
-    let made = entry_call(alloc, bodies, homes, list, row, &c)?;
+    let c = entry_context(alloc, body, own)?;
+    let made = entry_in(alloc, bodies, homes, list, row, c)?;
     Ok(made)
 }

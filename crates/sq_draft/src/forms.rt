@@ -68,26 +68,67 @@ pub enum Set {
 }
 
 /// The iterations of a loop at one child, and where it stands.
-#[derive(Drop)]
 pub struct LanePlace {
     pub lane: Lane,
     pub context: Context,
 }
 
+// By hand, so that a call stands wherever one is let go, and not its dozens of numbers.
+impl Drop for LanePlace {
+    fn drop(self) {
+        let LanePlace { lane, context } = self;
+        drop(lane);
+        drop(context);
+    }
+}
+
 /// The same round the loop and in an iteration of it, and where the work of that iteration stands.
-#[derive(Drop)]
 pub struct Places {
     pub outer: LanePlace,
     pub inner: LanePlace,
     pub work: Context,
 }
 
+impl Drop for Places {
+    fn drop(self) {
+        let Places { outer, inner, work } = self;
+        drop(outer);
+        drop(inner);
+        drop(work);
+    }
+}
+
 /// What stands round the parts of such a loop: the child, the buffers of both sets, and how many iterations there are.
-#[derive(Drop)]
 pub struct Shell {
     pub child: Option<Num>,
     pub buffers: BufferIds,
     pub many: Num,
+}
+
+impl Drop for Shell {
+    fn drop(self) {
+        let Shell {
+            child,
+            buffers,
+            many,
+        } = self;
+        drop(child);
+        drop(buffers);
+        drop(many);
+    }
+}
+
+impl Shell {
+    pub fn parts(self) -> (Option<Num>, BufferIds, Num)
+        ensures { result ≡ (self.child, self.buffers, self.many) }
+    {
+        let Shell {
+            child,
+            buffers,
+            many,
+        } = self;
+        (child, buffers, many)
+    }
 }
 
 /// The shapes of a form's locals, which stand behind its parameters.

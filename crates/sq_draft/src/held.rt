@@ -114,8 +114,13 @@ fn leaving_buffers(
 fn first_num(alloc: Global, starts: &[usize], ordinal: Num) -> Result<Num, AllocError>
     ensures { IfOk result (λ n. n ≡ terms.first_num starts.now ordinal) }
 {
-    let table = start_table(alloc, starts)?;
-    Num::pick(alloc, table, ordinal)
+    match start_table(alloc, starts) {
+        Err(end) => {
+            drop(ordinal);
+            Err(end)
+        }
+        Ok(table) => Num::pick(alloc, table, ordinal),
+    }
 }
 
 // The number of the row of a loop's first iteration.
@@ -243,6 +248,7 @@ pub fn holding(
     let loops = loops_in(x)?;
     let ordinal = c.ordinal.copy(alloc)?;
     let number = first_in(alloc, x, ordinal)?;
-    let made = holding_row(alloc, forms, rows, loops, &number, c)?;
-    Ok(made)
+    let made = holding_row(alloc, forms, rows, loops, &number, c);
+    drop(number);
+    made
 }

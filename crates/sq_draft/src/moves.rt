@@ -3,6 +3,7 @@
 ghost use Rattle.std.specs.Prelude.{◌≡◌, ◌*◌, get_or, IfOk, pos};
 ghost use Rattle.sq_num.specs.Elements as elements;
 ghost use Rattle.sq_ir.specs.declared.num.Num.TheVariants as num;
+ghost use Rattle.sq_ir.specs.declared.term.Term.TheVariants as term;
 ghost use Rattle.sq_placed.specs.Trees as trees;
 ghost use Rattle.sq_term.specs.Terms as terms;
 
@@ -60,13 +61,32 @@ fn remainder(alloc: Global, by: u32) -> Result<Num, AllocError>
     Num::remainder(alloc, Num::Index(0), Num::Const(i64::from(by)))
 }
 
+fn plane_num(alloc: Global, s: u32, m: u32) -> Result<Num, AllocError>
+    ensures { IfOk result (λ r. r ≡ num.Mul (num.Div (num.Index 0) (num.Const (pos m))) (num.Const (pos s))) }
+{
+    let plane = quotient(alloc, m)?;
+    multiple(alloc, plane, s)
+}
+
+fn in_plane(alloc: Global, q: u32, m: u32) -> Result<Num, AllocError>
+    ensures { IfOk result (λ r. r ≡ num.Mul (num.Rem (num.Index 0) (num.Const (pos m))) (num.Const (pos q))) }
+{
+    let row = remainder(alloc, m)?;
+    multiple(alloc, row, q)
+}
+
 fn planes(alloc: Global, s: u32, q: u32, m: u32) -> Result<Num, AllocError>
     ensures { IfOk result (λ r. r ≡ num.Add (num.Mul (num.Div (num.Index 0) (num.Const (pos m))) (num.Const (pos s)))
         (num.Mul (num.Rem (num.Index 0) (num.Const (pos m))) (num.Const (pos q)))) }
 {
-    let plane = quotient(alloc, m)?;
-    let row = remainder(alloc, m)?;
-    Num::sum(alloc, multiple(alloc, plane, s)?, multiple(alloc, row, q)?)
+    let plane = plane_num(alloc, s, m)?;
+    match in_plane(alloc, q, m) {
+        Err(end) => {
+            drop(plane);
+            Err(end)
+        }
+        Ok(row) => Num::sum(alloc, plane, row),
+    }
 }
 
 fn row_num(alloc: Global, strides: &[u32], extents: &[u32]) -> Result<Num, AllocError>
@@ -79,28 +99,69 @@ fn row_num(alloc: Global, strides: &[u32], extents: &[u32]) -> Result<Num, Alloc
     }
 }
 
+fn far_num(alloc: Global, v: &LeafView) -> Result<Num, AllocError>
+    ensures { IfOk result (λ n. n ≡ num.Mul (num.Const (pos (elements.width v.now.elem)))
+        (terms.row_num v.now.strides v.now.extents)) }
+{
+    let row = row_num(alloc, v.strides.as_slice(), v.extents.as_slice())?;
+    Num::product(alloc, Num::Const(i64::from(width_of(v.elem))), row)
+}
+
+fn slot_at(alloc: Global, buffer: u32, first: Num, far: Num) -> Result<Slot, AllocError>
+    ensures { IfOk result (λ x. x ≡ record { buffer = buffer; at = num.Add first far }) }
+{
+    let at = Num::sum(alloc, first, far)?;
+    Ok(Slot { buffer, at })
+}
+
 fn row_slot(alloc: Global, v: &LeafView) -> Result<Slot, AllocError>
     ensures { IfOk result (λ x. x ≡ terms.row_slot v.now) }
 {
-    let first = v.slot.at.lifted(alloc, 1)?;
-    let row = row_num(alloc, v.strides.as_slice(), v.extents.as_slice())?;
-    let far = Num::product(alloc, Num::Const(i64::from(width_of(v.elem))), row)?;
-    let at = Num::sum(alloc, first, far)?;
-    Ok(Slot {
-        buffer: v.slot.buffer,
-        at,
-    })
+    let far = far_num(alloc, v)?;
+    match v.slot.at.lifted(alloc, 1) {
+        Err(end) => {
+            drop(far);
+            Err(end)
+        }
+        Ok(first) => slot_at(alloc, v.slot.buffer, first, far),
+    }
+}
+
+fn so_often(alloc: Global, count: i64, each: Action) -> Result<Term, AllocError>
+    ensures { IfOk result (λ x. x ≡ term.Loop (num.Const count) (term.Act each)) }
+{
+    match Box::new(alloc, Term::Act(each)) {
+        Err(end) => Err(end),
+        Ok(body) => Ok(Term::Loop {
+            count: Num::Const(count),
+            body,
+        }),
+    }
 }
 
 fn by_rows(alloc: Global, extents: &Dims, each: Action) -> Result<Term, AllocError>
     ensures { IfOk result (λ x. x ≡ terms.by_rows extents.now each) }
 {
-    let count = signed(extents.rows())?;
-    let body = Box::new(alloc, Term::Act(each))?;
-    Ok(Term::Loop {
-        count: Num::Const(count),
-        body,
-    })
+    match signed(extents.rows()) {
+        Err(end) => {
+            drop(each);
+            Err(end)
+        }
+        Ok(count) => so_often(alloc, count, each),
+    }
+}
+
+fn row_slots(alloc: Global, from: &LeafView, to: &LeafView) -> Result<(Slot, Slot), AllocError>
+    ensures { IfOk result (λ p. p ≡ (terms.row_slot from.now, terms.row_slot to.now)) }
+{
+    let first = row_slot(alloc, from)?;
+    match row_slot(alloc, to) {
+        Err(end) => {
+            drop(first);
+            Err(end)
+        }
+        Ok(second) => Ok((first, second)),
+    }
 }
 
 pub fn copy_term(
@@ -112,8 +173,7 @@ pub fn copy_term(
     ensures { IfOk result (λ x. x ≡ terms.copy_term shape.now from.now to.now) }
 {
     let bytes = product(width_of(shape.elem), shape.extents.last())?;
-    let from = row_slot(alloc, from)?;
-    let to = row_slot(alloc, to)?;
+    let (from, to) = row_slots(alloc, from, to)?;
     by_rows(alloc, &shape.extents, Action::CopyRow { from, to, bytes })
 }
 
@@ -140,8 +200,7 @@ fn add_term(
 ) -> Result<Term, AllocError>
     ensures { IfOk result (λ x. x ≡ terms.add_term op shape.now from.now to.now) }
 {
-    let from = row_slot(alloc, from)?;
-    let to = row_slot(alloc, to)?;
+    let (from, to) = row_slots(alloc, from, to)?;
     let acc = Action::AccRow {
         op,
         elem: shape.elem,

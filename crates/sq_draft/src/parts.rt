@@ -80,12 +80,17 @@ pub fn within(
 ) -> Result<Term, AllocError>
     ensures { IfOk result (λ x. x ≡ term.Within child buffers part) }
 {
-    let body = Box::new(alloc, part)?;
-    Ok(Term::Within {
-        child,
-        buffers,
-        body,
-    })
+    match Box::new(alloc, part) {
+        Err(end) => {
+            drop(child);
+            Err(end)
+        }
+        Ok(body) => Ok(Term::Within {
+            child,
+            buffers,
+            body,
+        }),
+    }
 }
 
 // Parts in sequence, with buffers in scope.
@@ -195,6 +200,15 @@ pub fn leaf_term(alloc: Global, code: u32, c: &Context) -> Result<Term, AllocErr
     Ok(Term::Act(Action::Leaf { code, views, path }))
 }
 
+fn loop_of(spread: Option<SpreadRule>, count: Num, body: Box<Term>) -> Term
+    ensures { result ≡ terms.map_term spread count body }
+{
+    match spread {
+        Some(rule) => Term::Spread { count, rule, body },
+        None => Term::Loop { count, body },
+    }
+}
+
 /// How a map goes through its iterations.
 pub fn map_term(
     alloc: Global,
@@ -204,9 +218,11 @@ pub fn map_term(
 ) -> Result<Term, AllocError>
     ensures { IfOk result (λ x. x ≡ terms.map_term spread count (term.Seq parts)) }
 {
-    let body = Box::new(alloc, Term::Seq(parts))?;
-    match spread {
-        Some(rule) => Ok(Term::Spread { count, rule, body }),
-        None => Ok(Term::Loop { count, body }),
+    match Box::new(alloc, Term::Seq(parts)) {
+        Err(end) => {
+            drop(count);
+            Err(end)
+        }
+        Ok(body) => Ok(loop_of(spread, count, body)),
     }
 }

@@ -17,8 +17,8 @@ use crate::parts::within;
 use crate::transfers::{Transfer, transfers_term};
 use sq_blocks::Argument;
 use sq_contexts::{
-    at_child_already, at_iteration, call_child, iteration, lane_at, lift_context, lift_lane,
-    whole_lane,
+    at_child_already, at_iteration, call_child, count_num, iteration, lane_at, lift_context,
+    lift_lane, whole_lane,
 };
 use sq_ir::{BufferIds, Num, Numbers, Term, Terms};
 use sq_placed::{Home, Homes};
@@ -199,34 +199,56 @@ fn in_lane(
     ensures { IfOk result (λ d. d ≡ piping.in_lane starts.now place.now position.now) }
 {
     let t = iteration(alloc, &place.lane, position)?;
-    at_iteration(alloc, starts, &t, &place.context)
+    let made = at_iteration(alloc, starts, &t, &place.context);
+    drop(t);
+    made
 }
 
 fn whole_place(alloc: Global, count: &Num, c: &Context) -> Result<LanePlace, AllocError>
     ensures { IfOk result (λ l. l ≡ piping.outer_of None count.now c.now) }
 {
-    let context = at_child_already(alloc, c)?;
     let many = count.copy(alloc)?;
-    Ok(LanePlace {
-        lane: whole_lane(many),
-        context,
-    })
+    match at_child_already(alloc, c) {
+        Err(end) => {
+            drop(many);
+            Err(end)
+        }
+        Ok(context) => Ok(LanePlace {
+            lane: whole_lane(many),
+            context,
+        }),
+    }
+}
+
+fn num_lifted_twice(alloc: Global, number: &Num) -> Result<Num, AllocError>
+    ensures { IfOk result (λ n. n ≡ lift 1 (lift 1 number.now)) }
+{
+    let once = number.lifted(alloc, 1)?;
+    let made = once.lifted(alloc, 1);
+    drop(once);
+    made
 }
 
 // The iterations at the child of the innermost loop, of so many children as the one round it says.
 fn child_lane(alloc: Global, rule: SpreadRule, count: &Num) -> Result<Lane, AllocError>
     ensures { IfOk result (λ l. l ≡ terms.lane_at rule (lift 1 (lift 1 count.now)) (num.Index 1) (num.Index 0)) }
 {
-    let once = count.lifted(alloc, 1)?;
-    let twice = once.lifted(alloc, 1)?;
-    lane_at(alloc, rule, &twice, &Num::Index(1), &Num::Index(0))
+    let count = num_lifted_twice(alloc, count)?;
+    let (child, own) = (Num::Index(1), Num::Index(0));
+    let made = lane_at(alloc, rule, &count, &child, &own);
+    drop(count);
+    drop(child);
+    drop(own);
+    made
 }
 
 fn lifted_twice(alloc: Global, c: &Context) -> Result<Context, AllocError>
     ensures { IfOk result (λ d. d ≡ terms.lift_context (terms.lift_context c.now)) }
 {
     let once = lift_context(alloc, c)?;
-    lift_context(alloc, &once)
+    let made = lift_context(alloc, &once);
+    drop(once);
+    made
 }
 
 fn child_place(
@@ -237,9 +259,14 @@ fn child_place(
 ) -> Result<LanePlace, AllocError>
     ensures { IfOk result (λ l. l ≡ piping.outer_of (Some rule) count.now c.now) }
 {
-    let lane = child_lane(alloc, rule, count)?;
     let context = lifted_twice(alloc, c)?;
-    Ok(LanePlace { lane, context })
+    match child_lane(alloc, rule, count) {
+        Err(end) => {
+            drop(context);
+            Err(end)
+        }
+        Ok(lane) => Ok(LanePlace { lane, context }),
+    }
 }
 
 fn outer_of(
@@ -259,9 +286,23 @@ fn outer_of(
 fn inner_of(alloc: Global, place: &LanePlace) -> Result<LanePlace, AllocError>
     ensures { IfOk result (λ l. l ≡ piping.inner_of place.now) }
 {
-    let lane = lift_lane(alloc, &place.lane)?;
     let context = lift_context(alloc, &place.context)?;
-    Ok(LanePlace { lane, context })
+    match lift_lane(alloc, &place.lane) {
+        Err(end) => {
+            drop(context);
+            Err(end)
+        }
+        Ok(lane) => Ok(LanePlace { lane, context }),
+    }
+}
+
+fn first_in_lane(alloc: Global, starts: &Numbers, place: &LanePlace) -> Result<Context, AllocError>
+    ensures { IfOk result (λ d. d ≡ piping.in_lane starts.now place.now (num.Index 0)) }
+{
+    let position = Num::Index(0);
+    let made = in_lane(alloc, starts, place, &position);
+    drop(position);
+    made
 }
 
 // In an iteration, and its work.
@@ -276,12 +317,16 @@ fn turn_places(
     )) }
 {
     let inner = inner_of(alloc, outer)?;
-    let work = in_lane(alloc, starts, &inner, &Num::Index(0))?;
-    Ok((inner, work))
+    match first_in_lane(alloc, starts, &inner) {
+        Err(end) => {
+            drop(inner);
+            Err(end)
+        }
+        Ok(work) => Ok((inner, work)),
+    }
 }
 
-/// Where the parts of the loop stand.
-pub fn places_of(
+fn places_of(
     alloc: Global,
     spread: Option<SpreadRule>,
     count: &Num,
@@ -291,8 +336,29 @@ pub fn places_of(
     ensures { IfOk result (λ s. s ≡ piping.places_of spread count.now starts.now c.now) }
 {
     let outer = outer_of(alloc, spread, count, c)?;
-    let (inner, work) = turn_places(alloc, starts, &outer)?;
-    Ok(Places { outer, inner, work })
+    match turn_places(alloc, starts, &outer) {
+        Err(end) => {
+            drop(outer);
+            Err(end)
+        }
+        Ok((inner, work)) => Ok(Places { outer, inner, work }),
+    }
+}
+
+/// Where the parts of the loop stand, which has the iterations of these counts.
+pub fn places_in(
+    alloc: Global,
+    spread: Option<SpreadRule>,
+    counts: &[u32],
+    starts: &Numbers,
+    c: &Context,
+) -> Result<Places, AllocError>
+    ensures { IfOk result (λ s. s ≡ piping.places_of spread (terms.count_num counts.now c.now) starts.now c.now) }
+{
+    let count = count_num(alloc, counts, c)?;
+    let made = places_of(alloc, spread, &count, starts, c);
+    drop(count);
+    made
 }
 
 // ---- the parts
@@ -321,9 +387,13 @@ fn push_part(out: &mut Terms, part: Term) -> Result<(), AllocError>
 fn push_arms(out: &mut Terms, part: Term) -> Result<(), AllocError>
     ensures { OnOk result (out.new ≡ out.old ++ term.Skip ∷ part ∷ []) }
 {
-    push_skip(out)?;
-    push_part(out, part)?;
-    Ok(())
+    match push_skip(out) {
+        Err(end) => {
+            drop(part);
+            Err(end)
+        }
+        Ok(()) => push_part(out, part),
+    }
 }
 
 // Nothing, or a part.
@@ -339,7 +409,10 @@ fn skip_or(alloc: Global, pick: Num, part: Term) -> Result<Term, AllocError>
     ensures { IfOk result (λ x. x ≡ term.Case pick (term.Skip ∷ part ∷ [])) }
 {
     match arms_of(alloc, part) {
-        Err(end) => Err(end),
+        Err(end) => {
+            drop(pick);
+            Err(end)
+        }
         Ok(arms) => Ok(Term::Case { pick, arms }),
     }
 }
@@ -349,7 +422,10 @@ fn where_some(alloc: Global, number: Num, part: Term) -> Result<Term, AllocError
     ensures { IfOk result (λ x. x ≡ terms.where_some number part) }
 {
     match Num::lesser(alloc, number, Num::Const(1)) {
-        Err(end) => Err(end),
+        Err(end) => {
+            drop(part);
+            Err(end)
+        }
         Ok(pick) => skip_or(alloc, pick, part),
     }
 }
@@ -366,8 +442,9 @@ fn both_at(
     ensures { IfOk result (λ ts. ts ≡ piping.both_at (piping.seen pipe.now) which place.now position.now) }
 {
     let at = in_lane(alloc, pipe.starts, place, position)?;
-    let made = in_both(alloc, pipe, which, &at)?;
-    Ok(made)
+    let made = in_both(alloc, pipe, which, &at);
+    drop(at);
+    made
 }
 
 // And in its own one.
@@ -381,8 +458,13 @@ fn done_at(
     requires { piping.HasTables pipe.now place.now.context }
     ensures { IfOk result (λ x. x ≡ piping.done_at (piping.seen pipe.now) which place.now position) }
 {
-    let arms = both_at(alloc, pipe, which, place, &position)?;
-    by_set(alloc, position, arms)
+    match both_at(alloc, pipe, which, place, &position) {
+        Err(end) => {
+            drop(position);
+            Err(end)
+        }
+        Ok(arms) => by_set(alloc, position, arms),
+    }
 }
 
 fn one_before(alloc: Global, number: Num) -> Result<Num, AllocError>
@@ -433,8 +515,13 @@ fn come_next(alloc: Global, pipe: &PipeCall<'_>, inner: &LanePlace) -> Result<Te
         (piping.done_at (piping.seen pipe.now) transfer.Come inner.now (num.Add (num.Index 0) (num.Const (pos 1))))) }
 {
     let left = left_of(alloc, &inner.lane)?;
-    let part = come_next_at(alloc, pipe, inner)?;
-    where_some(alloc, left, part)
+    match come_next_at(alloc, pipe, inner) {
+        Err(end) => {
+            drop(left);
+            Err(end)
+        }
+        Ok(part) => where_some(alloc, left, part),
+    }
 }
 
 fn others_in(alloc: Global, pipe: &PipeCall<'_>, inner: &LanePlace) -> Result<Term, AllocError>
@@ -473,7 +560,9 @@ fn come_first(alloc: Global, pipe: &PipeCall<'_>, outer: &LanePlace) -> Result<T
     ensures { IfOk result (λ x. x ≡ piping.come_first (piping.seen pipe.now) outer.now) }
 {
     let at = at_iteration(alloc, pipe.starts, &outer.lane.first, &outer.context)?;
-    done_in(alloc, pipe, Transfer::Come, Set::First, &at)
+    let made = done_in(alloc, pipe, Transfer::Come, Set::First, &at);
+    drop(at);
+    made
 }
 
 /// The same behind other parts.
@@ -486,50 +575,67 @@ pub fn push_come(
     requires { piping.HasTables pipe.now outer.now.context }
     ensures { OnOk result (out.new ≡ out.old ++ piping.come_first (piping.seen pipe.now) outer.now ∷ []) }
 {
-    let part = come_first(alloc, pipe, outer)?;
-    out.push(part)?;
-    Ok(())
+    match come_first(alloc, pipe, outer) {
+        Err(end) => Err(end),
+        Ok(part) => push_part(out, part),
+    }
 }
 
 fn loop_by(alloc: Global, count: Num, turn: Term) -> Result<Term, AllocError>
     ensures { IfOk result (λ x. x ≡ term.Loop count turn) }
 {
-    let body = Box::new(alloc, turn)?;
-    Ok(Term::Loop { count, body })
+    match Box::new(alloc, turn) {
+        Err(end) => {
+            drop(count);
+            Err(end)
+        }
+        Ok(body) => Ok(Term::Loop { count, body }),
+    }
+}
+
+// With a count of its own.
+fn loop_like(alloc: Global, count: &Num, turn: Term) -> Result<Term, AllocError>
+    ensures { IfOk result (λ x. x ≡ term.Loop count.now turn) }
+{
+    match count.copy(alloc) {
+        Err(end) => {
+            drop(turn);
+            Err(end)
+        }
+        Ok(many) => loop_by(alloc, many, turn),
+    }
 }
 
 fn turns_in(
     alloc: Global,
     pipe: &PipeCall<'_>,
-    inner: &LanePlace,
-    count: Num,
+    places: &Places,
     works: Terms,
 ) -> Result<Term, AllocError>
-    requires { piping.HasTables pipe.now inner.now.context }
-    ensures { IfOk result (λ x. x ≡ term.Loop count (piping.turn_in (piping.seen pipe.now) inner.now works)) }
+    requires { piping.HasTables pipe.now places.now.inner.context }
+    ensures { IfOk result (λ x. x ≡ piping.turns_in (piping.seen pipe.now) places.now works) }
 {
-    match turn_in(alloc, pipe, inner, works) {
+    match turn_in(alloc, pipe, &places.inner, works) {
         Err(end) => Err(end),
-        Ok(turn) => loop_by(alloc, count, turn),
+        Ok(turn) => loop_like(alloc, &places.outer.lane.many, turn),
     }
 }
 
-/// So many iterations, whose work has these terms in the two sets, behind other parts.
+/// Its iterations, whose work has these terms in the two sets, behind other parts.
 pub fn push_turns(
     alloc: Global,
     out: &mut Terms,
     pipe: &PipeCall<'_>,
-    inner: &LanePlace,
-    count: Num,
+    places: &Places,
     works: Terms,
 ) -> Result<(), AllocError>
-    requires { piping.HasTables pipe.now inner.now.context }
-    ensures { OnOk result (out.new ≡ out.old
-        ++ term.Loop count (piping.turn_in (piping.seen pipe.now) inner.now works) ∷ []) }
+    requires { piping.HasTables pipe.now places.now.inner.context }
+    ensures { OnOk result (out.new ≡ out.old ++ piping.turns_in (piping.seen pipe.now) places.now works ∷ []) }
 {
-    let part = turns_in(alloc, pipe, inner, count, works)?;
-    out.push(part)?;
-    Ok(())
+    match turns_in(alloc, pipe, places, works) {
+        Err(end) => Err(end),
+        Ok(part) => push_part(out, part),
+    }
 }
 
 // What goes out after the last iteration.
@@ -551,9 +657,10 @@ pub fn push_leave(
     requires { piping.HasTables pipe.now outer.now.context }
     ensures { OnOk result (out.new ≡ out.old ++ piping.leave_last (piping.seen pipe.now) outer.now ∷ []) }
 {
-    let part = leave_last(alloc, pipe, outer)?;
-    out.push(part)?;
-    Ok(())
+    match leave_last(alloc, pipe, outer) {
+        Err(end) => Err(end),
+        Ok(part) => push_part(out, part),
+    }
 }
 
 // ---- the scope of the two sets
@@ -573,7 +680,10 @@ fn last_only(alloc: Global, part: Term) -> Result<Term, AllocError>
     ensures { IfOk result (λ x. x ≡ term.Case (num.Div (num.Index 0) num.Children) (term.Skip ∷ part ∷ [])) }
 {
     match Num::quotient(alloc, Num::Index(0), Num::Children) {
-        Err(end) => Err(end),
+        Err(end) => {
+            drop(part);
+            Err(end)
+        }
         Ok(pick) => skip_or(alloc, pick, part),
     }
 }
@@ -591,7 +701,10 @@ fn child_loop(alloc: Global, part: Term) -> Result<Term, AllocError>
     ensures { IfOk result (λ x. x ≡ term.Loop (num.Add num.Children (num.Const (pos 1))) part) }
 {
     match Num::sum(alloc, Num::Children, Num::Const(1)) {
-        Err(end) => Err(end),
+        Err(end) => {
+            drop(part);
+            Err(end)
+        }
         Ok(count) => loop_by(alloc, count, part),
     }
 }
@@ -610,6 +723,18 @@ fn at_children(alloc: Global, buffers: BufferIds, part: Term) -> Result<Term, Al
     each_child(alloc, inside)
 }
 
+fn shell_lists(
+    alloc: Global,
+    pipe: &PipeCall<'_>,
+    many: &Num,
+) -> Result<(BufferIds, Num), AllocError>
+    ensures { IfOk result (λ p. p ≡ (piping.sets_of (piping.seen pipe.now), many.now)) }
+{
+    let buffers = sets_of(alloc, pipe)?;
+    let many = many.copy(alloc)?;
+    Ok((buffers, many))
+}
+
 // What a loop's scope and its condition are made of. They are made before its parts, which are dear to let go.
 fn shell_parts(
     alloc: Global,
@@ -621,13 +746,17 @@ fn shell_parts(
     ensures buffers { IfOk result (λ s. s.buffers ≡ piping.sets_of (piping.seen pipe.now)) }
     ensures many { IfOk result (λ s. s.many ≡ many.now) }
 {
-    let buffers = sets_of(alloc, pipe)?;
-    let many = many.copy(alloc)?;
-    Ok(Shell {
-        child,
-        buffers,
-        many,
-    })
+    match shell_lists(alloc, pipe, many) {
+        Err(end) => {
+            drop(child);
+            Err(end)
+        }
+        Ok((buffers, many)) => Ok(Shell {
+            child,
+            buffers,
+            many,
+        }),
+    }
 }
 
 /// What stands round the parts of a loop with these iterations at a child.
@@ -656,7 +785,10 @@ fn in_child(
 {
     match spread {
         None => within(alloc, child, buffers, part),
-        Some(_) => at_children(alloc, buffers, part),
+        Some(_) => {
+            drop(child);
+            at_children(alloc, buffers, part)
+        }
     }
 }
 
@@ -670,8 +802,12 @@ pub fn piped_term(
     ensures { IfOk result (λ x. x ≡ piping.in_child spread shell.child shell.buffers
         (terms.where_some shell.many (term.Seq parts))) }
 {
-    match where_some(alloc, shell.many, Term::Seq(parts)) {
-        Err(end) => Err(end),
-        Ok(lane) => in_child(alloc, spread, shell.child, shell.buffers, lane),
+    let (child, buffers, many) = shell.parts();
+    match where_some(alloc, many, Term::Seq(parts)) {
+        Err(end) => {
+            drop(child);
+            Err(end)
+        }
+        Ok(lane) => in_child(alloc, spread, child, buffers, lane),
     }
 }

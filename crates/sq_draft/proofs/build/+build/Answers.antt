@@ -1,15 +1,14 @@
 use Rattle.std.proofs.Common.{◌≡◌, List, ℕ, length, drop, rules, sym, ap, ap₂, ◌∙◌, arith, map, None, Some, Option}
 use Rattle.std.specs.Option.{option_copied}
 use Rattle.sq_text.specs.declared.spread.SpreadRule.{SpreadRule}
-use Rattle.sq_ir.specs.declared.num.Num.{Num}
 use Rattle.sq_ir.specs.declared.term.Term.TheVariants as term
 use Rattle.sq_leaf.specs.declared.shape.Shape.{Shape}
 use Rattle.sq_spec.specs.declared.statement.Statement.TheVariants as statement
 use Rattle.sq_placed.specs.Tables.{Pipe, placed_locals}
-use Rattle.sq_term.specs.Terms.{body_in, homes_in, all_terms, in_map, where_some}
+use Rattle.sq_term.specs.Terms.{body_in, homes_in, all_terms, count_num, in_map, where_some}
 use Rattle.sq_draft.specs.declared.forms.Places.{Places}
 use Rattle.sq_draft.specs.Building.{callee_in, part_in, pipe_by}
-use Rattle.sq_draft.specs.Piping.{seen, places_of, piped_at, in_child}
+use Rattle.sq_draft.specs.Piping.{seen, piped_at, in_child}
 use Rattle.sq_draft.proofs.Made.{loop_made, map_made, form_made}
 use Rattle.sq_draft.proofs.MadePipes.{piped_made, places_have}
 use Rattle.sq_draft.proofs.build.+build.Goals as goal
@@ -62,8 +61,8 @@ piped_at-returns t c = c.in_ok-made.ensures ∙ (λ i. in_child c.args.spread (c
 
 pub piped_call-piped_at-requires : goal.piped_call-piped_at-requires
 piped_call-piped_at-requires t c =
-    let h = places_have c.in_ok-places.places c.args.spread c.in_ok-count.count c.args.pipe.now.starts.now
-    c.args.c.now c.args.pipe.now.call.instances.now c.args.pipe.now.call.offsets.now c.in_ok-places.ensures
+    let h = places_have c.in_ok-places.places c.args.spread (count_num c.args.counts.now c.args.c.now)
+    c.args.pipe.now.starts.now c.args.c.now c.args.pipe.now.call.instances.now c.args.pipe.now.call.offsets.now c.in_ok-places.ensures
     c.requires in
     (search rules, (h.outer, (h.inner, h.work)))
 
@@ -72,9 +71,7 @@ piped_call-returns t c =
     let callee = callee_in c.args.forms.now.bodies.now c.args.forms.now.homes.now c.args.forms.now.depth in
     let pipe = seen c.args.pipe.now in
     c.in_ok-made.ensures
-    ∙ ap (λ (s : Places). piped_at callee pipe c.args.spread s c.args.c.now)
-    (c.in_ok-places.ensures
-    ∙ ap (λ (n : Num). places_of c.args.spread n c.args.pipe.now.starts.now c.args.c.now) c.in_ok-count.ensures)
+    ∙ ap (λ (s : Places). piped_at callee pipe c.args.spread s c.args.c.now) c.in_ok-places.ensures
 
 pub piped-returns : goal.piped-returns
 piped-returns t c =
