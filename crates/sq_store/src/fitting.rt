@@ -140,7 +140,10 @@ pub fn place(alloc: Global, d: Draft, nodes: PlanNodes) -> Result<Plan, StoreFau
     ensures over { IfErr result (λ fault. IsPlaceable d nodes → IsRefusal d nodes fault) }
 {
     match room_for(alloc, &d, &nodes) {
-        Err(fault) => Err(fault),
+        Err(fault) => {
+            drop(d);
+            Err(fault)
+        }
         Ok(offsets) => Ok(Plan {
             draft: d,
             offsets,
