@@ -48,8 +48,13 @@ fn blocked_child(alloc: Global, count: &Num) -> Result<Num, AllocError>
     ensures { IfOk result (λ n. n ≡ num.Div (num.Mul (num.Index 0) num.Children) (lift 1 count.now)) }
 {
     let lifted = count.lifted(alloc, 1)?;
-    let product = Num::product(alloc, Num::Index(0), Num::Children)?;
-    Num::quotient(alloc, product, lifted)
+    match Num::product(alloc, Num::Index(0), Num::Children) {
+        Err(end) => {
+            drop(lifted);
+            Err(end)
+        }
+        Ok(product) => Num::quotient(alloc, product, lifted),
+    }
 }
 
 fn child_in(
@@ -108,8 +113,13 @@ fn numbers_in(
     )) }
 {
     let child = child_in(alloc, spread, count, &c.child)?;
-    let ordinal = ordinal_in(alloc, starts, &c.ordinal)?;
-    Ok((ordinal, child))
+    match ordinal_in(alloc, starts, &c.ordinal) {
+        Err(end) => {
+            drop(child);
+            Err(end)
+        }
+        Ok(ordinal) => Ok((ordinal, child)),
+    }
 }
 
 /// The context in an iteration of a map.

@@ -32,8 +32,13 @@ fn lift_numbers(
     ensures { IfOk result (λ p. p ≡ (lift 1 ordinal.now, terms.lift_child child.now)) }
 {
     let child = lift_child(alloc, child)?;
-    let ordinal = ordinal.lifted(alloc, 1)?;
-    Ok((ordinal, child))
+    match ordinal.lifted(alloc, 1) {
+        Err(end) => {
+            drop(child);
+            Err(end)
+        }
+        Ok(ordinal) => Ok((ordinal, child)),
+    }
 }
 
 /// The same place under one loop more.
@@ -50,14 +55,44 @@ pub fn lift_context(alloc: Global, c: &Context) -> Result<Context, AllocError>
     })
 }
 
+fn lifted_two(alloc: Global, a: &Num, b: &Num) -> Result<(Num, Num), AllocError>
+    ensures { IfOk result (λ p. p ≡ (lift 1 a.now, lift 1 b.now)) }
+{
+    let first = a.lifted(alloc, 1)?;
+    match b.lifted(alloc, 1) {
+        Err(end) => {
+            drop(first);
+            Err(end)
+        }
+        Ok(second) => Ok((first, second)),
+    }
+}
+
+fn copied_two(alloc: Global, a: &Num, b: &Num) -> Result<(Num, Num), AllocError>
+    ensures { IfOk result (λ p. p ≡ (a.now, b.now)) }
+{
+    let first = a.copy(alloc)?;
+    match b.copy(alloc) {
+        Err(end) => {
+            drop(first);
+            Err(end)
+        }
+        Ok(second) => Ok((first, second)),
+    }
+}
+
 /// The same iterations under one loop more.
 pub fn lift_lane(alloc: Global, lane: &Lane) -> Result<Lane, AllocError>
     ensures { IfOk result (λ l. l ≡ terms.lift_lane lane.now) }
 {
-    let first = lane.first.lifted(alloc, 1)?;
-    let step = lane.step.lifted(alloc, 1)?;
     let many = lane.many.lifted(alloc, 1)?;
-    Ok(Lane { first, step, many })
+    match lifted_two(alloc, &lane.first, &lane.step) {
+        Err(end) => {
+            drop(many);
+            Err(end)
+        }
+        Ok((first, step)) => Ok(Lane { first, step, many }),
+    }
 }
 
 /// All iterations of a loop.
@@ -82,22 +117,37 @@ fn one_less(alloc: Global, f: &Num) -> Result<Num, AllocError>
 fn nearly_one_more(alloc: Global, n: Num, f: &Num) -> Result<Num, AllocError>
     ensures { IfOk result (λ r. r ≡ num.Add n (num.Sub f.now (num.Const (pos 1)))) }
 {
-    let less = one_less(alloc, f)?;
-    Num::sum(alloc, n, less)
+    match one_less(alloc, f) {
+        Err(end) => {
+            drop(n);
+            Err(end)
+        }
+        Ok(less) => Num::sum(alloc, n, less),
+    }
 }
 
 fn part_of(alloc: Global, n: Num, f: &Num) -> Result<Num, AllocError>
     ensures { IfOk result (λ r. r ≡ num.Div n f.now) }
 {
-    let children = f.copy(alloc)?;
-    Num::quotient(alloc, n, children)
+    match f.copy(alloc) {
+        Err(end) => {
+            drop(n);
+            Err(end)
+        }
+        Ok(children) => Num::quotient(alloc, n, children),
+    }
 }
 
 fn multiple(alloc: Global, c: Num, count: &Num) -> Result<Num, AllocError>
     ensures { IfOk result (λ r. r ≡ num.Mul c count.now) }
 {
-    let many = count.copy(alloc)?;
-    Num::product(alloc, c, many)
+    match count.copy(alloc) {
+        Err(end) => {
+            drop(c);
+            Err(end)
+        }
+        Ok(many) => Num::product(alloc, c, many),
+    }
 }
 
 fn lane_start(alloc: Global, count: &Num, f: &Num, c: Num) -> Result<Num, AllocError>
@@ -127,8 +177,13 @@ fn start_behind(alloc: Global, count: &Num, f: &Num, c: &Num) -> Result<Num, All
 fn behind(alloc: Global, n: Num, c: &Num) -> Result<Num, AllocError>
     ensures { IfOk result (λ r. r ≡ num.Sub n c.now) }
 {
-    let child = c.copy(alloc)?;
-    Num::difference(alloc, n, child)
+    match c.copy(alloc) {
+        Err(end) => {
+            drop(n);
+            Err(end)
+        }
+        Ok(child) => Num::difference(alloc, n, child),
+    }
 }
 
 fn many_in_rounds(alloc: Global, count: &Num, f: &Num, c: &Num) -> Result<Num, AllocError>
@@ -147,8 +202,13 @@ fn many_in_block(alloc: Global, count: &Num, f: &Num, c: &Num) -> Result<Num, Al
         (terms.lane_start count.now f.now c.now)) }
 {
     let first = start_at(alloc, count, f, c)?;
-    let end = start_behind(alloc, count, f, c)?;
-    Num::difference(alloc, end, first)
+    match start_behind(alloc, count, f, c) {
+        Err(end) => {
+            drop(first);
+            Err(end)
+        }
+        Ok(last) => Num::difference(alloc, last, first),
+    }
 }
 
 fn cyclic_lane(alloc: Global, count: &Num, f: &Num, c: &Num) -> Result<Lane, AllocError>
@@ -159,9 +219,13 @@ fn cyclic_lane(alloc: Global, count: &Num, f: &Num, c: &Num) -> Result<Lane, All
     }) }
 {
     let many = many_in_rounds(alloc, count, f, c)?;
-    let first = c.copy(alloc)?;
-    let step = f.copy(alloc)?;
-    Ok(Lane { first, step, many })
+    match copied_two(alloc, c, f) {
+        Err(end) => {
+            drop(many);
+            Err(end)
+        }
+        Ok((first, step)) => Ok(Lane { first, step, many }),
+    }
 }
 
 fn blocked_lane(alloc: Global, count: &Num, f: &Num, c: &Num) -> Result<Lane, AllocError>
@@ -174,12 +238,17 @@ fn blocked_lane(alloc: Global, count: &Num, f: &Num, c: &Num) -> Result<Lane, Al
     }) }
 {
     let many = many_in_block(alloc, count, f, c)?;
-    let first = start_at(alloc, count, f, c)?;
-    Ok(Lane {
-        first,
-        step: Num::Const(1),
-        many,
-    })
+    match start_at(alloc, count, f, c) {
+        Err(end) => {
+            drop(many);
+            Err(end)
+        }
+        Ok(first) => Ok(Lane {
+            first,
+            step: Num::Const(1),
+            many,
+        }),
+    }
 }
 
 /// The iterations that a rule gives to the c-th of f children.
@@ -202,17 +271,28 @@ pub fn lane_at(
 pub fn iteration(alloc: Global, lane: &Lane, position: &Num) -> Result<Num, AllocError>
     ensures { IfOk result (λ n. n ≡ terms.iteration lane.now position.now) }
 {
-    let far = Num::product(alloc, lane.step.copy(alloc)?, position.copy(alloc)?)?;
-    let first = lane.first.copy(alloc)?;
-    Num::sum(alloc, first, far)
+    let (step, position) = copied_two(alloc, &lane.step, position)?;
+    let far = Num::product(alloc, step, position)?;
+    match lane.first.copy(alloc) {
+        Err(end) => {
+            drop(far);
+            Err(end)
+        }
+        Ok(first) => Num::sum(alloc, first, far),
+    }
 }
 
 fn ordinal_of(alloc: Global, starts: &Numbers, t: &Num, ordinal: &Num) -> Result<Num, AllocError>
     ensures { IfOk result (λ n. n ≡ num.Add (num.Pick starts.now ordinal.now) t.now) }
 {
     let start = Num::pick(alloc, starts.copy()?, ordinal.copy(alloc)?)?;
-    let iteration = t.copy(alloc)?;
-    Num::sum(alloc, start, iteration)
+    match t.copy(alloc) {
+        Err(end) => {
+            drop(start);
+            Err(end)
+        }
+        Ok(iteration) => Num::sum(alloc, start, iteration),
+    }
 }
 
 fn path_to(alloc: Global, path: &[Num], t: &Num) -> Result<Nums, AllocError>

@@ -134,8 +134,13 @@ fn with_table(
         None => at.copy(alloc),
         Some(numbers) => {
             let far = Num::pick(alloc, numbers.copy()?, ordinal.copy(alloc)?)?;
-            let first = at.copy(alloc)?;
-            Num::sum(alloc, first, far)
+            match at.copy(alloc) {
+                Err(end) => {
+                    drop(far);
+                    Err(end)
+                }
+                Ok(first) => Num::sum(alloc, first, far),
+            }
         }
     }
 }
