@@ -80,7 +80,11 @@ fn plan_resolved<'a, S: Sink>(
 {
     lacks_are_one();
     match planned(alloc, resolved) {
-        Ok(plan) => report_plan(alloc, out, resolved, &plan),
+        Ok(plan) => {
+            let ended = report_plan(alloc, out, resolved, &plan);
+            drop(plan);
+            ended
+        }
         Err(end) => Err(end),
     }
 }

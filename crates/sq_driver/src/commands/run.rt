@@ -155,7 +155,10 @@ fn run_planned<'a, F: Files, S: Sink, E: Sink, B: Bank>(
     lacks_are_one();
     match chosen(alloc, world.files, words.order) {
         Ok(order) => run_ordered(alloc, words, world, resolved, plan, order),
-        Err(end) => Err(end),
+        Err(end) => {
+            drop(plan);
+            Err(end)
+        }
     }
 }
 

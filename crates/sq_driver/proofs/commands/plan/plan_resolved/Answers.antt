@@ -10,4 +10,4 @@ pub returns-in-Ok-clause-evaluated : goal.returns-in-Ok-clause-evaluated
 returns-in-Ok-clause-evaluated g c = λ told held.
     reported_or_lacked c.args.words.now.program.now c.args.words.now.mapping.now c.args.words.now.machine.now
     told _ _ c.args.resolved.now c.requires.forms held c.requires.free c.lacks_are_one.ensures.lacks
-    c.in-Ok.ensures.fits c.in-Ok.plan c.in-Ok.ensures.its _ _ c.report_plan.result c.report_plan.ensures.wrote
+    c.in-Ok.ensures.fits c.in-Ok.plan c.in-Ok.ensures.its _ _ c.report_plan-ended.result c.report_plan-ended.ensures.wrote
