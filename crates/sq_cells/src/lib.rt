@@ -1,8 +1,9 @@
-//! The compiled tree of a work: its meaning and its independence.
+//! The compiled tree of a work: its meaning and its independence; and trees of plans that do what such trees do.
 #![tactic(auto)]
 
 ghost use Rattle.sq_cells.specs.Correct.{LoweredFollows, LoweredIndependent};
 ghost use Rattle.sq_cells.specs.Fits.{LoweredFit};
+ghost use Rattle.sq_cells.specs.Laws.{AlikeEndAlike, AlikeCountAlike, AlikeAreSafe};
 ghost use Rattle.sq_cells.specs.Leaves.{LeavesAreCalls, LeavesPlaced, LeafPathsApart};
 
 /// The compiled tree, run leftmost first, means what the source means.
@@ -33,4 +34,19 @@ pub fn leaf_paths_apart()
 /// Its events may be performed row by row.
 pub fn lowered_fit()
     ensures { LoweredFit }
+{}
+
+/// A tree of a plan that is like a tree over cells ends as that does.
+pub fn alike_trees_end_alike()
+    ensures { AlikeEndAlike }
+{}
+
+/// It has as many leaf events of each number and path.
+pub fn alike_trees_count_alike()
+    ensures { AlikeCountAlike }
+{}
+
+/// Where that tree's unordered events are independent, so are those of the plan, and its events may be performed.
+pub fn alike_trees_are_safe()
+    ensures { AlikeAreSafe }
 {}

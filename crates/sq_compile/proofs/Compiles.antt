@@ -12,13 +12,13 @@ use Rattle.sq_store.specs.Place.{IsPlaced, IsRefusal, IsOver}
 use Rattle.sq_spec.specs.declared.resolved.Resolved.{Resolved}
 use Rattle.sq_homes.specs.declared.choice.Choice.{Choice}
 use Rattle.sq_homes.specs.Drafts.{IsDraftOf, program_term, buffers_of, leaves_of, entry_of}
-use Rattle.sq_homes_laws.specs.Choosing.{AreMemories, Walked}
+use Rattle.sq_draft_laws.specs.Choosing.{AreMemories, Walked}
 use Rattle.sq_hoist.specs.Choices.{hoisted}
-use Rattle.sq_hoist_laws.specs.Laws.{ChoicesAreHoisted, HoistedOverlapNothing}
+use Rattle.sq_pass_laws.specs.HoistLaws.{ChoicesAreHoisted, HoistedOverlapNothing}
 use Rattle.sq_pipe.specs.Greedy.{overlapped}
 use Rattle.sq_pipe.specs.Notes.{notes_of}
-use Rattle.sq_pipe_laws.specs.Laws.{OverlapsMayBeChosen, OverlapsHold, OverlapsFit}
-use Rattle.sq_needs.specs.Needed.{KeepInPlace, NeedsAreSums, SumsAreNeeds, NeedsAreSmall}
+use Rattle.sq_pass_laws.specs.PipeLaws.{OverlapsMayBeChosen, OverlapsHold, OverlapsFit}
+use Rattle.sq_plan_good.specs.Needed.{KeepInPlace, NeedsAreSums, SumsAreNeeds, NeedsAreSmall}
 use Rattle.sq_plan_good.specs.Good.{HasNoRace, DraftsCanBePlaced, PlacedAreGood}
 use Rattle.sq_plan_good.specs.Good.{IsGoodFor}
 use Rattle.sq_plan_good.specs.Planned.{memories_of, IsPlacedFor}

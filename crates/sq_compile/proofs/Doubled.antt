@@ -9,7 +9,7 @@ use Rattle.sq_homes.specs.declared.choice.Choice.{Choice}
 use Rattle.sq_homes.specs.Numbering.{deepest, left_by, params_where, hoisted_from, hoisted as left_first, others, again}
 use Rattle.sq_homes.specs.Numbering.{locals_count, standing, array_size}
 use Rattle.sq_homes.specs.Drafts.{no_choice}
-use Rattle.sq_needs.specs.Room.{sizes_of}
+use Rattle.sq_plan_good.specs.Room.{sizes_of}
 use Rattle.sq_pipe.specs.declared.candidate.Candidate.{Candidate}
 use Rattle.sq_pipe.specs.Runs.{Marks}
 use Rattle.sq_pipe.specs.Greedy.{sizes_of as bytes_in, room_of, bytes_of, with_form, taken_from, none_taken}

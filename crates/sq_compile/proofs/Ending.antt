@@ -13,10 +13,10 @@ use Rattle.sq_spec_laws.specs.Needs.{Ended, end_at, callers_end}
 use Rattle.sq_homes.specs.declared.choice.Choice.{Choice}
 use Rattle.sq_homes.specs.Numbering.{standing}
 use Rattle.sq_homes.specs.Drafts.{bodies_of, choice_in}
-use Rattle.sq_homes_laws.specs.Choosing.{Walked}
-use Rattle.sq_homes_laws.proofs.Hoisting.{at_index, bodies_many}
+use Rattle.sq_draft_laws.specs.Choosing.{Walked}
+use Rattle.sq_draft_laws.proofs.Hoisting.{at_index, bodies_many}
 use Rattle.sq_hoist.specs.Choices.{hoisted}
-use Rattle.sq_needs.specs.Room.{level_top, callers_top, sizes_of, FormsEnd}
+use Rattle.sq_plan_good.specs.Room.{level_top, callers_top, sizes_of, FormsEnd}
 use Rattle.sq_pipe.specs.declared.room.Room.{Room}
 use Rattle.sq_pipe.specs.Runs.{Marks, marks_of, least_room, no_bound}
 use Rattle.sq_pipe.specs.Greedy.{room_of, rooms_by, rooms_of, bytes_of, have_room}

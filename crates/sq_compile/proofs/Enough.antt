@@ -13,22 +13,22 @@ use Rattle.sq_spec.specs.declared.body.FormBody.{FormBody}
 use Rattle.sq_spec.specs.declared.resolved.Resolved.{Resolved}
 use Rattle.sq_placed.specs.Pipes.{CallLoop, call_loops_of}
 use Rattle.sq_term.specs.Terms.{body_in}
-use Rattle.sq_rooms.specs.Orders.{EachOf}
+use Rattle.sq_term_laws.specs.Orders.{EachOf}
 use Rattle.sq_forms_fit.proofs.Loops.{each_at, left_true, right_true}
 use Rattle.sq_homes.specs.Drafts.{bodies_of}
-use Rattle.sq_homes_laws.specs.Choosing.{Walked}
-use Rattle.sq_homes_laws.proofs.Programs.{bodies_are_tables}
+use Rattle.sq_draft_laws.specs.Choosing.{Walked}
+use Rattle.sq_draft_laws.proofs.Programs.{bodies_are_tables}
 use Rattle.sq_draft_laws.specs.Memories.{plan_node}
 use Rattle.sq_hoist.specs.Counts.{total}
-use Rattle.sq_needs.specs.Room.{machine_setting, IsEnough, HasEnough}
+use Rattle.sq_plan_good.specs.Room.{machine_setting, IsEnough, HasEnough}
 use Rattle.sq_pipe.specs.Runs.{Marks, is_marked, marks_of, most_children}
 use Rattle.sq_pipe.specs.Candidates.{may_overlap, have_one_form}
 use Rattle.sq_pipe.specs.Greedy.{overlapped}
-use Rattle.sq_pipe_laws.proofs.Candidates.{one_form}
-use Rattle.sq_pipe_laws.proofs.Choices.{homes}
-use Rattle.sq_pipe_laws.proofs.Loops.{LoopMay}
-use Rattle.sq_pipe_laws.proofs.Programs.{MayAt, loops_may}
-use Rattle.sq_pipe_laws.proofs.Programs as programs
+use Rattle.sq_pass_laws.proofs.Candidates.{one_form}
+use Rattle.sq_pass_laws.proofs.Choices.{homes}
+use Rattle.sq_pass_laws.proofs.Loops.{LoopMay}
+use Rattle.sq_pass_laws.proofs.PipePrograms.{MayAt, loops_may}
+use Rattle.sq_pass_laws.proofs.PipePrograms as programs
 use Rattle.sq_compile.specs.Room.{RunsAreMarked, OverlapsHaveEnough}
 
 -- ---- how many children a marked node has

@@ -20,8 +20,8 @@ use Rattle.sq_homes.specs.Begun.{Begun, BegunPart, calls_in, row_begun, begun, b
 use Rattle.sq_tables.specs.Loops.{any_of}
 use Rattle.sq_pipe.specs.Candidates as pipe
 use Rattle.sq_pipe.specs.Runs.{Landing, all_lands, row_lands, turns_land, turn_lands, landing_step, landing, body_lands}
-use Rattle.sq_needs.proofs.Terms.{begun_call, begun_map}
-use Rattle.sq_needs.proofs.Turning.{Among, among_left, among_right, EachIn, each_both, each_weaker}
+use Rattle.sq_plan_good.proofs.Terms.{begun_call, begun_map}
+use Rattle.sq_plan_good.proofs.Turning.{Among, among_left, among_right, EachIn, each_both, each_weaker}
 
 -- ---- what is known of a call
 

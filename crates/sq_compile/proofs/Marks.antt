@@ -22,15 +22,15 @@ use Rattle.sq_spec_laws.specs.Needs.{Turn, Reached, child_for, IsCall, StandsAt,
 use Rattle.sq_spec_laws.specs.Needs.{below, AtLevel, FormsRunAtTheirLevel}
 use Rattle.sq_homes.specs.Begun.{Begun, calls_of, child_in}
 use Rattle.sq_homes.specs.Drafts.{instance_at, instance_by, level_by, rule_by}
-use Rattle.sq_homes_laws.specs.Choosing.{Walked}
-use Rattle.sq_homes_laws.specs.Programs.{BodiesAreTables}
+use Rattle.sq_draft_laws.specs.Choosing.{Walked}
+use Rattle.sq_draft_laws.specs.Programs.{BodiesAreTables}
 use Rattle.sq_hoist.specs.Choices.{body_at}
-use Rattle.sq_needs.specs.Listed.{IsListed, CallsAreListed}
+use Rattle.sq_plan_good.specs.Listed.{IsListed, CallsAreListed}
 use Rattle.sq_pipe.specs.Runs.{Marks, is_marked, mark_below, unmarked, level_at, flags_at, body_lands, has_flag}
 use Rattle.sq_pipe.specs.Runs.{marks_called, marks_by, marks_from, marks_of}
 use Rattle.sq_compile.specs.Room.{Runs, RunsAreMarked}
 use Rattle.sq_compile.proofs.Flagged.{set_sets, flag_is_set, below_marked, unmarked_long}
-use Rattle.sq_needs.proofs.Turning.{EachIn}
+use Rattle.sq_plan_good.proofs.Turning.{EachIn}
 use Rattle.sq_compile.proofs.Landing.{IsIteration, Lands, beside_each, body_agrees}
 
 some_same : {A : Type 0} (x y : A) → Some x ≡ Some y → x ≡ y

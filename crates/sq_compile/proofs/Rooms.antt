@@ -14,15 +14,15 @@ use Rattle.sq_placed.specs.Tables.{row_form}
 use Rattle.sq_homes.specs.declared.choice.Choice.{Choice}
 use Rattle.sq_homes.specs.Numbering.{standing}
 use Rattle.sq_homes.specs.Drafts.{choice_in}
-use Rattle.sq_homes_laws.specs.Choosing.{Walked, MayBeChosen, NonePipes}
+use Rattle.sq_draft_laws.specs.Choosing.{Walked, MayBeChosen, NonePipes}
 use Rattle.sq_hoist.specs.Choices.{hoisted}
-use Rattle.sq_hoist_laws.specs.Laws.{ChoicesAreHoisted, HoistedOverlapNothing}
+use Rattle.sq_pass_laws.specs.HoistLaws.{ChoicesAreHoisted, HoistedOverlapNothing}
 use Rattle.sq_draft_laws.specs.Memories.{plan_node}
-use Rattle.sq_needs.specs.Room.{sizes_of, FormsEnd, EndsAreTops, LoopsHaveEnough, LoopsAreBusy, SumsFit}
+use Rattle.sq_plan_good.specs.Room.{sizes_of, FormsEnd, EndsAreTops, LoopsHaveEnough, LoopsAreBusy, SumsFit}
 use Rattle.sq_pipe.specs.Runs.{Marks, is_marked, marks_of, least_room, no_bound}
 use Rattle.sq_pipe.specs.Greedy.{room_of, rooms_of, bytes_of, have_room, none_taken, candidates_of, taken_of}
 use Rattle.sq_pipe.specs.Greedy.{overlaps_from, overlapped}
-use Rattle.sq_pipe_laws.specs.Laws.{OverlapsMayBeChosen}
+use Rattle.sq_pass_laws.specs.PipeLaws.{OverlapsMayBeChosen}
 use Rattle.sq_compile.specs.Room.{Runs, RunsAreMarked, OverlapsHaveEnough, HaveSpace, OverlapsHaveRoom}
 use Rattle.sq_compile.proofs.Doubled.{brought_with, brought_once, chosen_with, none_flag, none_chosen, taken_fits}
 use Rattle.sq_compile.proofs.Ending.{top, forms_end, top_fits}

@@ -6,7 +6,7 @@ use Rattle.sq_ir.specs.declared.plan.Plan.{Plan}
 use Rattle.sq_ir.specs.declared.plan.PlanNode.{PlanNode}
 use Rattle.sq_homes.specs.declared.choice.Choice.{Choice}
 use Rattle.sq_homes.specs.Drafts.{IsDraftOf}
-use Rattle.sq_homes_laws.specs.Choosing.{AreMemories}
+use Rattle.sq_draft_laws.specs.Choosing.{AreMemories}
 use Rattle.sq_lower.specs.Choices.{all_in_buffers}
 use Rattle.sq_elim.specs.Choices.{all_in_place}
 use Rattle.sq_hoist.specs.Choices.{hoisted}

@@ -2,7 +2,7 @@
 
 ghost use Rattle.std.specs.Prelude.{◌≡◌, map, IfOk};
 ghost use Rattle.sq_machfile.specs.Machines.{WithinLimits};
-ghost use Rattle.sq_homes_laws.specs.Choosing.{AreMemories};
+ghost use Rattle.sq_draft_laws.specs.Choosing.{AreMemories};
 ghost use Rattle.sq_draft_laws.specs.Memories as spec;
 
 use sq_draft_laws::laws::nodes_are_memories;

@@ -25,10 +25,10 @@ use Rattle.sq_plan_laws.specs.Seated.{IsNear}
 use Rattle.sq_draft_laws.specs.Scope.{HomesAreNear}
 use Rattle.sq_draft_laws.specs.Paths.{Nested, nested_of, PathsFit, LeavesAreSmall}
 use Rattle.sq_draft_laws.proofs.Every.{Every, every_at}
-use Rattle.sq_rooms.specs.Orders.{EachOf, Round, rounds_of}
-use Rattle.sq_rooms.specs.Held.{IsHeldRow, AreHeldRows, AreHeldInside}
-use Rattle.sq_rooms.specs.Overlapping.{IsSuited, AskedInMaps, RowOverlaps, BodyOverlaps, OverlapsStand}
-use Rattle.sq_rooms.proofs.Overlaps.{overlaps_call, overlaps_map}
+use Rattle.sq_term_laws.specs.Orders.{EachOf, Round, rounds_of}
+use Rattle.sq_term_laws.specs.Held.{IsHeldRow, AreHeldRows, AreHeldInside}
+use Rattle.sq_term_laws.specs.Overlapping.{IsSuited, AskedInMaps, RowOverlaps, BodyOverlaps, OverlapsStand}
+use Rattle.sq_term_laws.proofs.Overlaps.{overlaps_call, overlaps_map}
 use Rattle.sq_draft_laws.proofs.Scoped.{tables_call, tables_map, rounds_call, rounds_map}
 use Rattle.sq_draft_laws.proofs.Paths.{RowsFit, nested_call, nested_map}
 

@@ -14,11 +14,11 @@ use Rattle.sq_ir.specs.declared.term.Action.TheVariants as action
 use Rattle.sq_placed.specs.declared.home.Homes.{Homes}
 use Rattle.sq_placed.specs.Tables.{entry_placed}
 use Rattle.sq_cells.specs.Tree.{Cause}
-use Rattle.sq_alike.specs.Alike.{MayRun}
+use Rattle.sq_cells.specs.Alike.{MayRun}
 use Rattle.sq_term.specs.Terms.{entry_term, buffer_or}
-use Rattle.sq_term_fit.specs.Rooms.{RowsInside}
-use Rattle.sq_term_fit.proofs.Meeting.{entry_is_fine}
-use Rattle.sq_term_fit.proofs.Roomed.{entry_is_roomy}
+use Rattle.sq_term_laws.specs.Roomy.{RowsInside}
+use Rattle.sq_term_laws.proofs.Meeting.{entry_is_fine}
+use Rattle.sq_term_laws.proofs.Roomed.{entry_is_roomy}
 use Rattle.sq_plan_laws.specs.Entry.{plan_tree}
 use Rattle.sq_plan_laws.specs.Room.{IsRoomy}
 use Rattle.sq_forms_fit.specs.Entry.{entry_shapes}

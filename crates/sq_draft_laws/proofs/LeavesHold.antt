@@ -39,9 +39,9 @@ use Rattle.sq_spec.specs.declared.body.FormBody.{FormBody}
 use Rattle.sq_spec.specs.declared.resolved.Resolved.{Resolved}
 use Rattle.sq_spec.specs.Bodies.{no_body, found_body, what_runs}
 use Rattle.sq_spec.specs.Works.{shapes_of, param_shapes, local_shapes}
-use Rattle.sq_placed_bytes.specs.LeafLaws.{IsInside, IsLeafOf, event_shape}
-use Rattle.sq_placed_bytes.specs.LeafRuns.{IsCompiled, LinesCanRun, AreSmall}
-use Rattle.sq_placed_bytes.proofs.Law.{leaves_stay_inside, leaves_are_coded}
+use Rattle.sq_plan_laws.specs.LeafLaws.{IsInside, IsLeafOf, event_shape}
+use Rattle.sq_plan_laws.specs.LeafRuns.{IsCompiled, LinesCanRun, AreSmall}
+use Rattle.sq_plan_laws.proofs.Law.{leaves_stay_inside, leaves_are_coded}
 use Rattle.sq_plan_laws.specs.Seated.{HasDims}
 use Rattle.sq_term.specs.Terms.{homes_in}
 use Rattle.sq_homes.specs.Drafts as drafts
@@ -50,8 +50,8 @@ use Rattle.sq_forms_fit.specs.Homes.{bodies_of, LeafStands}
 use Rattle.sq_forms_fit.specs.Sizes.{IsSized}
 use Rattle.sq_forms_fit.proofs.RowsHold.{body_is}
 use Rattle.sq_forms_fit.proofs.Whole.{arrays_are_sized}
-use Rattle.sq_homes_laws.specs.Programs.{BodiesAreTables}
-use Rattle.sq_homes_laws.specs.Choosing.{Walked}
+use Rattle.sq_draft_laws.specs.Programs.{BodiesAreTables}
+use Rattle.sq_draft_laws.specs.Choosing.{Walked}
 use Rattle.sq_draft_laws.specs.Leaves.{LeavesOfDraftsStand}
 use Rattle.sq_draft_laws.proofs.Codes.{coded}
 use Rattle.sq_draft_laws.proofs.FormDims.{forms_have_counts}

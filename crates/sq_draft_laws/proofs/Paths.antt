@@ -18,9 +18,9 @@ use Rattle.sq_spec.specs.declared.body.Body.{Body}
 use Rattle.sq_spec.specs.declared.body.Body.TheVariants as body
 use Rattle.sq_spec.specs.declared.body.FormBody.{FormBody}
 use Rattle.sq_cells.specs.Leaves.{sum_below}
-use Rattle.sq_alike.specs.Alike.{Weight, event_count, leaf_count}
-use Rattle.sq_term_fit.specs.Fits.{Bounds, AskedOfStatement, HaveCounts, all_parts, Tabled, TabledBody}
-use Rattle.sq_term_fit.proofs.Chains.{tabled_map}
+use Rattle.sq_cells.specs.Alike.{Weight, event_count, leaf_count}
+use Rattle.sq_term_laws.specs.Fits.{Bounds, AskedOfStatement, HaveCounts, all_parts, Tabled, TabledBody}
+use Rattle.sq_term_laws.proofs.Chains.{tabled_map}
 use Rattle.sq_placed.specs.Tables.{entry_placed}
 use Rattle.sq_plan_laws.specs.Entry.{plan_tree}
 use Rattle.sq_plan_laws.proofs.LeafCalls.{plans_count}

@@ -49,8 +49,8 @@ use Rattle.sq_term.specs.Stands.{AreLevel, LocalsOf, AreLeveled, Each, none, mor
 use Rattle.sq_term.proofs.Opened.{built_call, built_map, calls_call, calls_map}
 use Rattle.sq_term.proofs.Chained.{chains_built}
 use Rattle.sq_term.proofs.Same.{level_left, level_right}
-use Rattle.sq_term_fit.specs.Rooms.{AreWhole, joined_rows, reached_step, reached_in, reached_of, RowFits, RowsFit}
-use Rattle.sq_term_fit.specs.Rooms.{AreRoomy}
+use Rattle.sq_term_laws.specs.Roomy.{AreWhole, joined_rows, reached_step, reached_in, reached_of, RowFits, RowsFit}
+use Rattle.sq_term_laws.specs.Roomy.{AreRoomy}
 use Rattle.sq_plan_laws.specs.Seated.{IsNear}
 use Rattle.sq_draft_laws.specs.Scope.{IsSeen, HomesAreNear}
 use Rattle.sq_draft_laws.proofs.Back.{with_both}
@@ -64,13 +64,13 @@ use Rattle.sq_draft_laws.proofs.Moves.{IsSingle, come_in_up, fill_held_up}
 use Rattle.sq_draft_laws.proofs.Sets.{plain_homes, set_single, set_near, set_level, set_held, set_there}
 use Rattle.sq_draft_laws.proofs.Lanes.{lanes_up}
 use Rattle.sq_spec.specs.declared.statement.LoopKind.TheVariants as loop_kind
-use Rattle.sq_rooms.specs.Orders.{EachOf, Round, all_rounds, map_rounds, round_step, rounds_in, rounds_of}
-use Rattle.sq_rooms.specs.Held.{IsHeldRow, AreHeldRows}
-use Rattle.sq_rooms.specs.Lowers.{lower_in, same_in}
-use Rattle.sq_rooms.specs.Overlapping.{IsSuited, AskedInMaps, each_in_maps, any_by, is_spread, can_overlap, RowOverlaps}
-use Rattle.sq_rooms.specs.Overlapping.{overlaps_step, Overlaps, BodyOverlaps}
-use Rattle.sq_rooms.proofs.Piped.{pipe_none}
-use Rattle.sq_rooms.proofs.Overlaps.{overlaps_call, overlaps_map, spread_as}
+use Rattle.sq_term_laws.specs.Orders.{EachOf, Round, all_rounds, map_rounds, round_step, rounds_in, rounds_of}
+use Rattle.sq_term_laws.specs.Held.{IsHeldRow, AreHeldRows}
+use Rattle.sq_term_laws.specs.Lowers.{lower_in, same_in}
+use Rattle.sq_term_laws.specs.Overlapping.{IsSuited, AskedInMaps, each_in_maps, any_by, is_spread, can_overlap, RowOverlaps}
+use Rattle.sq_term_laws.specs.Overlapping.{overlaps_step, Overlaps, BodyOverlaps}
+use Rattle.sq_term_laws.proofs.Piped.{pipe_none}
+use Rattle.sq_term_laws.proofs.Overlaps.{overlaps_call, overlaps_map, spread_as}
 use Rattle.sq_draft_laws.proofs.Holding.{Leaves, left_leave, left_there, held_here}
 
 -- ---- lists

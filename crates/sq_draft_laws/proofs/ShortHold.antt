@@ -46,14 +46,14 @@ use Rattle.sq_spec.specs.Bodies.{no_body, found_body, what_runs}
 use Rattle.sq_spec.specs.Statements.{number_or, tables, elems_of}
 use Rattle.sq_spec_laws.proofs.Sorted.{both, three, four}
 use Rattle.sq_spec_laws.proofs.TableRowsHold.{rows_are_reached}
-use Rattle.sq_placed_bytes.specs.LeafLaws.{event_shape}
+use Rattle.sq_plan_laws.specs.LeafLaws.{event_shape}
 use Rattle.sq_term.specs.Terms.{body_in}
 use Rattle.sq_homes.specs.Drafts as drafts
 use Rattle.sq_draft_laws.specs.Paths.{Nested, nested_of, PathsFit, LeavesAreSmall}
 use Rattle.sq_forms_fit.specs.Homes.{bodies_of}
 use Rattle.sq_forms_fit.proofs.RowsHold.{body_is}
-use Rattle.sq_homes_laws.specs.Programs.{BodiesAreTables}
-use Rattle.sq_homes_laws.specs.Choosing.{Walked}
+use Rattle.sq_draft_laws.specs.Programs.{BodiesAreTables}
+use Rattle.sq_draft_laws.specs.Choosing.{Walked}
 use Rattle.sq_draft_laws.specs.Short.{round_by, round_of, LeavesAreShort}
 use Rattle.sq_draft_laws.proofs.Dimensions.{map_many}
 use Rattle.sq_forms_fit.proofs.EachForm.{each_good}

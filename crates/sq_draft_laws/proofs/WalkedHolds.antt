@@ -35,7 +35,7 @@ use Rattle.sq_forms.specs.Faults.{Value}
 use Rattle.sq_forms.specs.Resolving.{Resolving, resolution}
 use Rattle.sq_forms.specs.Steps.{Forms}
 use Rattle.sq_spec.specs.declared.resolved.Resolved.{Resolved}
-use Rattle.sq_homes_laws.specs.Choosing.{Walked}
+use Rattle.sq_draft_laws.specs.Choosing.{Walked}
 use Rattle.sq_draft_laws.specs.Opened.{WalkedIsThere}
 
 some_same : {A : Type 0} {x y : A} → Some x ≡ Some y → x ≡ y

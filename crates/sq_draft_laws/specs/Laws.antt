@@ -12,15 +12,15 @@ use Rattle.sq_placed.specs.Pipes.{PipesStand}
 use Rattle.sq_placed.specs.declared.home.Homes.{Homes}
 use Rattle.sq_placed.specs.Tables.{entry_placed}
 use Rattle.sq_cells.specs.Tree.{Cause}
-use Rattle.sq_alike.specs.Alike.{MayRun}
+use Rattle.sq_cells.specs.Alike.{MayRun}
 use Rattle.sq_term.specs.Terms.{entry_term, entry_row, buffer_or}
 use Rattle.sq_term.specs.Stands.{AreLeveled}
-use Rattle.sq_term_fit.specs.Fits.{Bounds, AreBounds, IsMachine, TabledBody, AreTabled, NodeAt}
-use Rattle.sq_term_fit.specs.Rooms.{RowFits, AreRoomy, EntryFits}
+use Rattle.sq_term_laws.specs.Fits.{Bounds, AreBounds, IsMachine, TabledBody, AreTabled, NodeAt}
+use Rattle.sq_term_laws.specs.Roomy.{RowFits, AreRoomy, EntryFits}
 use Rattle.sq_plan_laws.specs.Entry.{plan_tree, IsPlan}
 use Rattle.sq_plan_laws.specs.Room.{IsRoomy}
-use Rattle.sq_rooms.specs.Held.{AreHeldInside}
-use Rattle.sq_rooms.specs.Overlapping.{OverlapsStand}
+use Rattle.sq_term_laws.specs.Held.{AreHeldInside}
+use Rattle.sq_term_laws.specs.Overlapping.{OverlapsStand}
 use Rattle.sq_forms_fit.specs.Rows.{FormsFit}
 use Rattle.sq_forms_fit.specs.Entry.{entry_shapes}
 use Rattle.sq_draft_laws.specs.Scope.{InScope, HomesAreNear}

@@ -1,3 +1,13 @@
+pub mod Given
+pub mod Choosing
+pub mod Programs
+pub mod Homes
+pub mod Levels
+pub mod Drafts
+pub mod Numbers
+pub mod Owned
+pub mod Lanes
+pub mod Placeable
 pub mod Memories
 pub mod Leaves
 pub mod Opened

@@ -3,7 +3,7 @@ use Rattle.std.specs.Prelude.{map}
 use Rattle.sq_machfile.specs.declared.node.Node.{Node}
 use Rattle.sq_machfile.specs.Machines.{Hierarchy, WithinLimits}
 use Rattle.sq_ir.specs.declared.plan.PlanNode.{PlanNode}
-use Rattle.sq_homes_laws.specs.Choosing.{AreMemories}
+use Rattle.sq_draft_laws.specs.Choosing.{AreMemories}
 
 -- a node without its name
 abbrev pub plan_node : Node → PlanNode

@@ -14,8 +14,8 @@ use Rattle.sq_placed.specs.declared.home.Home.TheVariants.{InPlace}
 use Rattle.sq_placed.specs.Pipes.{PipesStand}
 use Rattle.sq_placed.specs.declared.home.Homes.{Homes}
 use Rattle.sq_plan_laws.specs.Seated.{IsNear}
-use Rattle.sq_rooms.specs.Held.{AreHeldInside}
-use Rattle.sq_rooms.specs.Overlapping.{OverlapsStand}
+use Rattle.sq_term_laws.specs.Held.{AreHeldInside}
+use Rattle.sq_term_laws.specs.Overlapping.{OverlapsStand}
 
 -- the view's buffer is in scope, and of the level of the node in force
 pub record IsSeen (s : Setting) (env : Env) (buffers : List ℕ) (v : LeafView) : Type 0 where

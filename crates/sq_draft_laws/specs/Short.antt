@@ -5,7 +5,7 @@ use Rattle.sq_forms.specs.Steps.{Key}
 use Rattle.sq_spec.specs.declared.resolved.Resolved.{Resolved}
 use Rattle.sq_term.specs.Terms.{body_in}
 use Rattle.sq_homes.specs.Drafts.{bodies_of}
-use Rattle.sq_homes_laws.specs.Choosing.{Walked}
+use Rattle.sq_draft_laws.specs.Choosing.{Walked}
 use Rattle.sq_draft_laws.specs.Paths.{PathsFit, LeavesAreSmall}
 
 abbrev pub round_by : Option (Key × Found) → ℕ

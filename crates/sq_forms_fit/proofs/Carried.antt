@@ -17,9 +17,9 @@ use Rattle.sq_placed.specs.Tables.{no_shape, placed_args, leaves_loop, leaving_a
 use Rattle.sq_placed.specs.Tables.{with_rect, held_arg}
 use Rattle.sq_cells.proofs.Access.{end_or_below}
 use Rattle.sq_cells.specs.Work.{Held}
-use Rattle.sq_placed_bytes.specs.Calling.{place_of}
-use Rattle.sq_placed_bytes.proofs.Lists.{same_some}
-use Rattle.sq_rooms.specs.Orders.{EachOf}
+use Rattle.sq_plan_laws.specs.Calling.{place_of}
+use Rattle.sq_plan_laws.proofs.PlacedLists.{same_some}
+use Rattle.sq_term_laws.specs.Orders.{EachOf}
 use Rattle.sq_forms_fit.specs.Held.{StandsApart, Stays}
 use Rattle.sq_forms_fit.specs.Rows.{without_block}
 use Rattle.sq_forms_fit.proofs.Facts.{passed, passed_at, passed_there, passed_home}

@@ -10,8 +10,8 @@ use Rattle.sq_work.specs.declared.reduction.Reduction.{Reduction}
 use Rattle.sq_ir.specs.Events.{Leaves}
 use Rattle.sq_cells.specs.Tree.{Cause}
 use Rattle.sq_cells.specs.Lowered.{in_place}
-use Rattle.sq_placed_bytes.specs.Calling.{place_of}
-use Rattle.sq_placed_bytes.proofs.Lists.{same_some}
+use Rattle.sq_plan_laws.specs.Calling.{place_of}
+use Rattle.sq_plan_laws.proofs.PlacedLists.{same_some}
 use Rattle.sq_plan_laws.specs.Seated.{HasDims, IsNear}
 use Rattle.sq_spec_laws.specs.TableRows.{Table, tables_step, tables_of, tables_in}
 use Rattle.sq_spec_laws.specs.Ones.{Kind, kind_step}
@@ -35,8 +35,8 @@ use Rattle.sq_placed.specs.declared.home.Home.{Home}
 use Rattle.sq_placed.specs.declared.home.Home.TheVariants.{InPlace, Own, Held}
 use Rattle.sq_placed.specs.declared.home.Homes.{Homes}
 use Rattle.sq_placed.specs.Tables.{leaving_chain, row_rect, chain_row, placed_of}
-use Rattle.sq_rooms.specs.Orders.{EachOf, Round, round_step, rounds_in, rounds_of}
-use Rattle.sq_rooms.specs.Held.{IsHeldRow, AreHeldRows}
+use Rattle.sq_term_laws.specs.Orders.{EachOf, Round, round_step, rounds_in, rounds_of}
+use Rattle.sq_term_laws.specs.Held.{IsHeldRow, AreHeldRows}
 use Rattle.sq_forms_fit.specs.Held.{Begun, begun_step, begun, loops_of, StandsApart, Stays, LoopHolds}
 use Rattle.sq_forms_fit.specs.Held.{HoldsFit}
 use Rattle.sq_forms_fit.proofs.Loops.{Nest, a_call, a_loop, as_statement, nest_fold, nest_is, nest_begun, nothing_more, chain, each_at}

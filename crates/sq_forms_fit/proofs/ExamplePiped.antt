@@ -28,14 +28,14 @@ use Rattle.sq_placed.specs.Pipes.{more_heads, IsPiped}
 use Rattle.sq_cells.specs.Tree.{Cause}
 use Rattle.sq_cells.specs.Lowered.{in_place}
 use Rattle.sq_cells.specs.Work.{Buffer}
-use Rattle.sq_placed_bytes.specs.Calling.{place_of}
-use Rattle.sq_placed_bytes.proofs.Lists.{same_some}
+use Rattle.sq_plan_laws.specs.Calling.{place_of}
+use Rattle.sq_plan_laws.proofs.PlacedLists.{same_some}
 use Rattle.sq_plan_laws.specs.Seated.{HasDims, IsNear}
 use Rattle.sq_spec_laws.specs.TableRows.{Table, tables_step, tables_of, tables_in}
 use Rattle.sq_spec_laws.specs.Ones.{Kind, kind_step}
 use Rattle.sq_spec_laws.specs.Filled.{filled_step}
-use Rattle.sq_rooms.specs.Orders.{EachOf, Round, round_step, rounds_in, rounds_of}
-use Rattle.sq_rooms.specs.Held.{IsHeldRow, AreHeldRows}
+use Rattle.sq_term_laws.specs.Orders.{EachOf, Round, round_step, rounds_in, rounds_of}
+use Rattle.sq_term_laws.specs.Held.{IsHeldRow, AreHeldRows}
 use Rattle.sq_forms_fit.specs.Held.{Begun, begun_step, begun, loops_of, Stays, LoopHolds, HoldsFit}
 use Rattle.sq_forms_fit.specs.Piped.{IsDoubled, home_of, IsClear, MayOverlap, LoopOverlaps, PipesFit}
 use Rattle.sq_forms_fit.specs.Facts.{ArgFacts, RowFacts}

@@ -17,10 +17,10 @@ use Rattle.sq_placed.specs.declared.home.Homes.{Homes}
 use Rattle.sq_placed.specs.Placed.{PlacedArg, PlacedLocal, PlacedCall, arguments}
 use Rattle.sq_placed.specs.Tables.{no_shape, placed_args, placed_locals, placed_call}
 use Rattle.sq_cells.specs.Lowered.{in_place}
-use Rattle.sq_placed_bytes.specs.Calling.{place_of, shapes_of, PassedFits, ArgsFit}
-use Rattle.sq_placed_bytes.specs.OnBytes.{which_of, which_by}
-use Rattle.sq_placed_bytes.specs.Fitting.{CallIs, whole}
-use Rattle.sq_placed_bytes.specs.Keeping.{may_by, may_of}
+use Rattle.sq_plan_laws.specs.Calling.{place_of, shapes_of, PassedFits, ArgsFit}
+use Rattle.sq_plan_laws.specs.OnBytes.{which_of, which_by}
+use Rattle.sq_plan_laws.specs.Fitting.{CallIs, whole}
+use Rattle.sq_plan_laws.specs.Keeping.{may_by, may_of}
 use Rattle.sq_ir.specs.Events.{Leaves}
 use Rattle.sq_cells.specs.Tree.{Cause}
 use Rattle.sq_spec_laws.specs.TableRows.{Table}
@@ -30,8 +30,8 @@ use Rattle.sq_placed.specs.declared.home.Home.TheVariants as home
 use Rattle.sq_plan_laws.specs.Seated.{IsOwned, IsNear, CallSits}
 use Rattle.sq_forms_fit.specs.Rows.{operator_of, without_block, RowKeeps, RowFits}
 use Rattle.sq_forms_fit.specs.Facts.{ReducedFacts, RowFacts, FactsFit}
-use Rattle.sq_placed_bytes.proofs.Lists.{same_some, there_below}
-use Rattle.sq_placed_bytes.proofs.Gathered.{lengths_whole}
+use Rattle.sq_plan_laws.proofs.PlacedLists.{same_some, there_below}
+use Rattle.sq_plan_laws.proofs.Gathered.{lengths_whole}
 
 -- ---- the position of what is reduced into
 

@@ -21,8 +21,8 @@ use Rattle.sq_ir.specs.Written.{Setting}
 use Rattle.sq_placed.specs.Placed.{Placed, PlacedArg, PlacedCall, Call, arguments, plain}
 use Rattle.sq_cells.specs.Cells.{spot, State}
 use Rattle.sq_cells.specs.Tree.{Cause}
-use Rattle.sq_placed_bytes.specs.Codes.{loaded, Codes}
-use Rattle.sq_placed_bytes.specs.Fitting.{whole}
+use Rattle.sq_plan_laws.specs.Codes.{loaded, Codes}
+use Rattle.sq_plan_laws.specs.Fitting.{whole}
 use Rattle.sq_plan_laws.specs.Entry.{plan_tree, held_in, EndsSo, IsPlan}
 use Rattle.sq_plan_laws.proofs.Entry.{plans_follow}
 use Rattle.sq_forms_fit.specs.Entry.{IsWhole, AreWhole, ReadCodes, EntriesFollow}

@@ -17,8 +17,8 @@ use Rattle.sq_placed.specs.declared.home.Home.TheVariants.{InPlace, Held}
 use Rattle.sq_placed.specs.declared.home.Homes.{Homes}
 use Rattle.sq_placed.specs.Tables.{Chain, one_more, chain_of, call_chain, first_of}
 use Rattle.sq_cells.proofs.Access.{end_or_below}
-use Rattle.sq_placed_bytes.proofs.Lists.{same_some}
-use Rattle.sq_rooms.specs.Orders.{EachOf, params_of}
+use Rattle.sq_plan_laws.proofs.PlacedLists.{same_some}
+use Rattle.sq_term_laws.specs.Orders.{EachOf, params_of}
 use Rattle.sq_forms_fit.specs.Held as held
 use Rattle.sq_forms_fit.specs.Held.{BegunLoop, Begun, row_list, loop_list, begun_step, begun, LoopHolds}
 

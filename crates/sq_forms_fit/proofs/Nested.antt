@@ -31,17 +31,17 @@ use Rattle.sq_cells.specs.Lowered as lowered
 use Rattle.sq_cells.specs.Lowered.{stays, in_place}
 use Rattle.sq_cells.specs.Tree.{Cause}
 use Rattle.sq_cells.specs.Work.{Held}
-use Rattle.sq_placed_bytes.specs.Calling.{place_of}
-use Rattle.sq_placed_bytes.specs.OnBytes.{Codings}
-use Rattle.sq_placed_bytes.specs.Fitting.{NoLeaf, Fitting}
-use Rattle.sq_placed_bytes.specs.Keeping.{CallBase, CallIn, AllCalls, OneCall, HoldKeeps, may_of, Keep, Keeping}
-use Rattle.sq_placed_bytes.specs.LeafLaws.{codes_of}
-use Rattle.sq_placed_bytes.proofs.Lists.{same_some}
+use Rattle.sq_plan_laws.specs.Calling.{place_of}
+use Rattle.sq_plan_laws.specs.OnBytes.{Codings}
+use Rattle.sq_plan_laws.specs.Fitting.{NoLeaf, Fitting}
+use Rattle.sq_plan_laws.specs.Keeping.{CallBase, CallIn, AllCalls, OneCall, HoldKeeps, may_of, Keep, Keeping}
+use Rattle.sq_plan_laws.specs.LeafLaws.{codes_of}
+use Rattle.sq_plan_laws.proofs.PlacedLists.{same_some}
 use Rattle.sq_ir.specs.Events.{Leaves}
 use Rattle.sq_spec_laws.specs.TableRows.{Table}
 use Rattle.sq_plan_laws.specs.Seated.{HeldSits, Sits}
-use Rattle.sq_rooms.specs.Orders.{EachOf, params_of}
-use Rattle.sq_rooms.specs.Held.{IsHeldRow}
+use Rattle.sq_term_laws.specs.Orders.{EachOf, params_of}
+use Rattle.sq_term_laws.specs.Held.{IsHeldRow}
 use Rattle.sq_forms_fit.specs.Held.{row_list}
 use Rattle.sq_forms_fit.specs.Rows.{operator_of, RowFits, TableFits, IsFit}
 use Rattle.sq_forms_fit.proofs.Loops.{some_of, front_at, each_at, each_map, Nest, a_call, a_loop}

@@ -23,10 +23,10 @@ use Rattle.sq_cells.specs.Lowered as lowered
 use Rattle.sq_cells.specs.Lowered.{in_place}
 use Rattle.sq_cells.specs.Tree.{Cause}
 use Rattle.sq_cells.specs.Work.{Buffer, Held}
-use Rattle.sq_placed_bytes.specs.Calling.{place_of}
-use Rattle.sq_placed_bytes.specs.OnBytes.{Codings, arity_of}
-use Rattle.sq_placed_bytes.specs.Fitting.{NoLeaf, Fitting}
-use Rattle.sq_placed_bytes.specs.Keeping.{LoopKeeps, TakenKeeps, Keep}
+use Rattle.sq_plan_laws.specs.Calling.{place_of}
+use Rattle.sq_plan_laws.specs.OnBytes.{Codings, arity_of}
+use Rattle.sq_plan_laws.specs.Fitting.{NoLeaf, Fitting}
+use Rattle.sq_plan_laws.specs.Keeping.{LoopKeeps, TakenKeeps, Keep}
 use Rattle.sq_plan_laws.specs.Seated.{Sits}
 use Rattle.sq_plan_laws.proofs.Places.{length-mapped, length-joined}
 use Rattle.sq_forms_fit.specs.Piped.{IsDoubled, IsClear, IsClearAhead, LoopOverlaps}

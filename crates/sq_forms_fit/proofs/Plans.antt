@@ -19,15 +19,15 @@ use Rattle.sq_placed.specs.Placed.{PlacedArg, PlacedLocal, PlacedCall, arguments
 use Rattle.sq_placed.specs.Tables.{no_shape, placed_of, entry_call_placed, entry_placed}
 use Rattle.sq_placed.proofs.Plain.{plain_args}
 use Rattle.sq_cells.specs.Tree.{Cause}
-use Rattle.sq_placed_bytes.specs.Coordinates.{Fits}
+use Rattle.sq_plan_laws.specs.Coordinates.{Fits}
 use Rattle.sq_cells.specs.Lowered.{held}
-use Rattle.sq_placed_bytes.specs.Calling.{place_of, PassedFits, ArgsFit, shapes_of}
-use Rattle.sq_placed_bytes.specs.OnBytes.{work}
-use Rattle.sq_placed_bytes.specs.Fitting.{IsPlain, whole, Fitting}
-use Rattle.sq_placed_bytes.specs.Keeping.{CallKeeps, may_by, may_of}
-use Rattle.sq_placed_bytes.specs.Entry.{EntryStowed}
-use Rattle.sq_placed_bytes.specs.LeafLaws.{codes_of}
-use Rattle.sq_placed_bytes.proofs.Gathered.{lengths_whole}
+use Rattle.sq_plan_laws.specs.Calling.{place_of, PassedFits, ArgsFit, shapes_of}
+use Rattle.sq_plan_laws.specs.OnBytes.{work}
+use Rattle.sq_plan_laws.specs.Fitting.{IsPlain, whole, Fitting}
+use Rattle.sq_plan_laws.specs.Keeping.{CallKeeps, may_by, may_of}
+use Rattle.sq_plan_laws.specs.PlacedEntry.{EntryStowed}
+use Rattle.sq_plan_laws.specs.LeafLaws.{codes_of}
+use Rattle.sq_plan_laws.proofs.Gathered.{lengths_whole}
 use Rattle.sq_plan_laws.specs.Seated.{CallSits, IsNear, IsOwned, Sits, at_node}
 use Rattle.sq_plan_laws.specs.Entry.{form_at, IsPlan}
 use Rattle.sq_forms_fit.specs.Rows.{FormsFit, IsFit}

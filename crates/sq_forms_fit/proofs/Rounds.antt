@@ -15,9 +15,9 @@ use Rattle.sq_spec.specs.declared.body.Body.TheVariants as body
 use Rattle.sq_spec_laws.specs.TableRows.{Table, red_of, all_tables, tables_step, tables_of, tables_in}
 use Rattle.sq_placed.specs.declared.home.Home.TheVariants.{InPlace, Held}
 use Rattle.sq_placed.specs.declared.home.Homes.{Homes}
-use Rattle.sq_rooms.specs.Orders.{EachOf, Round, all_rounds, map_rounds, round_step, rounds_in, rounds_of}
-use Rattle.sq_rooms.specs.Held.{IsHeldRow, AreHeldRows}
-use Rattle.sq_placed_bytes.proofs.Lists.{same_some}
+use Rattle.sq_term_laws.specs.Orders.{EachOf, Round, all_rounds, map_rounds, round_step, rounds_in, rounds_of}
+use Rattle.sq_term_laws.specs.Held.{IsHeldRow, AreHeldRows}
+use Rattle.sq_plan_laws.proofs.PlacedLists.{same_some}
 use Rattle.sq_forms_fit.proofs.Loops.{each_at}
 
 -- ---- equations of folds

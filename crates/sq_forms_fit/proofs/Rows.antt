@@ -31,25 +31,25 @@ use Rattle.sq_placed.specs.Tables.{pipe_of, pipe_placed}
 use Rattle.sq_placed.specs.Tables.{Pipe, row_call, row_body, lanes_of, placed_rule, one_more}
 use Rattle.sq_placed.specs.Pipes as pipes
 use Rattle.sq_placed.specs.Pipes.{CallLoops, loop_round, call_loops_step, call_loops}
-use Rattle.sq_placed_bytes.specs.Keeping.{TakenKeeps}
-use Rattle.sq_placed_bytes.proofs.Lists.{same_some}
+use Rattle.sq_plan_laws.specs.Keeping.{TakenKeeps}
+use Rattle.sq_plan_laws.proofs.PlacedLists.{same_some}
 use Rattle.sq_forms_fit.specs.Piped.{MayOverlap, LoopOverlaps}
 use Rattle.sq_forms_fit.proofs.Overlapped.{as_call, free_pipe}
 use Rattle.sq_placed.proofs.Pipes.{loops_call, loops_map, IsTaken, taken, chains_placed}
 use Rattle.sq_placed.proofs.Opened.{part_call, part_map}
 use Rattle.sq_cells.specs.Tree.{Cause}
-use Rattle.sq_placed_bytes.specs.OnBytes.{Codings, which_of}
-use Rattle.sq_placed_bytes.specs.Fitting.{IsOne, Fitting}
-use Rattle.sq_placed_bytes.specs.Keeping.{Keeping}
-use Rattle.sq_placed_bytes.specs.LeafLaws.{codes_of}
+use Rattle.sq_plan_laws.specs.OnBytes.{Codings, which_of}
+use Rattle.sq_plan_laws.specs.Fitting.{IsOne, Fitting}
+use Rattle.sq_plan_laws.specs.Keeping.{Keeping}
+use Rattle.sq_plan_laws.specs.LeafLaws.{codes_of}
 use Rattle.sq_ir.specs.Events.{Leaves}
 use Rattle.sq_spec.specs.Statements.{over}
 use Rattle.sq_spec_laws.specs.TableRows.{Table, red_of, all_tables, tables_step, tables_of, tables_in}
 use Rattle.sq_spec_laws.specs.Ones.{Kind, all_ones, one_call, body_ones, kind_step, kind_of}
 use Rattle.sq_spec_laws.specs.Filled.{all_below, all_filled, filled_step, filled}
 use Rattle.sq_plan_laws.specs.Seated.{Sits}
-use Rattle.sq_rooms.specs.Orders.{EachOf, Round, all_rounds, map_rounds, round_step, rounds_in}
-use Rattle.sq_rooms.specs.Held.{IsHeldRow, AreHeldRows}
+use Rattle.sq_term_laws.specs.Orders.{EachOf, Round, all_rounds, map_rounds, round_step, rounds_in}
+use Rattle.sq_term_laws.specs.Held.{IsHeldRow, AreHeldRows}
 use Rattle.sq_forms_fit.specs.Held as held
 use Rattle.sq_forms_fit.specs.Held.{Begun, begun_step, begun, LoopHolds}
 use Rattle.sq_forms_fit.specs.Rows.{operator_of, TableFits, ListFits, BodyFits, FormsFit}

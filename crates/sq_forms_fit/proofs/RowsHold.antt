@@ -65,9 +65,9 @@ use Rattle.sq_placed.specs.declared.home.Home.TheVariants as home
 use Rattle.sq_placed.specs.declared.home.Homes.{Homes}
 use Rattle.sq_cells.specs.Work.{Buffer}
 use Rattle.sq_cells.specs.Lowered.{in_place}
-use Rattle.sq_placed_bytes.specs.Coordinates.{Fits}
-use Rattle.sq_placed_bytes.specs.Calling.{place_of}
-use Rattle.sq_placed_bytes.specs.Fitting.{whole}
+use Rattle.sq_plan_laws.specs.Coordinates.{Fits}
+use Rattle.sq_plan_laws.specs.Calling.{place_of}
+use Rattle.sq_plan_laws.specs.Fitting.{whole}
 use Rattle.sq_plan_laws.specs.Seated.{IsNear}
 use Rattle.sq_forms_fit.specs.Facts.{ArgFacts, SumFacts, ReducedFacts, RowFacts, home_at}
 use Rattle.sq_forms_fit.specs.Rows.{without_block}

@@ -16,7 +16,7 @@ use Rattle.sq_placed.specs.Placed.{Placed}
 use Rattle.sq_placed.specs.Tables.{Chain, chain_of, first_of, row_form, overlapped, lanes_of, Pipe, pipe_by, pipe_of}
 use Rattle.sq_placed.specs.Tables.{PlacedPart, chains, statement_placed}
 use Rattle.sq_placed.proofs.Opened.{part_call, part_map}
-use Rattle.sq_placed_bytes.proofs.Lists.{same_some}
+use Rattle.sq_plan_laws.proofs.PlacedLists.{same_some}
 use Rattle.sq_forms_fit.specs.Held as held
 use Rattle.sq_forms_fit.specs.Held.{Begun, begun}
 use Rattle.sq_forms_fit.proofs.Loops.{begun_call, begun_map, Nest, a_call, a_loop}

@@ -3,8 +3,8 @@ use Rattle.std.proofs.Common.{◌≡◌, ℕ, get_or, Option, Some, None, slice_
 use Rattle.sq_spec.specs.declared.statement.CallInstance.{CallInstance}
 use Rattle.sq_placed.specs.declared.home.Home.TheVariants.{InPlace, Held}
 use Rattle.sq_placed.specs.declared.home.Homes.{Homes}
-use Rattle.sq_rooms.specs.Orders.{rounds_of, params_of}
-use Rattle.sq_rooms.specs.Held.{IsHeldRow}
+use Rattle.sq_term_laws.specs.Orders.{rounds_of, params_of}
+use Rattle.sq_term_laws.specs.Held.{IsHeldRow}
 use Rattle.sq_forms_fit.specs.Held.{loops_of, UnheldFits}
 use Rattle.sq_forms_fit.proofs.Loops.{each_from}
 

@@ -3,7 +3,7 @@ use Rattle.std.proofs.Common.{◌≡◌, ℕ, true, false, List, [], ◌∷◌, 
 use Rattle.sq_placed.specs.declared.home.Homes.{Homes}
 use Rattle.sq_placed.specs.Tables.{row_form}
 use Rattle.sq_placed.specs.Pipes.{CallLoop, call_loops_of, LoopsStand}
-use Rattle.sq_rooms.specs.Orders.{EachOf}
+use Rattle.sq_term_laws.specs.Orders.{EachOf}
 use Rattle.sq_forms_fit.specs.Piped.{MayOverlap, UnpipedFits, PipesFitStand}
 use Rattle.sq_forms_fit.proofs.Loops.{each_from}
 

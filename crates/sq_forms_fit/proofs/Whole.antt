@@ -38,8 +38,8 @@ use Rattle.sq_placed.specs.Pipes.{call_loops_of}
 use Rattle.sq_cells.specs.Tree.{Cause}
 use Rattle.sq_forms_fit.specs.Rows.{TableFits, ListFits, LeafFits, BodyFits, FormsFit}
 use Rattle.sq_forms_fit.proofs.Facts.{facts_fit}
-use Rattle.sq_rooms.specs.Orders.{EachOf, rounds_of}
-use Rattle.sq_rooms.specs.Held.{AreHeldRows}
+use Rattle.sq_term_laws.specs.Orders.{EachOf, rounds_of}
+use Rattle.sq_term_laws.specs.Held.{AreHeldRows}
 use Rattle.sq_forms_fit.specs.Held.{HoldsFit, LoopHolds, loops_of}
 use Rattle.sq_forms_fit.specs.Piped.{MayOverlap, PipesFit}
 use Rattle.sq_forms_fit.specs.Homes.{may_write, mays_of, bodies_of, HomesFit, LeavesStand}

@@ -19,11 +19,11 @@ use Rattle.sq_placed.specs.Placed.{Placed, PlacedArg, PlacedCall, Call, plain}
 use Rattle.sq_placed.specs.Tables.{entry_placed}
 use Rattle.sq_cells.specs.Cells.{spot, State}
 use Rattle.sq_cells.specs.Tree.{Cause}
-use Rattle.sq_placed_bytes.specs.Codes.{loaded}
-use Rattle.sq_placed_bytes.specs.OnBytes.{work}
-use Rattle.sq_placed_bytes.specs.Fitting.{whole}
-use Rattle.sq_placed_bytes.specs.Entry.{EntryStowed}
-use Rattle.sq_placed_bytes.specs.LeafLaws.{codes_of}
+use Rattle.sq_plan_laws.specs.Codes.{loaded}
+use Rattle.sq_plan_laws.specs.OnBytes.{work}
+use Rattle.sq_plan_laws.specs.Fitting.{whole}
+use Rattle.sq_plan_laws.specs.PlacedEntry.{EntryStowed}
+use Rattle.sq_plan_laws.specs.LeafLaws.{codes_of}
 use Rattle.sq_plan_laws.specs.Seated.{HasDims, Sits, at_node}
 use Rattle.sq_plan_laws.specs.Entry.{form_at, plan_tree, held_in, EndsSo, IsPlan}
 use Rattle.sq_forms_fit.specs.Rows.{FormsFit}

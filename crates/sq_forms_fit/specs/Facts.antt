@@ -15,9 +15,9 @@ use Rattle.sq_placed.specs.declared.home.Home.TheVariants.{InPlace}
 use Rattle.sq_placed.specs.declared.home.Homes.{Homes}
 use Rattle.sq_cells.specs.Work.{Buffer}
 use Rattle.sq_cells.specs.Lowered.{in_place}
-use Rattle.sq_placed_bytes.specs.Coordinates.{Fits}
-use Rattle.sq_placed_bytes.specs.Calling.{place_of}
-use Rattle.sq_placed_bytes.specs.Fitting.{whole}
+use Rattle.sq_plan_laws.specs.Coordinates.{Fits}
+use Rattle.sq_plan_laws.specs.Calling.{place_of}
+use Rattle.sq_plan_laws.specs.Fitting.{whole}
 use Rattle.sq_ir.specs.Events.{Leaves}
 use Rattle.sq_cells.specs.Tree.{Cause}
 use Rattle.sq_spec_laws.specs.TableRows.{Table}

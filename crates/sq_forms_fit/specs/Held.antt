@@ -26,8 +26,8 @@ use Rattle.sq_spec.specs.Statements.{over}
 use Rattle.sq_placed.specs.declared.home.Home.TheVariants.{InPlace, Held}
 use Rattle.sq_placed.specs.declared.home.Homes.{Homes}
 use Rattle.sq_placed.specs.Tables.{Chain, chain_of, call_chain, first_of, row_rect}
-use Rattle.sq_rooms.specs.Orders.{EachOf, params_of}
-use Rattle.sq_rooms.specs.Held.{AreHeldInside}
+use Rattle.sq_term_laws.specs.Orders.{EachOf, params_of}
+use Rattle.sq_term_laws.specs.Held.{AreHeldInside}
 
 -- ---- the loops that a form begins
 

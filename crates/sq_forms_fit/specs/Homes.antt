@@ -19,8 +19,8 @@ use Rattle.sq_spec.specs.Bodies.{body_of}
 use Rattle.sq_placed.specs.declared.home.Home.TheVariants.{InPlace}
 use Rattle.sq_placed.specs.declared.home.Homes.{Homes}
 use Rattle.sq_cells.specs.Tree.{Cause}
-use Rattle.sq_placed_bytes.specs.Fitting.{LeafCoded}
-use Rattle.sq_placed_bytes.specs.LeafLaws.{codes_of}
+use Rattle.sq_plan_laws.specs.Fitting.{LeafCoded}
+use Rattle.sq_plan_laws.specs.LeafLaws.{codes_of}
 use Rattle.sq_plan_laws.specs.Seated.{LeafSits}
 
 -- ---- what may be written

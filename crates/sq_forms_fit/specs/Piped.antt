@@ -21,8 +21,8 @@ use Rattle.sq_placed.specs.declared.home.Homes.{Homes}
 use Rattle.sq_placed.specs.Tables.{row_form}
 use Rattle.sq_placed.specs.Pipes.{CallLoop, call_loops_of, IsPiped, PipesStand, NonePiped}
 use Rattle.sq_cells.specs.Work.{Buffer}
-use Rattle.sq_placed_bytes.specs.Calling.{place_of}
-use Rattle.sq_rooms.specs.Orders.{EachOf}
+use Rattle.sq_plan_laws.specs.Calling.{place_of}
+use Rattle.sq_term_laws.specs.Orders.{EachOf}
 
 -- it has two buffers, or leaves loops
 abbrev pub IsDoubled : Home → Type 0

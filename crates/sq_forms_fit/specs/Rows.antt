@@ -22,13 +22,13 @@ use Rattle.sq_placed.specs.Pipes.{call_loops_of}
 use Rattle.sq_cells.specs.Tree.{Cause}
 use Rattle.sq_cells.specs.Lowered.{in_place}
 use Rattle.sq_cells.specs.Work.{Buffer}
-use Rattle.sq_placed_bytes.specs.Calling.{place_of, shapes_of}
-use Rattle.sq_placed_bytes.specs.Fitting.{CallIs, LeafCoded, Fitting}
-use Rattle.sq_placed_bytes.specs.Keeping.{may_of, Keeping}
-use Rattle.sq_placed_bytes.specs.LeafLaws.{codes_of}
+use Rattle.sq_plan_laws.specs.Calling.{place_of, shapes_of}
+use Rattle.sq_plan_laws.specs.Fitting.{CallIs, LeafCoded, Fitting}
+use Rattle.sq_plan_laws.specs.Keeping.{may_of, Keeping}
+use Rattle.sq_plan_laws.specs.LeafLaws.{codes_of}
 use Rattle.sq_plan_laws.specs.Seated.{CallSits, LeafSits, Sits}
-use Rattle.sq_rooms.specs.Orders.{EachOf, rounds_of}
-use Rattle.sq_rooms.specs.Held.{AreHeldRows}
+use Rattle.sq_term_laws.specs.Orders.{EachOf, rounds_of}
+use Rattle.sq_term_laws.specs.Held.{AreHeldRows}
 use Rattle.sq_forms_fit.specs.Held.{LoopHolds, loops_of}
 use Rattle.sq_forms_fit.specs.Piped.{MayOverlap}
 

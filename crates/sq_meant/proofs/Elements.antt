@@ -9,10 +9,10 @@ use Rattle.sq_rect.proofs.Placing.{inside}
 use Rattle.sq_leaf.specs.declared.shape.Shape.{Shape}
 use Rattle.sq_flat.specs.Blocks.{element}
 use Rattle.sq_flat.proofs.Standing.{element_is}
-use Rattle.sq_placed_bytes.specs.Codes.{listed, loaded}
-use Rattle.sq_placed_bytes.specs.Coordinates.{number}
-use Rattle.sq_placed_bytes.proofs.Lists.{listed_same, listed_all}
-use Rattle.sq_placed_bytes.proofs.Coordinates.{byte_below}
+use Rattle.sq_plan_laws.specs.Codes.{listed, loaded}
+use Rattle.sq_plan_laws.specs.Coordinates.{number}
+use Rattle.sq_plan_laws.proofs.PlacedLists.{listed_same, listed_all}
+use Rattle.sq_plan_laws.proofs.Coordinates.{byte_below}
 
 -- so many bytes from a place on
 pub cut_long : (size at : ℕ) (list : List ℕ) → at + size ≤ length list → length (take size (drop at list)) ≡ size

@@ -12,7 +12,7 @@ use Rattle.sq_ir.specs.Events.{Bytes, Event}
 use Rattle.sq_ir.specs.Scopes.{Scope}
 use Rattle.sq_ir.specs.Plans.{setting_of}
 use Rattle.sq_ir.specs.declared.plan.Plan.{Plan}
-use Rattle.sq_placed_bytes.specs.Codes.{Codes}
+use Rattle.sq_plan_laws.specs.Codes.{Codes}
 use Rattle.sq_plan_laws.specs.Entry.{held_in, EndsSo}
 use Rattle.sq_tree.specs.declared.runs.RunEnd.{RunEnd}
 use Rattle.sq_tree.specs.declared.runs.RunEnd.TheVariants.{Trapped, SinkFault}

@@ -12,7 +12,7 @@ use Rattle.sq_num.specs.declared.Elem.TheVariants.{Byte, Int, Long}
 use Rattle.sq_num.specs.Elements.{width}
 use Rattle.sq_rect.specs.Extents.{product}
 use Rattle.sq_leaf.specs.declared.shape.Shape.{Shape}
-use Rattle.sq_placed_bytes.specs.Codes.{bytes_in}
+use Rattle.sq_plan_laws.specs.Codes.{bytes_in}
 use Rattle.sq_flat.specs.Memory.{size_of}
 use Rattle.sq_ir.specs.Plans.{setting_of, HaveRoom, IsLive, node_at}
 use Rattle.sq_ir.specs.declared.plan.Plan.{Plan}

@@ -19,14 +19,14 @@ use Rattle.sq_tree.specs.declared.runs.RunEnd.{RunEnd}
 use Rattle.sq_tree.specs.Bank.{BankSeen, bytes_at, bytes_in, leaves_in, IsPrepared}
 use Rattle.sq_tree.specs.Runs.{TellsFirst}
 use Rattle.sq_root.specs.Places.{Fits}
-use Rattle.sq_placed_bytes.specs.Codes as codes
+use Rattle.sq_plan_laws.specs.Codes as codes
 use Rattle.sq_plan_laws.specs.Entry.{EndsSo}
 use Rattle.sq_homes.specs.Drafts.{args_of, bodies_of, buffers_of, entry_of, IsDraftOf}
 use Rattle.sq_term.specs.Terms.{body_in}
 use Rattle.sq_homes.specs.declared.choice.Choice.{Choice}
-use Rattle.sq_homes_laws.specs.Choosing.{MayBeChosen}
-use Rattle.sq_homes_fit.specs.Homes.{EntriesAreWhole}
-use Rattle.sq_homes_fit.specs.Owned.{DraftsOwn}
+use Rattle.sq_draft_laws.specs.Choosing.{MayBeChosen}
+use Rattle.sq_draft_laws.specs.Homes.{EntriesAreWhole}
+use Rattle.sq_draft_laws.specs.Owned.{DraftsOwn}
 use Rattle.sq_draft_laws.specs.Opened.{WalkedIsThere}
 use Rattle.sq_plan_good.specs.Good.{shapes_in, IsInput}
 use Rattle.sq_plan_good.specs.Planned.{IsGoodPlan}

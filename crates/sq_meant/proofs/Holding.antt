@@ -13,8 +13,8 @@ use Rattle.sq_ir.specs.Plans.{setting_of}
 use Rattle.sq_ir.specs.declared.plan.Plan.{Plan}
 use Rattle.sq_cells.specs.Cells.{spot}
 use Rattle.sq_cells.specs.Machine.{offset_of}
-use Rattle.sq_placed_bytes.specs.Codes.{loaded, Codes}
-use Rattle.sq_placed_bytes.proofs.Lists.{mapped}
+use Rattle.sq_plan_laws.specs.Codes.{loaded, Codes}
+use Rattle.sq_plan_laws.proofs.PlacedLists.{mapped}
 use Rattle.sq_plan_laws.specs.Entry.{held_in}
 use Rattle.sq_tree.specs.Bank.{bytes_at, bytes_in}
 use Rattle.sq_root.specs.declared.place.Place.{Place}

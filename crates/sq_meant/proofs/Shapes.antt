@@ -12,9 +12,9 @@ use Rattle.sq_flat.specs.Held.{extents_in}
 use Rattle.sq_forms_fit.specs.Homes.{params_at}
 use Rattle.sq_forms_fit.proofs.RowsHold.{arrays_are, params_are}
 use Rattle.sq_homes.specs.Drafts.{args_of}
-use Rattle.sq_homes_laws.specs.Choosing.{Walked}
-use Rattle.sq_homes_fit.proofs.Entry.{entry, extents, form, params, args_many}
-use Rattle.sq_homes_fit.proofs.Forms.{tasks, instances, resolving, run_of, bodies_are}
+use Rattle.sq_draft_laws.specs.Choosing.{Walked}
+use Rattle.sq_draft_laws.proofs.Entry.{entry, extents, form, params, args_many}
+use Rattle.sq_draft_laws.proofs.Forms.{tasks, instances, resolving, run_of, bodies_are}
 use Rattle.sq_plan_good.specs.Good.{shapes_in}
 use Rattle.sq_meant.specs.Places.{shapes_of}
 

@@ -5,7 +5,7 @@ ghost use Rattle.sq_meant.specs.Laws.{PlacesFit, BanksHavePlaces, InputsAreHeld,
 ghost use Rattle.sq_meant.specs.Traffic.{RunsCarryTheTraffic};
 
 use sq_draft_laws::laws::resolved_programs_were_walked;
-use sq_homes_fit::{drafts_own_their_buffers, entries_are_whole};
+use sq_draft_laws::{drafts_own_their_buffers, entries_are_whole};
 use sq_ir::laws::good_plans_have_one_result;
 use sq_leaf::Trap;
 use sq_tree::laws::runs_carry_what_the_plan_does;

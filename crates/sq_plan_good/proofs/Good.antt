@@ -34,27 +34,27 @@ use Rattle.sq_ir.proofs.Equations.{written_within}
 use Rattle.sq_ir.proofs.Meeting.{meets_within}
 use Rattle.sq_ir.proofs.Fresh.{normal-entry, fresh-entry}
 use Rattle.sq_cells.specs.Tree.{Cause}
-use Rattle.sq_alike.specs.Alike.{leaf_count, MayRun}
+use Rattle.sq_cells.specs.Alike.{leaf_count, MayRun}
 use Rattle.sq_nests.specs.Stacks.{AreAside}
 use Rattle.sq_nests.specs.Drafts.{whole, IsPlaceable, KeepsRoom}
 use Rattle.sq_placed.specs.declared.home.Homes.{Homes}
 use Rattle.sq_placed.specs.Placed.{Placed, PlacedArg, PlacedCall, plain}
 use Rattle.sq_placed.specs.Tables.{placed_args, placed_of, entry_placed, entry_call_placed}
-use Rattle.sq_placed_bytes.specs.Entry.{EntryStowed}
-use Rattle.sq_placed_bytes.specs.LeafLaws.{codes_of}
-use Rattle.sq_placed_bytes.specs.OnBytes.{work}
+use Rattle.sq_plan_laws.specs.PlacedEntry.{EntryStowed}
+use Rattle.sq_plan_laws.specs.LeafLaws.{codes_of}
+use Rattle.sq_plan_laws.specs.OnBytes.{work}
 use Rattle.sq_term.specs.Terms.{body_in, homes_in, entry_term, buffer_or}
 use Rattle.sq_term.specs.Stands.{AreLeveled}
-use Rattle.sq_term_fit.specs.Fits.{AreTabled}
+use Rattle.sq_term_laws.specs.Fits.{AreTabled}
 use Rattle.sq_plan_laws.specs.Seated.{at_node}
 use Rattle.sq_plan_laws.specs.Entry.{plan_tree, form_at, held_in, IsPlan, EndsSo}
 use Rattle.sq_plan_laws.specs.Room.{IsRoomy, HasRoom}
-use Rattle.sq_rooms.specs.Held.{AreHeldInside}
+use Rattle.sq_term_laws.specs.Held.{AreHeldInside}
 use Rattle.sq_forms_fit.specs.Rows.{FormsFit}
 use Rattle.sq_forms_fit.proofs.Facts.{passed_at}
 use Rattle.sq_forms_fit.specs.Homes as fit
 use Rattle.sq_forms_fit.specs.Homes.{mays_of}
-use Rattle.sq_plan_room.specs.Rooms as rooms
+use Rattle.sq_plan_laws.specs.Rooms as rooms
 use Rattle.sq_forms_fit.specs.Entry.{EntryFacts, ReadCodes, AreWhole, IsWhole}
 use Rattle.sq_forms_fit.specs.Entry.{entry_shapes, anything}
 use Rattle.sq_draft_laws.specs.AtLevels.{IsAtLevel}
@@ -64,15 +64,15 @@ use Rattle.sq_draft_laws.specs.Scope.{HomesAreNear}
 use Rattle.sq_store.specs.Laws.{OffsetsAre, OffsetsAreAsMany}
 use Rattle.sq_homes.specs.declared.choice.Choice.{Choice}
 use Rattle.sq_homes.specs.Drafts.{bodies_of, homes_of, args_of, buffers_of, leaves_of, entry_of, program_term, IsDraftOf}
-use Rattle.sq_homes_laws.specs.Given.{level_at}
+use Rattle.sq_draft_laws.specs.Given.{level_at}
 use Rattle.sq_work.specs.Work.{Work}
 use Rattle.sq_placed.specs.SameWorks.{IsSameWork}
-use Rattle.sq_homes_laws.specs.Choosing.{Walked, MayBeChosen, AreMemories, setting_of}
-use Rattle.sq_homes_fit.specs.Levels.{BeginsAtRoot}
-use Rattle.sq_homes_fit.specs.Drafts.{limits, IsRoomyDraft}
-use Rattle.sq_homes_fit.specs.Owned.{OwnsItsBuffers}
-use Rattle.sq_homes_fit.specs.Placeable.{DraftsAreStackedByForms}
-use Rattle.sq_homes_fit.specs.Lanes.{IsDraftMachine}
+use Rattle.sq_draft_laws.specs.Choosing.{Walked, MayBeChosen, AreMemories, setting_of}
+use Rattle.sq_draft_laws.specs.Levels.{BeginsAtRoot}
+use Rattle.sq_draft_laws.specs.Drafts.{limits, IsRoomyDraft}
+use Rattle.sq_draft_laws.specs.Owned.{OwnsItsBuffers}
+use Rattle.sq_draft_laws.specs.Placeable.{DraftsAreStackedByForms}
+use Rattle.sq_draft_laws.specs.Lanes.{IsDraftMachine}
 use Rattle.sq_draft_laws.specs.Short.{AreShort, round_of}
 use Rattle.sq_plan_good.specs.Parts.{Placing, Laws}
 use Rattle.sq_plan_good.specs.Good.{HasNoRace, IsInput, EndsAsMeant, HasLeafCalls, LeavesAreAtHome}

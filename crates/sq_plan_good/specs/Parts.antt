@@ -5,22 +5,22 @@ use Rattle.sq_plan_laws.specs.Entry.{PlansAreSafe}
 use Rattle.sq_plan_laws.specs.LeafCalls.{PlansCount}
 use Rattle.sq_plan_laws.specs.Room.{PlansInside}
 use Rattle.sq_forms_fit.specs.Laws.{ProgramsFit}
-use Rattle.sq_plan_room.specs.Rooms.{RoomIsStowed}
+use Rattle.sq_plan_laws.specs.Rooms.{RoomIsStowed}
 use Rattle.sq_forms_fit.specs.Entry.{EntriesSit, EntriesArePlans, EntriesFollow}
 use Rattle.sq_forms_fit.specs.LeafCalls.{CallsAreOfTables}
 use Rattle.sq_forms_fit.specs.Written.{PlansAreWritten}
 use Rattle.sq_draft_laws.specs.AtLevels.{LeavesAreAtLevels}
 use Rattle.sq_draft_laws.specs.Laws.{FormsAreNear, PathsAreShort, PlansAreWellFormed}
-use Rattle.sq_homes_laws.specs.Given.{HomesAreLeveled}
+use Rattle.sq_draft_laws.specs.Given.{HomesAreLeveled}
 use Rattle.sq_placed.specs.SameWorks.{SameWorksMean, SameWorksRace}
-use Rattle.sq_homes_laws.specs.Choosing.{ChosenStand}
-use Rattle.sq_homes_laws.specs.Programs.{BodiesAreTables, PlacedIsProgram, TermIsEntrys}
-use Rattle.sq_homes_fit.specs.Homes.{HomesFitForms, EntriesAreWhole}
-use Rattle.sq_homes_fit.specs.Levels.{DraftsBeginAtRoot}
-use Rattle.sq_homes_fit.specs.Drafts.{DraftsAreTabled, DraftsAreRoomy}
-use Rattle.sq_homes_fit.specs.Owned.{DraftsOwn}
-use Rattle.sq_homes_fit.specs.Lanes.{MachinesAreMachines, LanesAreThere}
-use Rattle.sq_homes_fit.specs.Placeable.{DraftsArePlaceable}
+use Rattle.sq_draft_laws.specs.Choosing.{ChosenStand}
+use Rattle.sq_draft_laws.specs.Programs.{BodiesAreTables, PlacedIsProgram, TermIsEntrys}
+use Rattle.sq_draft_laws.specs.Homes.{HomesFitForms, EntriesAreWhole}
+use Rattle.sq_draft_laws.specs.Levels.{DraftsBeginAtRoot}
+use Rattle.sq_draft_laws.specs.Drafts.{DraftsAreTabled, DraftsAreRoomy}
+use Rattle.sq_draft_laws.specs.Owned.{DraftsOwn}
+use Rattle.sq_draft_laws.specs.Lanes.{MachinesAreMachines, LanesAreThere}
+use Rattle.sq_draft_laws.specs.Placeable.{DraftsArePlaceable}
 use Rattle.sq_draft_laws.specs.Leaves.{LeavesOfDraftsStand}
 use Rattle.sq_draft_laws.specs.Opened.{WalkedIsThere}
 use Rattle.sq_draft_laws.specs.Short.{LeavesAreShort}

@@ -1,31 +1,85 @@
-//! The plan of a program's draft is good for the program.
+//! The plan of a program's draft is good for the program; and what nodes need: by the forms that run at them, and by
+//! the scopes of a draft.
 #![tactic(auto)]
 
 ghost use Rattle.sq_plan_good.specs.Good.{DraftsCanBePlaced, WithRoomAreGood, PlacedAreGood, PlacedStandByForms};
+ghost use Rattle.sq_plan_good.specs.Listed.{CallsAreListed};
+ghost use Rattle.sq_plan_good.specs.Loops.{SumsAreOfLoops};
+ghost use Rattle.sq_plan_good.specs.Needed.{NeedsAreSums, SumsAreNeeds, NeedsAreSmall};
+ghost use Rattle.sq_plan_good.specs.Room.{SumsFit, LoopsAreBusy, CallsBring, EndsAreTops};
+ghost use Rattle.sq_plan_good.specs.Sums.{SumsAreOfCalls};
 
 use sq_draft_laws::laws::{
-    leaves_are_short, leaves_of_drafts_stand, resolved_programs_were_walked,
+    bodies_are_tables, buffers_have_their_levels, chosen_forms_stand, leaves_are_short,
+    leaves_of_drafts_stand, placed_is_program, resolved_programs_were_walked,
+    terms_are_those_of_entries,
 };
-use sq_draft_laws::{forms_are_near, leaves_are_at_levels, paths_are_short, plans_are_well_formed};
+use sq_draft_laws::{
+    drafts_are_roomy, drafts_are_stacked_by_forms, drafts_are_tabled, drafts_begin_at_root,
+    drafts_can_be_placed, drafts_own_their_buffers, entries_are_whole, forms_are_near,
+    homes_fit_forms, lanes_are_there, leaves_are_at_levels, memories_are_machines, paths_are_short,
+    plans_are_well_formed,
+};
 use sq_forms_fit::{
     calls_are_of_tables, entries_are_plans, entries_follow, entries_sit, plans_are_written,
     programs_fit,
 };
-use sq_homes_fit::{
-    drafts_are_roomy, drafts_are_stacked_by_forms, drafts_are_tabled, drafts_begin_at_root,
-    drafts_can_be_placed, drafts_own_their_buffers, entries_are_whole, homes_fit_forms,
-    lanes_are_there, memories_are_machines,
-};
-use sq_homes_laws::laws::{
-    bodies_are_tables, buffers_have_their_levels, chosen_forms_stand, placed_is_program,
-    terms_are_those_of_entries,
-};
 use sq_placed::laws::{same_works_mean, same_works_race};
-use sq_plan_laws::{plans_are_safe, plans_count, plans_inside};
-use sq_plan_room::room_is_stowed;
+use sq_plan_laws::{plans_are_safe, plans_count, plans_inside, room_is_stowed};
 use sq_spec::meaning::{tables_are_free_of_races, tables_mean_the_program};
 use sq_store::laws::the_walk_lays_buffers;
 use sq_work::laws::race_free_maps_are_serial;
+
+/// What stands within one another at a node of a draft are the buffers of calls within one another, and of the loops
+/// round them that overlap their transfers.
+pub fn sums_are_of_loops()
+    ensures { SumsAreOfLoops }
+{}
+
+/// Where no loop does, they are those of calls.
+pub fn sums_are_of_calls()
+    ensures { SumsAreOfCalls }
+{}
+
+/// The calls that a form's tables begin are those that are listed for the nodes at which its callees run.
+pub fn calls_are_listed()
+    ensures { CallsAreListed }
+{}
+
+/// What a node needs by the forms that run at it is what it needs by the scopes of a draft.
+pub fn needs_are_sums()
+    ensures { NeedsAreSums }
+{}
+
+/// What a node needs by the scopes of a draft is what it needs by the forms that run at it.
+pub fn sums_are_needs()
+    ensures { SumsAreNeeds }
+{}
+
+/// No node needs more than 2^48 bytes.
+pub fn needs_are_small()
+    ensures { NeedsAreSmall }
+{}
+
+/// A node has room for what stands there where it has room for each form that runs at it.
+pub fn sums_fit()
+    ensures { SumsFit }
+{}
+
+/// A call brings no more than all buffers of its form.
+pub fn calls_bring()
+    ensures { CallsBring }
+{}
+
+/// Where each form's buffers end, they stand so far at its nodes.
+pub fn ends_are_tops()
+    ensures { EndsAreTops }
+{}
+
+/// Loops that overlap their transfers have iterations for their nodes where their tables say so.
+pub fn loops_are_busy()
+    ensures { LoopsAreBusy }
+{}
 
 /// A draft of a program can be placed.
 pub fn placing_succeeds()

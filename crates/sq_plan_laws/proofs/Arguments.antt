@@ -25,14 +25,14 @@ use Rattle.sq_cells.specs.Tree as cells
 use Rattle.sq_cells.specs.Tree.{Cause, identity_of, width_of}
 use Rattle.sq_cells.specs.Lowered as lowered
 use Rattle.sq_cells.specs.Lowered.{Layout, stays}
-use Rattle.sq_alike.specs.Alike.{IsLike}
-use Rattle.sq_alike.specs.Rows.{AreRows}
-use Rattle.sq_alike.proofs.Combine.{like_skip}
-use Rattle.sq_alike.proofs.Moves.{like_copies, like_fills, like_sums}
-use Rattle.sq_placed_bytes.specs.Coordinates.{Fits, block_cell}
-use Rattle.sq_placed_bytes.specs.Codes.{bytes_in}
-use Rattle.sq_placed_bytes.specs.Calling.{mode_by, place_of, block_of}
-use Rattle.sq_placed_bytes.proofs.Coordinates.{element_under, byte_below, in_of}
+use Rattle.sq_cells.specs.Alike.{IsLike}
+use Rattle.sq_cells.specs.Rows.{AreRows}
+use Rattle.sq_cells.proofs.Combine.{like_skip}
+use Rattle.sq_cells.proofs.Moves.{like_copies, like_fills, like_sums}
+use Rattle.sq_plan_laws.specs.Coordinates.{Fits, block_cell}
+use Rattle.sq_plan_laws.specs.Codes.{bytes_in}
+use Rattle.sq_plan_laws.specs.Calling.{mode_by, place_of, block_of}
+use Rattle.sq_plan_laws.proofs.Coordinates.{element_under, byte_below, in_of}
 use Rattle.sq_plan_laws.specs.Seated.{IsLined, shape_of, seat_cell, IsSeated, IsOwned}
 use Rattle.sq_plan_laws.proofs.Geometry.{lined_buffer, block_seat_cell, lined_block, dims_of, seat_rows}
 

@@ -25,14 +25,14 @@ use Rattle.sq_cells.specs.Tree.{Cause}
 use Rattle.sq_cells.specs.Work.{Array}
 use Rattle.sq_cells.specs.Lowered as lowered
 use Rattle.sq_cells.specs.Lowered.{Layout, stays, in_place, pick, beside}
-use Rattle.sq_alike.specs.Alike.{IsLike}
-use Rattle.sq_alike.proofs.Parts.{IsSame}
-use Rattle.sq_alike.proofs.Combine.{like_same, like_skip, like_seq, like_scoped}
-use Rattle.sq_placed_bytes.specs.Codes.{bytes_in}
-use Rattle.sq_placed_bytes.specs.Calling.{mode_by, mode_of, place_of, block_of, local_of, array_of, arrays_of}
-use Rattle.sq_placed_bytes.specs.Calling.{shapes_of, PassedFits}
-use Rattle.sq_placed_bytes.specs.OnBytes.{arity_of}
-use Rattle.sq_placed_bytes.proofs.Lists.{mapped, mapped_from}
+use Rattle.sq_cells.specs.Alike.{IsLike}
+use Rattle.sq_cells.proofs.AlikeParts.{IsSame}
+use Rattle.sq_cells.proofs.Combine.{like_same, like_skip, like_seq, like_scoped}
+use Rattle.sq_plan_laws.specs.Codes.{bytes_in}
+use Rattle.sq_plan_laws.specs.Calling.{mode_by, mode_of, place_of, block_of, local_of, array_of, arrays_of}
+use Rattle.sq_plan_laws.specs.Calling.{shapes_of, PassedFits}
+use Rattle.sq_plan_laws.specs.OnBytes.{arity_of}
+use Rattle.sq_plan_laws.proofs.PlacedLists.{mapped, mapped_from}
 use Rattle.sq_plan_laws.specs.Seated.{IsLined, shape_of, seat_cell, IsSeated, CallSits, at_node}
 use Rattle.sq_plan_laws.proofs.Geometry.{lined_buffer, buffer_cell, seat_rows}
 use Rattle.sq_plan_laws.proofs.Lists.{beside_more, beside_less, like_par_map, like_end}

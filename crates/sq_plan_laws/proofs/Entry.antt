@@ -20,15 +20,15 @@ use Rattle.sq_cells.specs.Lowered.{own}
 use Rattle.sq_cells.specs.Fits.{ActsFit}
 use Rattle.sq_cells.proofs.Fitting.{lowered_fit}
 use Rattle.sq_cells.proofs.Paths.{leaf_paths_apart}
-use Rattle.sq_alike.specs.Alike.{state_of, end_of, IsLike}
-use Rattle.sq_alike.proofs.Combine.{like_scoped}
-use Rattle.sq_alike.proofs.Numbered.{alike_safe}
-use Rattle.sq_placed_bytes.specs.Codes.{Codes, bytes_in}
-use Rattle.sq_placed_bytes.specs.OnBytes.{work}
-use Rattle.sq_placed_bytes.specs.Entry.{EndsAs, entry_arrays}
-use Rattle.sq_placed_bytes.proofs.Entry.{is_entry, placed_follows, placed_is_independent}
+use Rattle.sq_cells.specs.Alike.{state_of, end_of, IsLike}
+use Rattle.sq_cells.proofs.Combine.{like_scoped}
+use Rattle.sq_cells.proofs.Numbered.{alike_safe}
+use Rattle.sq_plan_laws.specs.Codes.{Codes, bytes_in}
+use Rattle.sq_plan_laws.specs.OnBytes.{work}
+use Rattle.sq_plan_laws.specs.PlacedEntry.{EndsAs, entry_arrays}
+use Rattle.sq_plan_laws.proofs.PlacedEntry.{is_entry, placed_follows, placed_is_independent}
 use Rattle.sq_plan_laws.specs.Seated.{HasDims, IsLined, shape_of, seat_cell, IsSeated, AreAt, at_node}
-use Rattle.sq_placed_bytes.specs.LeafLaws.{codes_of}
+use Rattle.sq_plan_laws.specs.LeafLaws.{codes_of}
 use Rattle.sq_plan_laws.specs.Entry.{seats_at, form_at, plan_tree, held_in, EndsSo, IsPlan, PlansFollow, PlansAreSafe}
 use Rattle.sq_plan_laws.proofs.Geometry.{lined_buffer, buffer_cell}
 use Rattle.sq_plan_laws.proofs.Whole.{like}

@@ -7,9 +7,9 @@ use Rattle.sq_leaf.specs.declared.shape.Shape.{Shape}
 use Rattle.sq_ir.specs.Events.{Leaves, Finishes}
 use Rattle.sq_ir.specs.Written.{Setting}
 use Rattle.sq_cells.specs.Tree.{Cause}
-use Rattle.sq_placed_bytes.specs.LeafLaws.{event_shape}
-use Rattle.sq_placed_bytes.proofs.ExampleReady.{ints, only, idle, codes, root, zeros, all}
-use Rattle.sq_placed_bytes.proofs.ExampleReady.{example, ready}
+use Rattle.sq_plan_laws.specs.LeafLaws.{event_shape}
+use Rattle.sq_plan_laws.proofs.ExampleReady.{ints, only, idle, codes, root, zeros, all}
+use Rattle.sq_plan_laws.proofs.ExampleReady.{example, ready}
 use Rattle.sq_plan_laws.specs.Seated.{HasDims}
 use Rattle.sq_plan_laws.specs.Entry.{IsPlan}
 use Rattle.sq_plan_laws.proofs.ExampleSits.{sits}

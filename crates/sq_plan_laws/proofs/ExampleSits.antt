@@ -17,12 +17,12 @@ use Rattle.sq_placed.specs.Trees.{tree}
 use Rattle.sq_cells.specs.Tree.{Cause}
 use Rattle.sq_cells.specs.Lowered as lowered
 use Rattle.sq_cells.specs.Lowered.{own}
-use Rattle.sq_alike.specs.Alike.{IsLike}
-use Rattle.sq_placed_bytes.specs.Calling.{PassedFits}
-use Rattle.sq_placed_bytes.specs.OnBytes.{work}
-use Rattle.sq_placed_bytes.proofs.ExampleReady.{ints, part, whole_call, one_call, only}
+use Rattle.sq_cells.specs.Alike.{IsLike}
+use Rattle.sq_plan_laws.specs.Calling.{PassedFits}
+use Rattle.sq_plan_laws.specs.OnBytes.{work}
+use Rattle.sq_plan_laws.proofs.ExampleReady.{ints, part, whole_call, one_call, only}
 use Rattle.sq_plan_laws.specs.Seated.{HasDims, CallSits, IsOwned, IsNear, Sits, at_node}
-use Rattle.sq_placed_bytes.specs.LeafLaws.{event_shape, codes_of}
+use Rattle.sq_plan_laws.specs.LeafLaws.{event_shape, codes_of}
 use Rattle.sq_plan_laws.specs.Entry.{seats_at, form_at}
 use Rattle.sq_plan_laws.proofs.Entry.{entry_seated, entry_here}
 use Rattle.sq_plan_laws.proofs.Whole.{like}

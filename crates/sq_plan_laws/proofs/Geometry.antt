@@ -14,11 +14,11 @@ use Rattle.sq_ir.specs.Written.{Setting}
 use Rattle.sq_placed.specs.Placed.{PlacedArg}
 use Rattle.sq_placed.specs.Seats.{Seat, buffer_seat, block_seat, firsts, row_first, row_spot}
 use Rattle.sq_cells.specs.Cells.{Spot, spot}
-use Rattle.sq_alike.specs.Rows.{AreRows}
-use Rattle.sq_alike.proofs.Rows.{within_rows}
-use Rattle.sq_placed_bytes.specs.Coordinates.{number, coordinate, block_cell, Fits}
-use Rattle.sq_placed_bytes.specs.Codes.{bytes_in}
-use Rattle.sq_placed_bytes.proofs.Coordinates.{coordinate_of_number, in_of, element_under}
+use Rattle.sq_cells.specs.Rows.{AreRows}
+use Rattle.sq_cells.proofs.Rows.{within_rows}
+use Rattle.sq_plan_laws.specs.Coordinates.{number, coordinate, block_cell, Fits}
+use Rattle.sq_plan_laws.specs.Codes.{bytes_in}
+use Rattle.sq_plan_laws.proofs.Coordinates.{coordinate_of_number, in_of, element_under}
 use Rattle.sq_plan_laws.specs.Seated.{HasDims, IsLined, seat_cell}
 
 -- ---- buffers

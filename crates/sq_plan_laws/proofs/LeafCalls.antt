@@ -7,13 +7,13 @@ use Rattle.sq_cells.specs.Tree.{Cause}
 use Rattle.sq_cells.specs.Lowered.{own}
 use Rattle.sq_cells.specs.Leaves.{sum_below, leaf_calls}
 use Rattle.sq_cells.proofs.LeafEvents.{leaves_are_calls}
-use Rattle.sq_alike.specs.Alike.{Weight, kind_of}
-use Rattle.sq_placed_bytes.specs.Calling.{shapes_of}
-use Rattle.sq_placed_bytes.specs.OnBytes.{work, share, call_or_none}
-use Rattle.sq_placed_bytes.specs.Fitting.{IsOne}
-use Rattle.sq_placed_bytes.proofs.Entry.{is_entry}
+use Rattle.sq_cells.specs.Alike.{Weight, kind_of}
+use Rattle.sq_plan_laws.specs.Calling.{shapes_of}
+use Rattle.sq_plan_laws.specs.OnBytes.{work, share, call_or_none}
+use Rattle.sq_plan_laws.specs.Fitting.{IsOne}
+use Rattle.sq_plan_laws.proofs.PlacedEntry.{is_entry}
 use Rattle.sq_plan_laws.specs.Seated.{Sits, at_node}
-use Rattle.sq_placed_bytes.specs.LeafLaws.{codes_of}
+use Rattle.sq_plan_laws.specs.LeafLaws.{codes_of}
 use Rattle.sq_plan_laws.specs.Entry.{form_at}
 use Rattle.sq_plan_laws.specs.LeafCalls.{calls_of, PlansCount}
 use Rattle.sq_plan_laws.proofs.Entry.{plan_like}

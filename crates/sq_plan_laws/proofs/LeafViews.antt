@@ -21,14 +21,14 @@ use Rattle.sq_placed.specs.Seats.{Seat}
 use Rattle.sq_cells.specs.Cells.{spot}
 use Rattle.sq_cells.specs.Tree.{Cause}
 use Rattle.sq_cells.specs.Lowered.{Layout}
-use Rattle.sq_alike.specs.LeafCode.{AreViews}
-use Rattle.sq_placed_bytes.specs.Coordinates.{coordinate}
-use Rattle.sq_placed_bytes.specs.OnBytes.{size_in}
-use Rattle.sq_placed_bytes.proofs.Coordinates.{element_under}
-use Rattle.sq_placed_bytes.proofs.Lists.{mapped, mapped_from}
-use Rattle.sq_alike.specs.Alike.{IsCalled}
+use Rattle.sq_cells.specs.LeafCode.{AreViews}
+use Rattle.sq_plan_laws.specs.Coordinates.{coordinate}
+use Rattle.sq_plan_laws.specs.OnBytes.{size_in}
+use Rattle.sq_plan_laws.proofs.Coordinates.{element_under}
+use Rattle.sq_plan_laws.proofs.PlacedLists.{mapped, mapped_from}
+use Rattle.sq_cells.specs.Alike.{IsCalled}
 use Rattle.sq_plan_laws.specs.Seated.{IsLined, shape_of, IsSeated, AreAt}
-use Rattle.sq_placed_bytes.specs.LeafLaws.{event_shape}
+use Rattle.sq_plan_laws.specs.LeafLaws.{event_shape}
 use Rattle.sq_plan_laws.proofs.Places.{length-mapped}
 
 -- ---- lists of lists that are equally long

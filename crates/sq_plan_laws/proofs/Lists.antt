@@ -8,10 +8,10 @@ use Rattle.sq_placed.specs.Trees.{seq_all, par_all}
 use Rattle.sq_cells.specs.Tree as cells
 use Rattle.sq_cells.specs.Tree.{Cause}
 use Rattle.sq_cells.specs.Lowered.{pick, beside, turns}
-use Rattle.sq_alike.specs.Alike.{IsLike}
-use Rattle.sq_alike.proofs.Ends.{par_empty_right}
-use Rattle.sq_alike.proofs.Parts.{IsSame, same_self, same_then, same_par, same_seq_end, beside_front}
-use Rattle.sq_alike.proofs.Combine.{like_same, like_skip, like_seq, like_par, like_turns, like_beside}
+use Rattle.sq_cells.specs.Alike.{IsLike}
+use Rattle.sq_cells.proofs.Ends.{par_empty_right}
+use Rattle.sq_cells.proofs.AlikeParts.{IsSame, same_self, same_then, same_par, same_seq_end, beside_front}
+use Rattle.sq_cells.proofs.Combine.{like_same, like_skip, like_seq, like_par, like_turns, like_beside}
 
 -- a part, and nothing beside it
 same_alone : (a : cells.Tree) → IsSame a (cells.Par a cells.Empty)

@@ -12,11 +12,11 @@ use Rattle.sq_cells.specs.Tree as cells
 use Rattle.sq_cells.specs.Tree.{Cause}
 use Rattle.sq_cells.specs.Lowered.{pick, turns, every, Stand, NoneYet, First, More, next_stand, stand, stage_of, staged}
 use Rattle.sq_cells.specs.Lowered.{last_of, piped, how_many}
-use Rattle.sq_alike.specs.Alike.{IsLike}
-use Rattle.sq_alike.proofs.Ends.{seq_empty_right, seq_assoc}
-use Rattle.sq_alike.proofs.Parts.{IsSame, same_self, same_then, same_seq, same_par, same_seq_assoc, same_seq_turn}
-use Rattle.sq_alike.proofs.Parts.{same_seq_end}
-use Rattle.sq_alike.proofs.Combine.{like_same, like_skip, like_seq, like_par}
+use Rattle.sq_cells.specs.Alike.{IsLike}
+use Rattle.sq_cells.proofs.Ends.{seq_empty_right, seq_assoc}
+use Rattle.sq_cells.proofs.AlikeParts.{IsSame, same_self, same_then, same_seq, same_par, same_seq_assoc, same_seq_turn}
+use Rattle.sq_cells.proofs.AlikeParts.{same_seq_end}
+use Rattle.sq_cells.proofs.Combine.{like_same, like_skip, like_seq, like_par}
 use Rattle.sq_plan_laws.proofs.Lists.{like_iterations, like_end}
 
 same_alone : (a : cells.Tree) → IsSame a (cells.Seq a cells.Empty)

@@ -7,9 +7,9 @@ use Rattle.sq_ir.specs.Written.{Setting}
 use Rattle.sq_placed.specs.Placed.{PlacedArg, PlacedLocal, PlacedCall}
 use Rattle.sq_placed.specs.Seats.{Seat, SeatedArg, seat_arg, seated_args, cons_some, own_of, local_seat}
 use Rattle.sq_cells.specs.Lowered.{Layout}
-use Rattle.sq_placed_bytes.specs.Coordinates.{Fits}
-use Rattle.sq_placed_bytes.specs.Calling.{PassedFits, shapes_of}
-use Rattle.sq_placed_bytes.proofs.Lists.{mapped_from}
+use Rattle.sq_plan_laws.specs.Coordinates.{Fits}
+use Rattle.sq_plan_laws.specs.Calling.{PassedFits, shapes_of}
+use Rattle.sq_plan_laws.proofs.PlacedLists.{mapped_from}
 use Rattle.sq_plan_laws.specs.Seated.{shape_of, IsSeated}
 use Rattle.sq_plan_laws.proofs.Arguments.{own_shape}
 

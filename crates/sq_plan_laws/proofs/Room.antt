@@ -22,12 +22,12 @@ use Rattle.sq_cells.specs.Tree.{Cause, Target, Puts, Adds, Takes}
 use Rattle.sq_cells.specs.Lowered as lowered
 use Rattle.sq_cells.specs.Lowered.{own, IsIn, Scratch, Needs, Sets}
 use Rattle.sq_cells.proofs.Parts.{tree_puts, tree_adds, tree_takes, gathers_at}
-use Rattle.sq_alike.specs.Alike.{cell_of, IsOf}
-use Rattle.sq_placed_bytes.specs.OnBytes.{work}
-use Rattle.sq_placed_bytes.specs.Entry.{entry_arrays}
-use Rattle.sq_placed_bytes.proofs.Entry.{is_entry}
+use Rattle.sq_cells.specs.Alike.{cell_of, IsOf}
+use Rattle.sq_plan_laws.specs.OnBytes.{work}
+use Rattle.sq_plan_laws.specs.PlacedEntry.{entry_arrays}
+use Rattle.sq_plan_laws.proofs.PlacedEntry.{is_entry}
 use Rattle.sq_plan_laws.specs.Seated.{at_node}
-use Rattle.sq_placed_bytes.specs.LeafLaws.{codes_of}
+use Rattle.sq_plan_laws.specs.LeafLaws.{codes_of}
 use Rattle.sq_plan_laws.specs.Entry.{form_at, plan_tree, IsPlan}
 use Rattle.sq_plan_laws.specs.Room.{IsInside, IsRoomy, HasRoom, PlansInside}
 use Rattle.sq_plan_laws.proofs.Entry.{low_tree, plan_like}

@@ -18,12 +18,12 @@ use Rattle.sq_cells.specs.Tree as cells
 use Rattle.sq_cells.specs.Tree.{Cause}
 use Rattle.sq_cells.specs.Lowered as lowered
 use Rattle.sq_cells.specs.Lowered.{Layout, pick, even}
-use Rattle.sq_alike.specs.Alike.{IsLike}
-use Rattle.sq_placed_bytes.specs.Calling.{mode_of, place_of, block_of, array_of, arrays_of, shapes_of, form_of}
-use Rattle.sq_placed_bytes.specs.Calling.{first_buffer, second_buffer, PassedFits}
-use Rattle.sq_placed_bytes.specs.Codes.{bytes_in}
-use Rattle.sq_placed_bytes.specs.OnBytes.{arity_of}
-use Rattle.sq_placed_bytes.proofs.Lists.{mapped, mapped_from, mapped_none}
+use Rattle.sq_cells.specs.Alike.{IsLike}
+use Rattle.sq_plan_laws.specs.Calling.{mode_of, place_of, block_of, array_of, arrays_of, shapes_of, form_of}
+use Rattle.sq_plan_laws.specs.Calling.{first_buffer, second_buffer, PassedFits}
+use Rattle.sq_plan_laws.specs.Codes.{bytes_in}
+use Rattle.sq_plan_laws.specs.OnBytes.{arity_of}
+use Rattle.sq_plan_laws.proofs.PlacedLists.{mapped, mapped_from, mapped_none}
 use Rattle.sq_plan_laws.specs.Seated.{IsSeated, IsOwned, IsNear, CallSits, PipeSits, at_node}
 use Rattle.sq_plan_laws.proofs.Places.{length-mapped, get_front, get_behind, get_mapped}
 use Rattle.sq_plan_laws.proofs.Calls.{FormIs, IsBuffer, callee_seated, like_comes, like_works, like_outs}

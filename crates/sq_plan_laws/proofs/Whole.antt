@@ -28,20 +28,20 @@ use Rattle.sq_cells.specs.Tree.{Cause}
 use Rattle.sq_cells.specs.Work as bytes
 use Rattle.sq_cells.specs.Lowered as lowered
 use Rattle.sq_cells.specs.Lowered.{Layout, every, pick, beside, turns, held, how_many, even}
-use Rattle.sq_alike.specs.Alike.{IsLike}
-use Rattle.sq_alike.proofs.Ends.{par_empty_right}
-use Rattle.sq_alike.proofs.Parts.{IsSame, same_self, same_then, same_seq_end}
-use Rattle.sq_alike.proofs.Combine.{like_same, like_skip, like_seq, like_scoped}
-use Rattle.sq_alike.proofs.Leaves.{like_leaf}
-use Rattle.sq_alike.specs.LeafCode.{code_of}
-use Rattle.sq_placed_bytes.specs.Codes.{bytes_in}
-use Rattle.sq_placed_bytes.specs.Calling.{mode_of, place_of, block_of, array_of, arrays_of, shapes_of, form_of}
-use Rattle.sq_placed_bytes.specs.Calling.{first_buffer, second_buffer, PassedFits}
-use Rattle.sq_placed_bytes.specs.OnBytes.{OneCall, work, share, call_or_none, arity_of, size_in, held_call}
-use Rattle.sq_placed_bytes.specs.Fitting.{IsOne}
-use Rattle.sq_placed_bytes.proofs.Lists.{mapped_from}
+use Rattle.sq_cells.specs.Alike.{IsLike}
+use Rattle.sq_cells.proofs.Ends.{par_empty_right}
+use Rattle.sq_cells.proofs.AlikeParts.{IsSame, same_self, same_then, same_seq_end}
+use Rattle.sq_cells.proofs.Combine.{like_same, like_skip, like_seq, like_scoped}
+use Rattle.sq_cells.proofs.Leaves.{like_leaf}
+use Rattle.sq_cells.specs.LeafCode.{code_of}
+use Rattle.sq_plan_laws.specs.Codes.{bytes_in}
+use Rattle.sq_plan_laws.specs.Calling.{mode_of, place_of, block_of, array_of, arrays_of, shapes_of, form_of}
+use Rattle.sq_plan_laws.specs.Calling.{first_buffer, second_buffer, PassedFits}
+use Rattle.sq_plan_laws.specs.OnBytes.{OneCall, work, share, call_or_none, arity_of, size_in, held_call}
+use Rattle.sq_plan_laws.specs.Fitting.{IsOne}
+use Rattle.sq_plan_laws.proofs.PlacedLists.{mapped_from}
 use Rattle.sq_plan_laws.specs.Seated.{seat_cell, IsSeated, AreAt, IsNear, CallSits, HeldSits, PipeSits, Sits, at_node}
-use Rattle.sq_placed_bytes.specs.LeafLaws.{event_shape, codes_of}
+use Rattle.sq_plan_laws.specs.LeafLaws.{event_shape, codes_of}
 use Rattle.sq_plan_laws.specs.Laws.{TreesAreLike}
 use Rattle.sq_plan_laws.proofs.Geometry.{buffer_cell}
 use Rattle.sq_plan_laws.proofs.Lists.{like_par_map, like_end, like_iterations, like_children}

@@ -15,11 +15,11 @@ use Rattle.sq_cells.specs.Machine.{Form}
 use Rattle.sq_cells.specs.Cells.{State}
 use Rattle.sq_cells.specs.Tree.{Cause}
 use Rattle.sq_cells.specs.Lowered.{own}
-use Rattle.sq_alike.specs.Alike.{byte_of, MayRun}
-use Rattle.sq_placed_bytes.specs.Codes.{Codes}
-use Rattle.sq_placed_bytes.specs.Entry.{IsReady}
+use Rattle.sq_cells.specs.Alike.{byte_of, MayRun}
+use Rattle.sq_plan_laws.specs.Codes.{Codes}
+use Rattle.sq_plan_laws.specs.PlacedEntry.{IsReady}
 use Rattle.sq_plan_laws.specs.Seated.{HasDims, Sits, at_node}
-use Rattle.sq_placed_bytes.specs.LeafLaws.{codes_of}
+use Rattle.sq_plan_laws.specs.LeafLaws.{codes_of}
 
 -- the entry's arrays in these buffers of the root
 abbrev pub seats_at : Setting → List Shape → List ℕ → List Seat

@@ -9,10 +9,10 @@ use Rattle.sq_placed.specs.Trees.{tree}
 use Rattle.sq_cells.specs.Tree.{Cause}
 use Rattle.sq_cells.specs.Lowered as lowered
 use Rattle.sq_cells.specs.Lowered.{Layout}
-use Rattle.sq_alike.specs.Alike.{IsLike}
-use Rattle.sq_placed_bytes.specs.OnBytes.{work}
+use Rattle.sq_cells.specs.Alike.{IsLike}
+use Rattle.sq_plan_laws.specs.OnBytes.{work}
 use Rattle.sq_plan_laws.specs.Seated.{IsSeated, AreAt, Sits, at_node}
-use Rattle.sq_placed_bytes.specs.LeafLaws.{codes_of}
+use Rattle.sq_plan_laws.specs.LeafLaws.{codes_of}
 
 abbrev pub TreesAreLike : Type 0
 TreesAreLike =

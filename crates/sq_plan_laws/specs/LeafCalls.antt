@@ -6,7 +6,7 @@ use Rattle.sq_ir.specs.Written.{Setting}
 use Rattle.sq_placed.specs.Placed.{Placed, Nothing, Then, Each, AtOnce, Gathers, Call, Hold, Piped, Leaf}
 use Rattle.sq_cells.specs.Tree.{Cause}
 use Rattle.sq_cells.specs.Leaves.{sum_below}
-use Rattle.sq_alike.specs.Alike.{Weight, leaf_count}
+use Rattle.sq_cells.specs.Alike.{Weight, leaf_count}
 use Rattle.sq_plan_laws.specs.Entry.{plan_tree, IsPlan}
 
 abbrev pub calls_of : Weight → Placed → (path : List ℕ) → ℕ

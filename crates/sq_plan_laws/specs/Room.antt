@@ -11,10 +11,10 @@ use Rattle.sq_placed.specs.Placed.{Placed}
 use Rattle.sq_cells.specs.Cells.{Spot}
 use Rattle.sq_cells.specs.Tree.{Cause}
 use Rattle.sq_cells.specs.Lowered.{own, IsIn, Scratch}
-use Rattle.sq_placed_bytes.specs.OnBytes.{work}
-use Rattle.sq_placed_bytes.specs.Entry.{entry_arrays}
+use Rattle.sq_plan_laws.specs.OnBytes.{work}
+use Rattle.sq_plan_laws.specs.PlacedEntry.{entry_arrays}
 use Rattle.sq_plan_laws.specs.Seated.{at_node}
-use Rattle.sq_placed_bytes.specs.LeafLaws.{codes_of}
+use Rattle.sq_plan_laws.specs.LeafLaws.{codes_of}
 use Rattle.sq_plan_laws.specs.Entry.{form_at, plan_tree, IsPlan}
 
 -- the row lies inside its node

@@ -19,12 +19,12 @@ use Rattle.sq_cells.specs.Machine.{Node}
 use Rattle.sq_cells.specs.Cells.{Spot, spot}
 use Rattle.sq_cells.specs.Tree.{Cause}
 use Rattle.sq_cells.specs.Lowered.{Layout}
-use Rattle.sq_placed_bytes.specs.Coordinates.{coordinate}
-use Rattle.sq_placed_bytes.specs.Codes.{bytes_in}
-use Rattle.sq_placed_bytes.specs.Calling.{ArgsFit, shapes_of}
-use Rattle.sq_placed_bytes.specs.OnBytes.{arity_of}
-use Rattle.sq_placed_bytes.specs.LeafLaws.{event_shape}
-use Rattle.sq_placed_bytes.specs.Fitting.{IsOne}
+use Rattle.sq_plan_laws.specs.Coordinates.{coordinate}
+use Rattle.sq_plan_laws.specs.Codes.{bytes_in}
+use Rattle.sq_plan_laws.specs.Calling.{ArgsFit, shapes_of}
+use Rattle.sq_plan_laws.specs.OnBytes.{arity_of}
+use Rattle.sq_plan_laws.specs.LeafLaws.{event_shape}
+use Rattle.sq_plan_laws.specs.Fitting.{IsOne}
 
 -- one to three dimensions
 abbrev pub HasDims : List ℕ → Type 0

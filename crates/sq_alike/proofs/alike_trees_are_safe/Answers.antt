@@ -1,5 +1,0 @@
-use Rattle.sq_alike.proofs.Numbered.{alike_safe}
-use Rattle.sq_alike.proofs.alike_trees_are_safe.Goals as goal
-
-pub returns : goal.returns
-returns c = alike_safe

@@ -1,5 +1,0 @@
-use Rattle.sq_begun.proofs.Begun.{tables_are_begun}
-use Rattle.sq_begun.proofs.tables_are_begun.Goals as goal
-
-pub returns : goal.returns
-returns g = tables_are_begun

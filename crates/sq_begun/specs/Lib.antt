@@ -1,4 +1,0 @@
-pub mod Begun
-pub mod Few
-pub mod Programs
-pub mod Lower

@@ -1,5 +1,0 @@
-use Rattle.sq_hoist_laws.proofs.Programs.{tables_have_times}
-use Rattle.sq_hoist_laws.proofs.tables_have_times.Goals as goal
-
-pub returns : goal.returns
-returns g = tables_have_times

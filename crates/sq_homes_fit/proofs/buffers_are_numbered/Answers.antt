@@ -1,5 +1,0 @@
-use Rattle.sq_homes_fit.proofs.Ordered.{buffers_are_numbered}
-use Rattle.sq_homes_fit.proofs.buffers_are_numbered.Goals as goal
-
-pub returns : goal.returns
-returns c = buffers_are_numbered

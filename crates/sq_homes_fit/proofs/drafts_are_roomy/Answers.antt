@@ -1,5 +1,0 @@
-use Rattle.sq_homes_fit.proofs.Roomy.{drafts_are_roomy}
-use Rattle.sq_homes_fit.proofs.drafts_are_roomy.Goals as goal
-
-pub returns : goal.returns
-returns c = drafts_are_roomy

@@ -1,5 +1,0 @@
-use Rattle.sq_homes_fit.proofs.Levels.{drafts_begin_at_root}
-use Rattle.sq_homes_fit.proofs.drafts_begin_at_root.Goals as goal
-
-pub returns : goal.returns
-returns c = drafts_begin_at_root

@@ -1,5 +1,0 @@
-use Rattle.sq_homes_fit.proofs.Entry.{entries_have_buffers}
-use Rattle.sq_homes_fit.proofs.entries_have_buffers.Goals as goal
-
-pub returns : goal.returns
-returns c = entries_have_buffers

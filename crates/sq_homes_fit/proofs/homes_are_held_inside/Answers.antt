@@ -1,5 +1,0 @@
-use Rattle.sq_homes_fit.proofs.HeldInside.{homes_are_held_inside}
-use Rattle.sq_homes_fit.proofs.homes_are_held_inside.Goals as goal
-
-pub returns : goal.returns
-returns c = homes_are_held_inside

@@ -1,5 +1,0 @@
-use Rattle.sq_homes_fit.proofs.Machines.{machines_are_machines}
-use Rattle.sq_homes_fit.proofs.memories_are_machines.Goals as goal
-
-pub returns : goal.returns
-returns c = machines_are_machines

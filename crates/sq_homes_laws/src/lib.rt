@@ -1,4 +1,0 @@
-//! What is true of the homes and buffers of drafts.
-#![tactic(auto)]
-
-pub mod laws;

@@ -1,5 +1,0 @@
-use Rattle.sq_needs.proofs.Counting.{loops_are_busy}
-use Rattle.sq_needs.proofs.loops_are_busy.Goals as goal
-
-pub returns : goal.returns
-returns c = loops_are_busy

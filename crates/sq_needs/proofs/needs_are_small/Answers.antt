@@ -1,5 +1,0 @@
-use Rattle.sq_needs.proofs.Small.{needs_are_small}
-use Rattle.sq_needs.proofs.needs_are_small.Goals as goal
-
-pub returns : goal.returns
-returns c = needs_are_small

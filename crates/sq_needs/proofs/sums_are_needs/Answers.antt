@@ -1,5 +1,0 @@
-use Rattle.sq_needs.proofs.Agreeing.{sums_are_needs}
-use Rattle.sq_needs.proofs.sums_are_needs.Goals as goal
-
-pub returns : goal.returns
-returns c = sums_are_needs

@@ -1,5 +1,0 @@
-use Rattle.sq_pipe_laws.proofs.Programs.{overlaps_may_be_chosen}
-use Rattle.sq_pipe_laws.proofs.overlaps_may_be_chosen.Goals as goal
-
-pub returns : goal.returns
-returns c = overlaps_may_be_chosen

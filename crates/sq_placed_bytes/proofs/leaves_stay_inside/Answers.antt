@@ -1,5 +1,0 @@
-use Rattle.sq_placed_bytes.proofs.Law.{leaves_stay_inside}
-use Rattle.sq_placed_bytes.proofs.leaves_stay_inside.Goals as goal
-
-pub returns : goal.returns
-returns c = leaves_stay_inside

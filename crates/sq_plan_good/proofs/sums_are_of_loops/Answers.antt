@@ -1,0 +1,5 @@
+use Rattle.sq_plan_good.proofs.Drafts.{sums_are_of_loops}
+use Rattle.sq_plan_good.proofs.sums_are_of_loops.Goals as goal
+
+pub returns : goal.returns
+returns c = sums_are_of_loops

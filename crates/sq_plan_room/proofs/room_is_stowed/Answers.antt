@@ -1,5 +1,0 @@
-use Rattle.sq_plan_room.proofs.Rooms.{room_is_stowed}
-use Rattle.sq_plan_room.proofs.room_is_stowed.Goals as goal
-
-pub returns : goal.returns
-returns g = room_is_stowed

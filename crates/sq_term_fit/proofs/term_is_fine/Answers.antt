@@ -1,5 +1,0 @@
-use Rattle.sq_term_fit.proofs.Meeting.{term_is_fine as lemma}
-use Rattle.sq_term_fit.proofs.term_is_fine.Goals as goal
-
-pub returns : goal.returns
-returns c = lemma

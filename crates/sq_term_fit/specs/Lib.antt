@@ -1,4 +1,0 @@
-pub mod Fits
-pub mod Leaves
-pub mod Rooms
-pub mod Laws

@@ -1,0 +1,5 @@
+use Rattle.sq_term_laws.proofs.Roomed.{term_is_roomy as lemma}
+use Rattle.sq_term_laws.proofs.term_is_roomy.Goals as goal
+
+pub returns : goal.returns
+returns c = lemma
