@@ -14,7 +14,7 @@ use Rattle.sq_spec.specs.declared.resolved.Resolved.{Resolved}
 use Rattle.sq_placed.specs.Pipes.{CallLoop, call_loops_of}
 use Rattle.sq_term.specs.Terms.{body_in}
 use Rattle.sq_term_laws.specs.Orders.{EachOf}
-use Rattle.sq_forms_fit.proofs.Loops.{each_at, left_true, right_true}
+use Rattle.sq_program_laws.proofs.Loops.{each_at, left_true, right_true}
 use Rattle.sq_homes.specs.Drafts.{bodies_of}
 use Rattle.sq_draft_laws.specs.Choosing.{Walked}
 use Rattle.sq_draft_laws.proofs.Programs.{bodies_are_tables}

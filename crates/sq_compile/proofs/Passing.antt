@@ -3,8 +3,8 @@ use Rattle.std.proofs.Common.{◌≡◌, ℕ, zero, suc, Bool, true, false, List
 use Rattle.std.proofs.Common.{refl, sym, ap, ◌∙◌}
 use Rattle.sq_forms.specs.declared.form.Form.{Form}
 use Rattle.sq_spec.specs.declared.resolved.Resolved.{Resolved}
-use Rattle.sq_forms_fit.specs.Held.{UnheldFits}
-use Rattle.sq_forms_fit.specs.Piped.{UnpipedFits}
+use Rattle.sq_program_laws.specs.Held.{UnheldFits}
+use Rattle.sq_program_laws.specs.Piped.{UnpipedFits}
 use Rattle.sq_homes.specs.declared.choice.Choice.{Choice}
 use Rattle.sq_homes.specs.Numbering.{left_by}
 use Rattle.sq_homes.specs.Drafts.{homes_of, choice_in, no_choice}

@@ -8,8 +8,8 @@ use Rattle.sq_text.specs.Found.{Breach, BreaksIn}
 use Rattle.sq_lexer.specs.declared.token.Token.{Token}
 use Rattle.sq_lexer.specs.Tokens.{AreTokens}
 use Rattle.sq_lexer.specs.Faults.{FitsFile, HasFault, IsTooLong, too_long, breaks, most_bytes}
-use Rattle.sq_shapes.specs.Texts.{SyntaxAt}
-use Rattle.sq_shapes.proofs.Places.{none_in_text, one_text}
+use Rattle.sq_patterns.specs.Texts.{SyntaxAt}
+use Rattle.sq_patterns.proofs.Places.{none_in_text, one_text}
 use Rattle.sq_machfile.specs.declared.text.MachineText.{MachineText}
 use Rattle.sq_machfile.specs.Grammar.{IsText, of_levels, a_level, one_below, none_below}
 use Rattle.sq_machfile.specs.Faults.{rules_of, LimitFault}

@@ -8,8 +8,8 @@ use Rattle.sq_text.specs.declared.fault.Fault.{Fault}
 use Rattle.sq_lexer.specs.declared.token.Token.{Token}
 use Rattle.sq_lexer.specs.Tokens.{AreTokens}
 use Rattle.sq_lexer.specs.Faults.{FitsFile, most_bytes}
-use Rattle.sq_shapes.specs.Texts.{SyntaxAt}
-use Rattle.sq_shapes.proofs.Places.{none_in_text, one_text}
+use Rattle.sq_patterns.specs.Texts.{SyntaxAt}
+use Rattle.sq_patterns.proofs.Places.{none_in_text, one_text}
 use Rattle.sq_ast.specs.declared.stmt.MapKind.TheVariants.{Par, Seq}
 use Rattle.sq_ast.specs.declared.stmt.Stmt.TheVariants as s
 use Rattle.sq_ast.specs.declared.stmt.Stmt.TheOpen.{Stmt-F}

@@ -23,7 +23,7 @@ use Rattle.sq_placed.specs.Trees.{local_buffers}
 use Rattle.sq_plan_laws.specs.Codes.{bytes_in}
 use Rattle.sq_term.specs.Terms.{body_in, homes_in}
 use Rattle.sq_plan_laws.specs.Buffers.{home_buffer}
-use Rattle.sq_forms_fit.proofs.Shapes.{at_mapped}
+use Rattle.sq_program_laws.proofs.Shapes.{at_mapped}
 use Rattle.sq_homes.specs.declared.choice.Choice.{Choice}
 use Rattle.sq_homes.specs.Numbering.{standing, array_size, shape_size, local_base, locals_count}
 use Rattle.sq_homes.specs.Drafts.{bodies_of, homes_of, buffers_of, choice_in, buffer_at}

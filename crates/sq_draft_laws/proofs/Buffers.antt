@@ -12,8 +12,8 @@ use Rattle.sq_ir.specs.declared.plan.Buffer.{Buffer}
 use Rattle.sq_spec.specs.declared.body.FormBody.{FormBody}
 use Rattle.sq_spec.specs.declared.resolved.Resolved.{Resolved}
 use Rattle.sq_placed.specs.Tables.{no_shape}
-use Rattle.sq_forms_fit.specs.Sizes.{IsSized}
-use Rattle.sq_forms_fit.proofs.Shapes.{mapped_at}
+use Rattle.sq_program_laws.specs.Sizes.{IsSized}
+use Rattle.sq_program_laws.proofs.Shapes.{mapped_at}
 use Rattle.sq_homes.specs.declared.choice.Choice.{Choice}
 use Rattle.sq_homes.specs.Drafts.{bodies_of, buffers_of, buffers_from, buffer_at, choice_in}
 use Rattle.sq_homes.specs.Numbering.{standing, array_size, shape_size}

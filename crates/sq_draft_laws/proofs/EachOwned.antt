@@ -44,8 +44,8 @@ use Rattle.sq_term_laws.proofs.Piped.{pipe_is, pipe_spread}
 use Rattle.sq_plan_laws.specs.Buffers.{HoldsBuffer, OpensInSet, Opens, HoldOwns, PipeOwns, held_round, OwnIn}
 use Rattle.sq_plan_laws.proofs.Live.{opens_has}
 use Rattle.sq_plan_laws.proofs.Openings.{contains_left, contains_right}
-use Rattle.sq_forms_fit.proofs.Shapes.{at_mapped}
-use Rattle.sq_forms_fit.proofs.Carried.{held_leaves, left_there}
+use Rattle.sq_program_laws.proofs.Shapes.{at_mapped}
+use Rattle.sq_program_laws.proofs.Carried.{held_leaves, left_there}
 use Rattle.sq_homes.specs.declared.choice.Choice.{Choice}
 use Rattle.sq_homes.specs.Drafts.{bodies_of, homes_of, choice_in}
 use Rattle.sq_draft_laws.specs.Choosing.{Walked, MayBeChosen, setting_of}

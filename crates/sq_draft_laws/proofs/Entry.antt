@@ -22,12 +22,12 @@ use Rattle.sq_spec.proofs.EntryHolds.{entry_is_first}
 use Rattle.sq_placed.specs.declared.home.Home.{Home}
 use Rattle.sq_placed.specs.declared.home.Home.TheVariants.{InPlace}
 use Rattle.sq_placed.specs.declared.home.Homes.{Homes}
-use Rattle.sq_forms_fit.specs.Entry.{IsWhole, EntryFacts}
+use Rattle.sq_program_laws.specs.Entry.{IsWhole, EntryFacts}
 use Rattle.sq_term.specs.Terms.{body_in, homes_in}
 use Rattle.sq_term_laws.specs.Leaves.{loops_left}
-use Rattle.sq_forms_fit.specs.Homes.{params_at, may_write, mays_of}
-use Rattle.sq_forms_fit.proofs.RowsHold.{arrays_are, params_are, mays_are}
-use Rattle.sq_forms_fit.proofs.Shapes.{param_shape}
+use Rattle.sq_program_laws.specs.Homes.{params_at, may_write, mays_of}
+use Rattle.sq_program_laws.proofs.RowsHold.{arrays_are, params_are, mays_are}
+use Rattle.sq_program_laws.proofs.Shapes.{param_shape}
 use Rattle.sq_homes.specs.declared.choice.Choice.{Choice}
 use Rattle.sq_homes.specs.Drafts.{bodies_of, homes_of, args_of, extents_by, choice_in}
 use Rattle.sq_draft_laws.specs.Choosing.{Walked, MayBeChosen}

@@ -16,8 +16,8 @@ use Rattle.sq_term.specs.Terms.{buffer_or, body_in, homes_in}
 use Rattle.sq_plan_laws.specs.Buffers.{home_buffer, HasBuffer, OpensBuffer, Opens, IsAmong, CallOwns}
 use Rattle.sq_plan_laws.specs.Rooms.{EntryOwns}
 use Rattle.sq_plan_laws.proofs.Live.{opens_has}
-use Rattle.sq_forms_fit.specs.Entry.{entry_shapes}
-use Rattle.sq_forms_fit.proofs.Shapes.{mapped_at, at_mapped}
+use Rattle.sq_program_laws.specs.Entry.{entry_shapes}
+use Rattle.sq_program_laws.proofs.Shapes.{mapped_at, at_mapped}
 use Rattle.sq_homes.specs.declared.choice.Choice.{Choice}
 use Rattle.sq_homes.specs.Drafts.{bodies_of, homes_of, args_of, entry_of, choice_in}
 use Rattle.sq_draft_laws.specs.Choosing.{Walked, MayBeChosen, setting_of}

@@ -10,7 +10,7 @@ use Rattle.sq_placed.specs.declared.home.Home.{Home}
 use Rattle.sq_placed.specs.declared.home.Home.TheVariants.{InPlace}
 use Rattle.sq_placed.specs.declared.home.Homes.{Homes}
 use Rattle.sq_term.specs.Terms.{homes_in}
-use Rattle.sq_forms_fit.specs.Homes.{AreHomes}
+use Rattle.sq_program_laws.specs.Homes.{AreHomes}
 use Rattle.sq_homes.specs.declared.choice.Choice.{Choice}
 use Rattle.sq_homes.specs.Drafts.{homes_of, choice_in}
 use Rattle.sq_homes.specs.Numbering.{local_base, locals_count}

@@ -21,8 +21,8 @@ use Rattle.sq_term_laws.proofs.Meeting.{entry_is_fine}
 use Rattle.sq_term_laws.proofs.Roomed.{entry_is_roomy}
 use Rattle.sq_plan_laws.specs.Entry.{plan_tree}
 use Rattle.sq_plan_laws.specs.Room.{IsRoomy}
-use Rattle.sq_forms_fit.specs.Entry.{entry_shapes}
-use Rattle.sq_forms_fit.proofs.Written.{plans_are_written}
+use Rattle.sq_program_laws.specs.Entry.{entry_shapes}
+use Rattle.sq_program_laws.proofs.Written.{plans_are_written}
 use Rattle.sq_draft_laws.specs.Scope.{InScope}
 use Rattle.sq_draft_laws.specs.Paths.{LeavesAreSmall}
 use Rattle.sq_draft_laws.specs.Laws.{HasPath, SlotsAreInScope, PlansAreWellFormed}

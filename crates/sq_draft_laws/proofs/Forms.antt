@@ -19,10 +19,10 @@ use Rattle.sq_spec.specs.declared.resolved.Resolved.{Resolved}
 use Rattle.sq_spec.specs.Bodies.{body_of, found_body, no_body}
 use Rattle.sq_spec.specs.Works.{shapes_of}
 use Rattle.sq_term.specs.Terms.{body_in}
-use Rattle.sq_forms_fit.specs.Sizes.{IsSized}
-use Rattle.sq_forms_fit.proofs.RowsHold.{arrays_are}
-use Rattle.sq_forms_fit.proofs.Shapes.{dims_are}
-use Rattle.sq_forms_fit.proofs.Whole.{arrays_are_sized}
+use Rattle.sq_program_laws.specs.Sizes.{IsSized}
+use Rattle.sq_program_laws.proofs.RowsHold.{arrays_are}
+use Rattle.sq_program_laws.proofs.Shapes.{dims_are}
+use Rattle.sq_program_laws.proofs.Whole.{arrays_are_sized}
 use Rattle.sq_homes.specs.Drafts.{bodies_of}
 use Rattle.sq_draft_laws.specs.Choosing.{Walked}
 use Rattle.sq_draft_laws.proofs.Programs.{bodies_are_tables}

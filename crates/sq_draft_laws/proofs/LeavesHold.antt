@@ -46,10 +46,10 @@ use Rattle.sq_plan_laws.specs.Seated.{HasDims}
 use Rattle.sq_term.specs.Terms.{homes_in}
 use Rattle.sq_homes.specs.Drafts as drafts
 use Rattle.sq_homes.specs.Drafts.{homes_of}
-use Rattle.sq_forms_fit.specs.Homes.{bodies_of, LeafStands}
-use Rattle.sq_forms_fit.specs.Sizes.{IsSized}
-use Rattle.sq_forms_fit.proofs.RowsHold.{body_is}
-use Rattle.sq_forms_fit.proofs.Whole.{arrays_are_sized}
+use Rattle.sq_program_laws.specs.Homes.{bodies_of, LeafStands}
+use Rattle.sq_program_laws.specs.Sizes.{IsSized}
+use Rattle.sq_program_laws.proofs.RowsHold.{body_is}
+use Rattle.sq_program_laws.proofs.Whole.{arrays_are_sized}
 use Rattle.sq_draft_laws.specs.Programs.{BodiesAreTables}
 use Rattle.sq_draft_laws.specs.Choosing.{Walked}
 use Rattle.sq_draft_laws.specs.Leaves.{LeavesOfDraftsStand}

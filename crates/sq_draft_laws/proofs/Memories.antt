@@ -8,7 +8,7 @@ use Rattle.sq_machfile.specs.Machines.{Hierarchy, WithinLimits}
 use Rattle.sq_machfile.specs.Nodes as machine
 use Rattle.sq_ir.specs.declared.plan.PlanNode.{PlanNode}
 use Rattle.sq_ir.specs.Machines.{AreNodes, IsNode, below, total, children_in}
-use Rattle.sq_forms_fit.proofs.Shapes.{mapped_at}
+use Rattle.sq_program_laws.proofs.Shapes.{mapped_at}
 use Rattle.sq_draft_laws.specs.Memories.{plan_node, NodesAreMemories}
 
 same_levels : (nodes : List Node) → map (λ (n : PlanNode). n.level) (map plan_node nodes)

@@ -11,8 +11,8 @@ use Rattle.sq_placed.specs.declared.home.Home.TheVariants.{InPlace}
 use Rattle.sq_placed.specs.declared.home.Homes.{Homes}
 use Rattle.sq_cells.specs.Tree.{Cause}
 use Rattle.sq_plan_laws.specs.Seated.{IsNear}
-use Rattle.sq_forms_fit.specs.Rows.{operator_of, RowFits, BodyFits}
-use Rattle.sq_forms_fit.proofs.Facts.{passed, passed_there}
+use Rattle.sq_program_laws.specs.Rows.{operator_of, RowFits, BodyFits}
+use Rattle.sq_program_laws.proofs.Facts.{passed, passed_there}
 use Rattle.sq_draft_laws.specs.Laws.{FormsAreNear}
 
 there : (xs : List Argument) (k : ℕ) → k < length xs → (a : Argument) × (slice_get xs k ≡ Some a)

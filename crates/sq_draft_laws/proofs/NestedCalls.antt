@@ -31,7 +31,7 @@ use Rattle.sq_spec.proofs.OpenedStatement.{table_of_call, table_of_map, same_cal
 use Rattle.sq_spec_laws.specs.TableRows.{Table, red_of, all_tables, tables_of, tables_in}
 use Rattle.sq_spec_laws.proofs.TableRowsHold.{tables_call, tables_map}
 use Rattle.sq_draft_laws.specs.Paths.{Nested, all_nested, nested_step, nested_in}
-use Rattle.sq_forms_fit.proofs.Shapes.{mapped_at}
+use Rattle.sq_program_laws.proofs.Shapes.{mapped_at}
 use Rattle.sq_draft_laws.proofs.Loops.{all_loops, loops_in, loops_call, loops_map, loops_many}
 
 -- ---- equations of the fold

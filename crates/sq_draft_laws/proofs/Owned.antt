@@ -27,10 +27,10 @@ use Rattle.sq_term.specs.Terms.{body_in, homes_in}
 use Rattle.sq_plan_laws.specs.Buffers.{home_buffer, opened_buffer, HasBuffer, OpensBuffer, HoldsBuffer, Opens}
 use Rattle.sq_plan_laws.specs.Buffers.{IsAmong, CallOwns, HoldOwns, buffer_in, opened_in, array_buffers, HasInSet, OpensInSet, IsTwice, PipeOwns}
 use Rattle.sq_plan_laws.proofs.Live.{opens_has}
-use Rattle.sq_forms_fit.specs.Sizes.{IsSized}
-use Rattle.sq_forms_fit.proofs.Shapes.{mapped_at, at_mapped}
-use Rattle.sq_forms_fit.proofs.Whole.{arrays_are_sized}
-use Rattle.sq_forms_fit.proofs.Carried.{leaves_by, left_at}
+use Rattle.sq_program_laws.specs.Sizes.{IsSized}
+use Rattle.sq_program_laws.proofs.Shapes.{mapped_at, at_mapped}
+use Rattle.sq_program_laws.proofs.Whole.{arrays_are_sized}
+use Rattle.sq_program_laws.proofs.Carried.{leaves_by, left_at}
 use Rattle.sq_homes.specs.declared.choice.Choice.{Choice}
 use Rattle.sq_homes.specs.Drafts.{bodies_of, homes_of, choice_in}
 use Rattle.sq_draft_laws.specs.Choosing.{Walked, MayBeChosen, setting_of}

@@ -24,9 +24,9 @@ use Rattle.sq_term_laws.proofs.Chains.{tabled_map}
 use Rattle.sq_placed.specs.Tables.{entry_placed}
 use Rattle.sq_plan_laws.specs.Entry.{plan_tree}
 use Rattle.sq_plan_laws.proofs.LeafCalls.{plans_count}
-use Rattle.sq_forms_fit.specs.LeafCalls.{FormWeight, row_calls, all_calls, calls_step, statement_calls, body_calls}
-use Rattle.sq_forms_fit.specs.LeafCalls.{form_calls}
-use Rattle.sq_forms_fit.proofs.LeafCalls.{calls_are_of_tables}
+use Rattle.sq_program_laws.specs.LeafCalls.{FormWeight, row_calls, all_calls, calls_step, statement_calls, body_calls}
+use Rattle.sq_program_laws.specs.LeafCalls.{form_calls}
+use Rattle.sq_program_laws.proofs.LeafCalls.{calls_are_of_tables}
 use Rattle.sq_draft_laws.specs.Paths.{Nested, all_nested, nested_step, nested_in, nested_of, PathsFit}
 use Rattle.sq_draft_laws.specs.Laws.{HasPath, PathsAreShort}
 use Rattle.sq_draft_laws.proofs.Every.{Every, every_append, every_left, every_right, every_at, every_by, every_all}

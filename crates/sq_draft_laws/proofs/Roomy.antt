@@ -41,8 +41,8 @@ use Rattle.sq_term.specs.Stands.{Each, none, more}
 use Rattle.sq_term_laws.specs.Roomy.{FitsInto, HomeFits, ArgFits, reached_of, RowFits, RowsFit, AreRoomy}
 use Rattle.sq_term_laws.specs.Roomy.{EntryFits}
 use Rattle.sq_term_laws.specs.Leaves.{BodyLeaves, arrays_in, TakeSame, BodySame}
-use Rattle.sq_forms_fit.specs.Homes.{AreHomes}
-use Rattle.sq_forms_fit.proofs.RowsHold.{body_is, arg_facts, many_args}
+use Rattle.sq_program_laws.specs.Homes.{AreHomes}
+use Rattle.sq_program_laws.proofs.RowsHold.{body_is, arg_facts, many_args}
 use Rattle.sq_plan_laws.specs.Buffers.{home_buffer}
 use Rattle.sq_homes.specs.declared.choice.Choice.{Choice}
 use Rattle.sq_homes.specs.Drafts.{homes_of, buffers_of, buffer_at, args_of, choice_in}

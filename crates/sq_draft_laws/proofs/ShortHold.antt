@@ -50,13 +50,13 @@ use Rattle.sq_plan_laws.specs.LeafLaws.{event_shape}
 use Rattle.sq_term.specs.Terms.{body_in}
 use Rattle.sq_homes.specs.Drafts as drafts
 use Rattle.sq_draft_laws.specs.Paths.{Nested, nested_of, PathsFit, LeavesAreSmall}
-use Rattle.sq_forms_fit.specs.Homes.{bodies_of}
-use Rattle.sq_forms_fit.proofs.RowsHold.{body_is}
+use Rattle.sq_program_laws.specs.Homes.{bodies_of}
+use Rattle.sq_program_laws.proofs.RowsHold.{body_is}
 use Rattle.sq_draft_laws.specs.Programs.{BodiesAreTables}
 use Rattle.sq_draft_laws.specs.Choosing.{Walked}
 use Rattle.sq_draft_laws.specs.Short.{round_by, round_of, LeavesAreShort}
 use Rattle.sq_draft_laws.proofs.Dimensions.{map_many}
-use Rattle.sq_forms_fit.proofs.EachForm.{each_good}
+use Rattle.sq_program_laws.proofs.EachForm.{each_good}
 use Rattle.sq_draft_laws.proofs.LeavesHold.{leaf_form, shapes_same}
 use Rattle.sq_draft_laws.proofs.Loops.{loops_of, AreCounted, calls_are_counted, long_joined}
 use Rattle.sq_draft_laws.proofs.NestedCalls.{has_table, IsKeyed, row_at}

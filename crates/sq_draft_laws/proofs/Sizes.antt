@@ -14,7 +14,7 @@ use Rattle.sq_plan_laws.specs.Seated.{HasDims}
 use Rattle.sq_spec_laws.specs.Needs.{rounded, size_of}
 use Rattle.sq_term_laws.specs.Fits.{HaveRows}
 use Rattle.sq_term_laws.specs.Roomy.{IsWhole, IsShaped, AreDims, AreWhole}
-use Rattle.sq_forms_fit.specs.Sizes.{IsSized}
+use Rattle.sq_program_laws.specs.Sizes.{IsSized}
 
 pub elements_small : (n : ℕ) → n ≤ most_elements → n ≤ 67108864
 unfolding most_elements

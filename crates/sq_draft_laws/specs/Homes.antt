@@ -5,11 +5,11 @@ use Rattle.sq_placed.specs.declared.home.Home.{Home}
 use Rattle.sq_placed.specs.declared.home.Home.TheVariants.{Own}
 use Rattle.sq_term.specs.Terms.{body_in, homes_in}
 use Rattle.sq_term_laws.specs.Held.{AreHeldInside}
-use Rattle.sq_forms_fit.specs.Homes.{mays_of, HomesFit}
+use Rattle.sq_program_laws.specs.Homes.{mays_of, HomesFit}
 use Rattle.sq_homes.specs.declared.choice.Choice.{Choice}
 use Rattle.sq_homes.specs.Drafts.{bodies_of, homes_of, args_of}
 use Rattle.sq_draft_laws.specs.Choosing.{Walked, MayBeChosen}
-use Rattle.sq_forms_fit.specs.Entry.{EntryFacts}
+use Rattle.sq_program_laws.specs.Entry.{EntryFacts}
 
 -- Each form has a home for each of its parameters, in place only where it was found so, and a buffer for each local.
 abbrev pub HomesFitForms : Type 0

@@ -21,8 +21,8 @@ use Rattle.sq_plan_laws.specs.Entry.{plan_tree, IsPlan}
 use Rattle.sq_plan_laws.specs.Room.{IsRoomy}
 use Rattle.sq_term_laws.specs.Held.{AreHeldInside}
 use Rattle.sq_term_laws.specs.Overlapping.{OverlapsStand}
-use Rattle.sq_forms_fit.specs.Rows.{FormsFit}
-use Rattle.sq_forms_fit.specs.Entry.{entry_shapes}
+use Rattle.sq_program_laws.specs.Rows.{FormsFit}
+use Rattle.sq_program_laws.specs.Entry.{entry_shapes}
 use Rattle.sq_draft_laws.specs.Scope.{InScope, HomesAreNear}
 use Rattle.sq_draft_laws.specs.Paths.{PathsFit, LeavesAreSmall}
 

@@ -6,7 +6,7 @@ use Rattle.sq_spec.specs.declared.resolved.Resolved.{Resolved}
 use Rattle.sq_term.specs.Terms.{homes_in}
 use Rattle.sq_homes.specs.declared.choice.Choice.{Choice}
 use Rattle.sq_homes.specs.Drafts.{IsDraftOf, homes_of}
-use Rattle.sq_forms_fit.specs.Homes.{LeavesStand}
+use Rattle.sq_program_laws.specs.Homes.{LeavesStand}
 use Rattle.sq_draft_laws.specs.Choosing.{Walked}
 
 -- Each form that is a leaf has its code under the number that its homes give: on bytes the code does what the leaf

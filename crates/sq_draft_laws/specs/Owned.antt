@@ -8,7 +8,7 @@ use Rattle.sq_placed.specs.Tables.{entry_placed}
 use Rattle.sq_term.specs.Terms.{body_in, homes_in}
 use Rattle.sq_plan_laws.specs.Buffers.{Owns}
 use Rattle.sq_plan_laws.specs.Rooms.{EntryOwns}
-use Rattle.sq_forms_fit.specs.Entry.{entry_shapes}
+use Rattle.sq_program_laws.specs.Entry.{entry_shapes}
 use Rattle.sq_homes.specs.declared.choice.Choice.{Choice}
 use Rattle.sq_homes.specs.Drafts.{bodies_of, homes_of, args_of, entry_of}
 use Rattle.sq_draft_laws.specs.Choosing.{Walked, MayBeChosen, setting_of}

@@ -7,11 +7,11 @@ use Rattle.sq_lexer.specs.declared.token.Token.{Token}
 use Rattle.sq_lexer.specs.declared.token.Kind.TheVariants as k
 use Rattle.sq_lexer.specs.declared.token.Sign.TheVariants as g
 use Rattle.sq_lexer.specs.Tokens.{token}
-use Rattle.sq_shapes.specs.declared.pattern.Pattern.TheVariants as s
-use Rattle.sq_shapes.specs.Reading.{Reader, and_then, all, until, word_in, numeral_in}
-use Rattle.sq_shapes.proofs.Owing.{Owed, Want, At, wants}
-use Rattle.sq_shapes.proofs.Matching.{Front, none, next, machine, level, levels, node, capacity, children, a_word, a_number, exactly, a_sign}
-use Rattle.sq_shapes.proofs.Readings.{Reading, given, gives_more, phrase, weaken, all_reads, patterns_read, choice_reads, until_reads, IsLast, last_front, finish_reads}
+use Rattle.sq_patterns.specs.declared.pattern.Pattern.TheVariants as s
+use Rattle.sq_patterns.specs.Reading.{Reader, and_then, all, until, word_in, numeral_in}
+use Rattle.sq_patterns.proofs.Owing.{Owed, Want, At, wants}
+use Rattle.sq_patterns.proofs.Matching.{Front, none, next, machine, level, levels, node, capacity, children, a_word, a_number, exactly, a_sign}
+use Rattle.sq_patterns.proofs.Readings.{Reading, given, gives_more, phrase, weaken, all_reads, patterns_read, choice_reads, until_reads, IsLast, last_front, finish_reads}
 use Rattle.sq_machfile.specs.declared.text.LevelText.{LevelText}
 use Rattle.sq_machfile.specs.declared.text.Below.{Below}
 use Rattle.sq_machfile.specs.declared.text.NodeText.{NodeText}

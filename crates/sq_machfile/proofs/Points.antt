@@ -2,9 +2,9 @@
 use Rattle.std.proofs.Common.{◌≡◌, List, [], ◌∷◌, Ok, refl}
 use Rattle.sq_lexer.specs.declared.token.Token.{Token}
 use Rattle.sq_lexer.specs.declared.token.Sign.TheVariants as g
-use Rattle.sq_shapes.specs.declared.pattern.Pattern.TheVariants as s
-use Rattle.sq_shapes.proofs.Owing.{Owed, Want, At, Ways, By, Or, wants, run}
-use Rattle.sq_shapes.proofs.Ready.{token_like}
+use Rattle.sq_patterns.specs.declared.pattern.Pattern.TheVariants as s
+use Rattle.sq_patterns.proofs.Owing.{Owed, Want, At, Ways, By, Or, wants, run}
+use Rattle.sq_patterns.proofs.Ready.{token_like}
 use Rattle.sq_machfile.specs.Reading.{level_patterns, node_patterns}
 
 pub data Point : Type 0 where

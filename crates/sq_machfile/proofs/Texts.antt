@@ -1,6 +1,6 @@
 -- What the grammar of machine files gives: what is read is a text, a text is read, and every beginning of a text is
 -- one.
-use Rattle.sq_shapes.proofs.Places.{Format}
+use Rattle.sq_patterns.proofs.Places.{Format}
 use Rattle.sq_machfile.specs.Grammar.{IsText}
 use Rattle.sq_machfile.specs.Reading as reading
 use Rattle.sq_machfile.proofs.Points.{ways, start, closing, closes}

@@ -7,10 +7,10 @@ use Rattle.sq_text.specs.declared.code.Phase.TheVariants.{Machine}
 use Rattle.sq_text.specs.Found.{Found, Finds, firsts, nothing_found}
 use Rattle.sq_lexer.specs.declared.token.Token.{Token}
 use Rattle.sq_lexer.specs.declared.token.Sign.TheVariants as g
-use Rattle.sq_shapes.specs.declared.pattern.Pattern.TheVariants as s
-use Rattle.sq_shapes.specs.Reading.{Outcome, and_then, all, sees}
-use Rattle.sq_shapes.specs.declared.cursor.ReadError.TheVariants.{Syntax}
-use Rattle.sq_shapes.proofs.Turns.{one_more}
+use Rattle.sq_patterns.specs.declared.pattern.Pattern.TheVariants as s
+use Rattle.sq_patterns.specs.Reading.{Outcome, and_then, all, sees}
+use Rattle.sq_patterns.specs.declared.cursor.ReadError.TheVariants.{Syntax}
+use Rattle.sq_patterns.proofs.Turns.{one_more}
 use Rattle.sq_machfile.specs.declared.text.Below.{Below}
 use Rattle.sq_machfile.specs.declared.text.LevelsText.{LevelsText}
 use Rattle.sq_machfile.specs.declared.text.NodeText.{NodeText}

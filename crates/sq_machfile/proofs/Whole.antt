@@ -12,8 +12,8 @@ use Rattle.sq_lexer.specs.declared.token.Token.{Token}
 use Rattle.sq_lexer.specs.Tokens.{AreTokens}
 use Rattle.sq_lexer.specs.Faults.{FitsFile, HasFault}
 use Rattle.sq_machfile.specs.declared.text.MachineText.{MachineText}
-use Rattle.sq_shapes.specs.Texts.{SyntaxAt}
-use Rattle.sq_shapes.proofs.Places.{none_in_text, same_fault, one_text}
+use Rattle.sq_patterns.specs.Texts.{SyntaxAt}
+use Rattle.sq_patterns.proofs.Places.{none_in_text, same_fault, one_text}
 use Rattle.sq_machfile.specs.Grammar.{IsText}
 use Rattle.sq_machfile.specs.Faults.{LimitFault}
 use Rattle.sq_machfile.specs.Machines.{Hierarchy, HasLevels, machine_of, AnswersLimits, Writes, IsSyntaxFault, SyntaxFault, BrokenLimit, MachineFault, StandsFor, WithinLimits}

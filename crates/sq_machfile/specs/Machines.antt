@@ -13,7 +13,7 @@ use Rattle.sq_text.specs.Faults.{IsFirst}
 use Rattle.sq_lexer.specs.declared.token.Token.{Token}
 use Rattle.sq_lexer.specs.Tokens.{AreTokens}
 use Rattle.sq_lexer.specs.Faults.{FitsFile, HasFault}
-use Rattle.sq_shapes.specs.Texts as texts
+use Rattle.sq_patterns.specs.Texts as texts
 use Rattle.sq_machfile.specs.declared.text.LevelText.{LevelText}
 use Rattle.sq_machfile.specs.declared.text.Below.{Below}
 use Rattle.sq_machfile.specs.declared.text.LevelsText.{LevelsText}

@@ -1,12 +1,12 @@
 -- What the reader gives, as a function on lists of tokens. No public clause speaks of it.
 use Rattle.std.specs.Prelude.{ℕ, zero, suc, List, [], ◌∷◌, ◌++◌, length, Err}
-use Rattle.sq_shapes.specs.declared.cursor.ReadError.TheVariants.{Syntax}
+use Rattle.sq_patterns.specs.declared.cursor.ReadError.TheVariants.{Syntax}
 use Rattle.std.specs.List.{slice_get}
 use Rattle.sq_lexer.specs.declared.token.Sign.TheVariants as g
 use Rattle.sq_text.specs.declared.word.Word.{Word}
-use Rattle.sq_shapes.specs.declared.pattern.Pattern.{Pattern}
-use Rattle.sq_shapes.specs.declared.pattern.Pattern.TheVariants as s
-use Rattle.sq_shapes.specs.Reading.{Reader, ◌>>=◌, pure, all, choice, until, finish, word_in, numeral_in}
+use Rattle.sq_patterns.specs.declared.pattern.Pattern.{Pattern}
+use Rattle.sq_patterns.specs.declared.pattern.Pattern.TheVariants as s
+use Rattle.sq_patterns.specs.Reading.{Reader, ◌>>=◌, pure, all, choice, until, finish, word_in, numeral_in}
 use Rattle.sq_machfile.specs.declared.text.LevelText.{LevelText}
 use Rattle.sq_machfile.specs.declared.text.Below.{Below}
 use Rattle.sq_machfile.specs.declared.text.LevelsText.{LevelsText}

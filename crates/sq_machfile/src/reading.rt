@@ -6,11 +6,11 @@ ghost use Rattle.sq_lexer.specs.Tokens.{HasEnd};
 ghost use Rattle.sq_machfile.specs.Grammar.{IsText};
 ghost use Rattle.sq_machfile.specs.Machines.{IsSyntaxFault};
 ghost use Rattle.sq_machfile.specs.Reading as spec;
-ghost use Rattle.sq_shapes.specs.Reading.{Reads};
+ghost use Rattle.sq_patterns.specs.Reading.{Reads};
 
 use crate::text::{Below, LevelText, LevelsText, MachineText, NodeText, NodesText};
 use sq_lexer::{Sign, Token};
-use sq_shapes::{Pattern, ReadError, Tokens, numeral_at, syntax_fault, word_at};
+use sq_patterns::{Pattern, ReadError, Tokens, numeral_at, syntax_fault, word_at};
 use sq_text::{Phase, Stop, Word};
 use sqlite_items::Items;
 use std::alloc::Global;
@@ -69,7 +69,7 @@ fn below(alloc: Global, tokens: &mut Tokens<'_>) -> Result<Below, ReadError>
     Ok(Below { children, level })
 }
 
-#[tactic(auto, unfolding(crate::specs::Reading::levels_below, sq_shapes::specs::Reading::until))]
+#[tactic(auto, unfolding(crate::specs::Reading::levels_below, sq_patterns::specs::Reading::until))]
 fn levels_below(alloc: Global, tokens: &mut Tokens<'_>) -> Result<Items<Below>, ReadError>
     ensures { Reads (spec.levels_below tokens.old) result tokens.new }
 {
@@ -102,7 +102,7 @@ fn name(alloc: Global, tokens: &mut Tokens<'_>) -> Result<Word, ReadError>
     Ok(word)
 }
 
-#[tactic(auto, unfolding(crate::specs::Reading::names_from, sq_shapes::specs::Reading::until))]
+#[tactic(auto, unfolding(crate::specs::Reading::names_from, sq_patterns::specs::Reading::until))]
 fn names_from(alloc: Global, tokens: &mut Tokens<'_>, first: Word) -> Result<Items<Word>, ReadError>
     ensures { Reads (spec.names_from first tokens.old) result tokens.new }
 {

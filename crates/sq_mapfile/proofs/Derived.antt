@@ -7,13 +7,13 @@ use Rattle.sq_ast.specs.declared.program.VariantKind.{VariantKind}
 use Rattle.sq_ast.specs.declared.program.VariantKind.TheVariants as variant
 use Rattle.sq_lexer.specs.declared.token.Token.{Token}
 use Rattle.sq_lexer.specs.declared.token.Sign.TheVariants as g
-use Rattle.sq_shapes.specs.declared.pattern.Pattern.TheVariants as s
+use Rattle.sq_patterns.specs.declared.pattern.Pattern.TheVariants as s
 use Rattle.sq_lexer.specs.declared.token.Kind.{Kind}
-use Rattle.sq_shapes.specs.Patterns.{fits}
-use Rattle.sq_shapes.specs.Reading.{pure, all, choice, until, number_in, word_in}
-use Rattle.sq_shapes.proofs.Owing.{Owed, Want, At, wants, settle}
-use Rattle.sq_shapes.proofs.Matching.{Front, none, next, mapping, entry, instance, tunable, call, spread, cyclic, blocked, inner, leaf, a_word, a_number, exactly, a_sign}
-use Rattle.sq_shapes.proofs.Readings.{Reading, given, gives_more, phrase, weaken, all_reads, patterns_read, choice_reads, Adds, until_reads, IsLast, last_front, finish_reads}
+use Rattle.sq_patterns.specs.Patterns.{fits}
+use Rattle.sq_patterns.specs.Reading.{pure, all, choice, until, number_in, word_in}
+use Rattle.sq_patterns.proofs.Owing.{Owed, Want, At, wants, settle}
+use Rattle.sq_patterns.proofs.Matching.{Front, none, next, mapping, entry, instance, tunable, call, spread, cyclic, blocked, inner, leaf, a_word, a_number, exactly, a_sign}
+use Rattle.sq_patterns.proofs.Readings.{Reading, given, gives_more, phrase, weaken, all_reads, patterns_read, choice_reads, Adds, until_reads, IsLast, last_front, finish_reads}
 use Rattle.sq_mapfile.specs.declared.mapping.Setting.{Setting}
 use Rattle.sq_mapfile.specs.declared.mapping.Setting.TheVariants.{One, Many}
 use Rattle.sq_mapfile.specs.declared.text.SizeText.{SizeText}

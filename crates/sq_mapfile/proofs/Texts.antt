@@ -1,6 +1,6 @@
 -- What the grammar of mapping files gives: what is read is a text, a text is read, and every beginning of a text is
 -- one.
-use Rattle.sq_shapes.proofs.Places.{Format}
+use Rattle.sq_patterns.proofs.Places.{Format}
 use Rattle.sq_mapfile.specs.Grammar.{IsText}
 use Rattle.sq_mapfile.specs.Reading as reading
 use Rattle.sq_mapfile.proofs.Points.{ways, start, closing, closes}

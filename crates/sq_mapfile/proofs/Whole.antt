@@ -15,8 +15,8 @@ use Rattle.sq_ast.specs.declared.program.Program.{Program}
 use Rattle.sq_machfile.specs.declared.level.Level.{Level}
 use Rattle.sq_mapfile.specs.declared.mapping.Mapping.{Mapping}
 use Rattle.sq_mapfile.specs.declared.text.MappingText.{MappingText}
-use Rattle.sq_shapes.specs.Texts.{SyntaxAt}
-use Rattle.sq_shapes.proofs.Places.{none_in_text, same_fault, one_text}
+use Rattle.sq_patterns.specs.Texts.{SyntaxAt}
+use Rattle.sq_patterns.proofs.Places.{none_in_text, same_fault, one_text}
 use Rattle.sq_mapfile.specs.Grammar.{IsText}
 use Rattle.sq_mapfile.specs.Mappings.{Writes, IsSyntaxFault, SyntaxFault, BreaksRule, RuleFault, MappingFault, SpreadsOnce, Resolves, StandsFor}
 use Rattle.sq_mapfile.specs.Resolving.{mapping_with}

@@ -9,7 +9,7 @@ use Rattle.sq_lexer.specs.Faults.{FitsFile, HasFault}
 use Rattle.sq_text.specs.declared.spread.SpreadRule.{SpreadRule}
 use Rattle.sq_text.specs.declared.spread.SpreadRule.TheVariants.{Cyclic}
 use Rattle.sq_text.specs.declared.word.Word.{Word}
-use Rattle.sq_shapes.specs.Texts as texts
+use Rattle.sq_patterns.specs.Texts as texts
 use Rattle.sq_ast.specs.declared.program.VariantKind.TheVariants.{Inner}
 use Rattle.sq_ast.specs.declared.program.Program.{Program}
 use Rattle.sq_machfile.specs.declared.level.Level.{Level}

@@ -6,12 +6,12 @@ use Rattle.sq_ast.specs.declared.program.VariantKind.{VariantKind}
 use Rattle.sq_ast.specs.declared.program.VariantKind.TheVariants.{Inner, Leaf}
 use Rattle.sq_lexer.specs.declared.token.Token.{Token}
 use Rattle.sq_lexer.specs.declared.token.Sign.TheVariants as g
-use Rattle.sq_shapes.specs.declared.pattern.Pattern.{Pattern}
-use Rattle.sq_shapes.specs.declared.pattern.Pattern.TheVariants as s
+use Rattle.sq_patterns.specs.declared.pattern.Pattern.{Pattern}
+use Rattle.sq_patterns.specs.declared.pattern.Pattern.TheVariants as s
 use Rattle.sq_text.specs.declared.spread.SpreadRule.{SpreadRule}
 use Rattle.sq_text.specs.declared.spread.SpreadRule.TheVariants as spreading
 use Rattle.sq_text.specs.declared.word.Word.{Word}
-use Rattle.sq_shapes.specs.Reading.{Reader, ◌>>=◌, pure, all, choice, until, finish, word_in, number_in}
+use Rattle.sq_patterns.specs.Reading.{Reader, ◌>>=◌, pure, all, choice, until, finish, word_in, number_in}
 use Rattle.sq_mapfile.specs.Grammar.{number_of}
 use Rattle.sq_mapfile.specs.declared.mapping.Setting.{Setting}
 use Rattle.sq_mapfile.specs.declared.mapping.Setting.TheVariants.{One, Many}

@@ -6,13 +6,13 @@ ghost use Rattle.sq_lexer.specs.Tokens.{HasEnd};
 ghost use Rattle.sq_mapfile.specs.Grammar.{IsText};
 ghost use Rattle.sq_mapfile.specs.Mappings.{IsSyntaxFault};
 ghost use Rattle.sq_mapfile.specs.Reading as spec;
-ghost use Rattle.sq_shapes.specs.Reading.{Reads, ReadsFront};
+ghost use Rattle.sq_patterns.specs.Reading.{Reads, ReadsFront};
 
 use crate::mapping::{Numbers, Setting};
 use crate::text::{InstanceText, ItemText, MappingText, SizeText, Version};
 use sq_ast::VariantKind;
 use sq_lexer::{Sign, Token};
-use sq_shapes::{Pattern, ReadError, Tokens, number_at, syntax_fault, word_at};
+use sq_patterns::{Pattern, ReadError, Tokens, number_at, syntax_fault, word_at};
 use sq_text::{Phase, SpreadRule, Stop, Word};
 use sqlite_items::Items;
 use std::alloc::{AllocError, Global};
@@ -105,7 +105,7 @@ fn next_size(alloc: Global, tokens: &mut Tokens<'_>) -> Result<SizeText, ReadErr
 }
 
 // The first size and those after it, up to the bracket.
-#[tactic(auto, unfolding(crate::specs::Reading::more_sizes, sq_shapes::specs::Reading::until))]
+#[tactic(auto, unfolding(crate::specs::Reading::more_sizes, sq_patterns::specs::Reading::until))]
 fn more_sizes(
     alloc: Global,
     tokens: &mut Tokens<'_>,
@@ -168,7 +168,7 @@ fn next_value(tokens: &mut Tokens<'_>) -> Result<i64, ReadError>
 }
 
 // The first value and those after it, up to the bracket.
-#[tactic(auto, unfolding(crate::specs::Reading::more_values, sq_shapes::specs::Reading::until))]
+#[tactic(auto, unfolding(crate::specs::Reading::more_values, sq_patterns::specs::Reading::until))]
 fn more_values(alloc: Global, tokens: &mut Tokens<'_>, first: i64) -> Result<Numbers, ReadError>
     ensures { Reads (spec.more_values first tokens.old) result tokens.new }
 {
@@ -279,7 +279,7 @@ fn item(alloc: Global, tokens: &mut Tokens<'_>, version: Version) -> Result<Item
     }
 }
 
-#[tactic(auto, unfolding(crate::specs::Reading::items, sq_shapes::specs::Reading::until))]
+#[tactic(auto, unfolding(crate::specs::Reading::items, sq_patterns::specs::Reading::until))]
 fn items(
     alloc: Global,
     tokens: &mut Tokens<'_>,
@@ -347,7 +347,7 @@ fn instance(
     Ok(instance)
 }
 
-#[tactic(auto, unfolding(crate::specs::Reading::instances, sq_shapes::specs::Reading::until))]
+#[tactic(auto, unfolding(crate::specs::Reading::instances, sq_patterns::specs::Reading::until))]
 fn instances(
     alloc: Global,
     tokens: &mut Tokens<'_>,

@@ -9,8 +9,8 @@ use Rattle.sq_spec.specs.declared.body.FormBody.{FormBody}
 use Rattle.sq_spec.specs.declared.resolved.Resolved.{Resolved}
 use Rattle.sq_spec.specs.Works.{param_shapes, local_shapes}
 use Rattle.sq_flat.specs.Held.{extents_in}
-use Rattle.sq_forms_fit.specs.Homes.{params_at}
-use Rattle.sq_forms_fit.proofs.RowsHold.{arrays_are, params_are}
+use Rattle.sq_program_laws.specs.Homes.{params_at}
+use Rattle.sq_program_laws.proofs.RowsHold.{arrays_are, params_are}
 use Rattle.sq_homes.specs.Drafts.{args_of}
 use Rattle.sq_draft_laws.specs.Choosing.{Walked}
 use Rattle.sq_draft_laws.proofs.Entry.{entry, extents, form, params, args_many}

@@ -15,8 +15,8 @@ use Rattle.sq_spec.specs.Statements.{over, starts_from}
 use Rattle.sq_term_laws.specs.Fits.{AskedOfStatement, all_parts}
 use Rattle.sq_hoist.specs.Counts.{total}
 use Rattle.sq_hoist.specs.Loops.{Nest, joined, in_times, looped}
-use Rattle.sq_forms_fit.specs.Held.{Begun, row_list, begun}
-use Rattle.sq_forms_fit.proofs.Loops.{nothing_more, begun_call, begun_map}
+use Rattle.sq_program_laws.specs.Held.{Begun, row_list, begun}
+use Rattle.sq_program_laws.proofs.Loops.{nothing_more, begun_call, begun_map}
 use Rattle.sq_pass_laws.specs.Times.{AreCounts, times_step, IsBegun}
 use Rattle.sq_pass_laws.proofs.Nests.{nest_of, IsCall, Climbs, climb, both}
 

@@ -16,7 +16,7 @@ use Rattle.sq_spec_laws.proofs.TableRowsHold.{tables_call, tables_map}
 use Rattle.sq_placed.specs.Pipes.{CallLoops, loop_round, call_loops}
 use Rattle.sq_placed.proofs.Pipes as pipes
 use Rattle.sq_term_laws.specs.Orders.{EachOf}
-use Rattle.sq_forms_fit.proofs.Loops.{each_both, each_left, each_map, each_right}
+use Rattle.sq_program_laws.proofs.Loops.{each_both, each_left, each_map, each_right}
 use Rattle.sq_pass_laws.proofs.HoistLists.{all_each}
 use Rattle.sq_pass_laws.proofs.Nests.{same_number}
 use Rattle.sq_pass_laws.proofs.Sites.{IsWithin, LowersSo}

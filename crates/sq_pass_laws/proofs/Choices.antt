@@ -14,7 +14,7 @@ use Rattle.sq_placed.specs.declared.home.Homes.{Homes}
 use Rattle.sq_cells.specs.Work.{Buffer}
 use Rattle.sq_plan_laws.specs.Calling.{place_of}
 use Rattle.sq_term.specs.Terms.{no_homes, homes_in}
-use Rattle.sq_forms_fit.specs.Piped.{IsDoubled}
+use Rattle.sq_program_laws.specs.Piped.{IsDoubled}
 use Rattle.sq_homes.specs.declared.choice.Choice.{Choice}
 use Rattle.sq_homes.specs.Numbering.{left_by, home_of, hoisted as left_first, others, position, form_homes}
 use Rattle.sq_homes.specs.Drafts.{bodies_of, homes_of, choice_in, no_choice, instance_at, rule_by}

@@ -25,9 +25,9 @@ use Rattle.sq_term_laws.specs.Leaves.{AskedInLoops, RowLeaves, each_in, loops_in
 use Rattle.sq_term_laws.proofs.Chains.{leaves_call, leaves_map}
 use Rattle.sq_term_laws.specs.Orders.{EachOf, Round, all_rounds, map_rounds, rounds_in, params_of}
 use Rattle.sq_term_laws.specs.Held.{IsHeldRow, AreHeldRows}
-use Rattle.sq_forms_fit.specs.Held.{Begun, loop_list, chains, all_calls, all_loops, begun, LoopHolds}
-use Rattle.sq_forms_fit.proofs.Loops.{begun_call, begun_map, all_turns, each_at, each_both, each_left, each_map}
-use Rattle.sq_forms_fit.proofs.Loops.{each_right}
+use Rattle.sq_program_laws.specs.Held.{Begun, loop_list, chains, all_calls, all_loops, begun, LoopHolds}
+use Rattle.sq_program_laws.proofs.Loops.{begun_call, begun_map, all_turns, each_at, each_both, each_left, each_map}
+use Rattle.sq_program_laws.proofs.Loops.{each_right}
 use Rattle.sq_hoist.specs.Counts.{total}
 use Rattle.sq_hoist.specs.Loops.{Nest, seen, sites_by, sites_in, all_sites}
 use Rattle.sq_hoist.specs.Choices.{find_leaves, leaves_or}
@@ -36,7 +36,7 @@ use Rattle.sq_pass_laws.specs.Times.{AreCounts, IsBegun}
 use Rattle.sq_pass_laws.proofs.Nests.{itself, if_true, nest_of, climb, IsBound, bounds_climb, follows_all}
 use Rattle.sq_pass_laws.proofs.Begins.{times_map}
 use Rattle.sq_pass_laws.proofs.Staying.{words, AreAlike}
-use Rattle.sq_forms_fit.proofs.Rounds.{rounds_call, rounds_map}
+use Rattle.sq_program_laws.proofs.Rounds.{rounds_call, rounds_map}
 use Rattle.sq_pass_laws.proofs.Alone.{IsAlone, is_alone}
 use Rattle.sq_pass_laws.proofs.Sites.{Leaves, from_left, from_right, HasNumber, Numbered, sites_of_one, AreLocal}
 use Rattle.sq_pass_laws.proofs.Sites.{first_local, others_local}

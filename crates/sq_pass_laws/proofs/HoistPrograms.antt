@@ -27,7 +27,7 @@ use Rattle.sq_term_laws.specs.Orders.{EachOf, rounds_of}
 use Rattle.sq_term_laws.specs.Held.{AreHeldRows}
 use Rattle.sq_term_laws.specs.Overlapping.{IsSuited, OverlapsStand}
 use Rattle.sq_term_laws.proofs.Overlaps.{none_overlap}
-use Rattle.sq_forms_fit.specs.Held.{loops_of, LoopHolds, HoldsFit}
+use Rattle.sq_program_laws.specs.Held.{loops_of, LoopHolds, HoldsFit}
 use Rattle.sq_homes.specs.declared.choice.Choice.{Choice}
 use Rattle.sq_homes.specs.Numbering.{left_by, home_of, hoisted as left_first, others, position, form_homes}
 use Rattle.sq_homes.specs.Drafts.{bodies_of, homes_of, choice_in, no_choice, instance_at, rule_by}
@@ -47,7 +47,7 @@ use Rattle.sq_pass_laws.proofs.Sites.{found_back, not_found, found_so, all_have,
 use Rattle.sq_pass_laws.proofs.Holding.{HeldAt}
 use Rattle.sq_pass_laws.proofs.Chosen.{chosen, AreChosen, IsFine, list_leaves, list_rounds, list_loops, list_fine}
 use Rattle.sq_pass_laws.proofs.Tables.{caller_of, number_of, IsFlat, RowIs, ListIs, BodyIs, bodies_are}
-use Rattle.sq_forms_fit.proofs.Loops.{each_both, each_from, each_map}
+use Rattle.sq_program_laws.proofs.Loops.{each_both, each_from, each_map}
 use Rattle.sq_pass_laws.proofs.HoistLists.{each_two}
 
 -- ---- lists

@@ -22,9 +22,9 @@ use Rattle.sq_term_laws.specs.Leaves as term
 use Rattle.sq_term_laws.specs.Leaves.{Left, HasTurns, AskedInLoops, RowLeaves}
 use Rattle.sq_term_laws.proofs.Chains.{leaves_call, leaves_map}
 use Rattle.sq_term_laws.specs.Orders.{EachOf, params_of}
-use Rattle.sq_forms_fit.specs.Held.{Begun, BegunLoop, row_list, loop_list, begun_step, begun, Stays}
-use Rattle.sq_forms_fit.specs.Held.{LoopHolds}
-use Rattle.sq_forms_fit.proofs.Loops.{begun_call, begun_map, all_turns, each_at, each_both, each_map}
+use Rattle.sq_program_laws.specs.Held.{Begun, BegunLoop, row_list, loop_list, begun_step, begun, Stays}
+use Rattle.sq_program_laws.specs.Held.{LoopHolds}
+use Rattle.sq_program_laws.proofs.Loops.{begun_call, begun_map, all_turns, each_at, each_both, each_map}
 use Rattle.sq_hoist.specs.Counts.{total}
 use Rattle.sq_hoist.specs.Loops.{Nest, looped, stays}
 use Rattle.sq_pass_laws.specs.Times.{AreCounts, IsBegun}

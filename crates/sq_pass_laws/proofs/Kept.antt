@@ -21,8 +21,8 @@ use Rattle.sq_term_laws.specs.Leaves.{Left, loops_left, RowLeaves, AskedInLoops,
 use Rattle.sq_term_laws.proofs.Chains.{leaves_call, leaves_map}
 use Rattle.sq_term_laws.specs.Overlapping.{OverlapsStand}
 use Rattle.sq_term_laws.proofs.Overlaps.{none_overlap}
-use Rattle.sq_forms_fit.specs.Held.{HoldsFit, UnheldFits}
-use Rattle.sq_forms_fit.specs.Piped.{PipesFit, UnpipedFits}
+use Rattle.sq_program_laws.specs.Held.{HoldsFit, UnheldFits}
+use Rattle.sq_program_laws.specs.Piped.{PipesFit, UnpipedFits}
 use Rattle.sq_homes.specs.declared.choice.Choice.{Choice}
 use Rattle.sq_homes.specs.Numbering.{left_by}
 use Rattle.sq_homes.specs.Drafts.{bodies_of, homes_of, choice_in}

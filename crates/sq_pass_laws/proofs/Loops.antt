@@ -30,8 +30,8 @@ use Rattle.sq_term_laws.specs.Orders.{EachOf}
 use Rattle.sq_term_laws.specs.Overlapping as overlapping
 use Rattle.sq_term_laws.specs.Overlapping.{AskedInMaps, each_in_maps, any_by, can_overlap, RowOverlaps, Overlaps}
 use Rattle.sq_term_laws.proofs.Overlaps.{overlaps_call, overlaps_map}
-use Rattle.sq_forms_fit.specs.Piped.{IsDoubled, IsClear, IsClearBy, LoopOverlaps}
-use Rattle.sq_forms_fit.proofs.Loops.{each_at, each_both, each_left, each_map, each_right}
+use Rattle.sq_program_laws.specs.Piped.{IsDoubled, IsClear, IsClearBy, LoopOverlaps}
+use Rattle.sq_program_laws.proofs.Loops.{each_at, each_both, each_left, each_map, each_right}
 use Rattle.sq_draft_laws.proofs.Hoisting.{at_index}
 use Rattle.sq_hoist.specs.Counts.{total}
 use Rattle.sq_hoist.specs.Loops.{cut}

@@ -16,10 +16,10 @@ use Rattle.sq_placed.specs.declared.home.Home.TheVariants.{InPlace}
 use Rattle.sq_placed.specs.Pipes.{CallLoop, call_loops_of, LoopsStand}
 use Rattle.sq_term_laws.specs.Orders.{EachOf}
 use Rattle.sq_term_laws.specs.Overlapping.{BodyOverlaps}
-use Rattle.sq_forms_fit.specs.Held.{HoldsFit}
-use Rattle.sq_forms_fit.specs.Piped.{IsDoubled, MayOverlap, PipesFit}
-use Rattle.sq_forms_fit.proofs.Loops.{each_both, each_from, each_map}
-use Rattle.sq_forms_fit.proofs.Unpiped.{pipes_fit_stand}
+use Rattle.sq_program_laws.specs.Held.{HoldsFit}
+use Rattle.sq_program_laws.specs.Piped.{IsDoubled, MayOverlap, PipesFit}
+use Rattle.sq_program_laws.proofs.Loops.{each_both, each_from, each_map}
+use Rattle.sq_program_laws.proofs.Unpiped.{pipes_fit_stand}
 use Rattle.sq_homes.specs.declared.choice.Choice.{Choice}
 use Rattle.sq_homes.specs.Drafts.{bodies_of, choice_in}
 use Rattle.sq_draft_laws.specs.Choosing.{Walked, IsChosenFor, MayBeChosen}

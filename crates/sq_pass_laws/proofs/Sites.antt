@@ -18,7 +18,7 @@ use Rattle.sq_hoist.specs.Choices.{find_leaves}
 use Rattle.sq_hoist.proofs.Opened.{inner_call, inner_map}
 use Rattle.sq_pass_laws.proofs.Nests.{nest_of, same_number}
 use Rattle.sq_pass_laws.proofs.Alone.{is_alone}
-use Rattle.sq_forms_fit.proofs.Loops.{each_both, each_left, each_map, each_right}
+use Rattle.sq_program_laws.proofs.Loops.{each_both, each_left, each_map, each_right}
 use Rattle.sq_pass_laws.proofs.HoistLists.{each_two}
 
 -- ---- what is found among sites

@@ -44,7 +44,7 @@ use Rattle.sq_pass_laws.proofs.Sites.{From}
 use Rattle.sq_pass_laws.proofs.TimesHold.{tables_have_times}
 use Rattle.sq_pass_laws.proofs.Keyed.{IsKeyed, tables_are_keyed}
 use Rattle.sq_pass_laws.proofs.Heads.{words_of, words_are}
-use Rattle.sq_forms_fit.proofs.Loops.{each_at, each_from}
+use Rattle.sq_program_laws.proofs.Loops.{each_at, each_from}
 
 -- ---- forms by their keys
 

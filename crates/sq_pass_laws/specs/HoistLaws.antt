@@ -2,7 +2,7 @@
 use Rattle.sq_spec.specs.declared.resolved.Resolved.{Resolved}
 use Rattle.sq_spec.specs.Bodies.{body_of}
 use Rattle.sq_term.specs.Terms.{homes_in}
-use Rattle.sq_forms_fit.specs.Held.{HoldsFit}
+use Rattle.sq_program_laws.specs.Held.{HoldsFit}
 use Rattle.sq_homes.specs.Drafts.{homes_of}
 use Rattle.sq_draft_laws.specs.Choosing.{Walked, MayBeChosen, NoneOverlaps}
 use Rattle.sq_hoist.specs.Choices.{hoisted}

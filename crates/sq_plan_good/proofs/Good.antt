@@ -50,13 +50,13 @@ use Rattle.sq_plan_laws.specs.Seated.{at_node}
 use Rattle.sq_plan_laws.specs.Entry.{plan_tree, form_at, held_in, IsPlan, EndsSo}
 use Rattle.sq_plan_laws.specs.Room.{IsRoomy, HasRoom}
 use Rattle.sq_term_laws.specs.Held.{AreHeldInside}
-use Rattle.sq_forms_fit.specs.Rows.{FormsFit}
-use Rattle.sq_forms_fit.proofs.Facts.{passed_at}
-use Rattle.sq_forms_fit.specs.Homes as fit
-use Rattle.sq_forms_fit.specs.Homes.{mays_of}
+use Rattle.sq_program_laws.specs.Rows.{FormsFit}
+use Rattle.sq_program_laws.proofs.Facts.{passed_at}
+use Rattle.sq_program_laws.specs.Homes as fit
+use Rattle.sq_program_laws.specs.Homes.{mays_of}
 use Rattle.sq_plan_laws.specs.Rooms as rooms
-use Rattle.sq_forms_fit.specs.Entry.{EntryFacts, ReadCodes, AreWhole, IsWhole}
-use Rattle.sq_forms_fit.specs.Entry.{entry_shapes, anything}
+use Rattle.sq_program_laws.specs.Entry.{EntryFacts, ReadCodes, AreWhole, IsWhole}
+use Rattle.sq_program_laws.specs.Entry.{entry_shapes, anything}
 use Rattle.sq_draft_laws.specs.AtLevels.{IsAtLevel}
 use Rattle.sq_draft_laws.specs.Laws.{HasPath}
 use Rattle.sq_draft_laws.specs.Opened.{WalkedIsThere}

@@ -41,8 +41,8 @@ use Rattle.sq_draft_laws.proofs.Found.{found_plain}
 use Rattle.sq_draft_laws.proofs.Hoisted.{IsForm, is_form, params_many, param_is, param_or}
 use Rattle.sq_draft_laws.proofs.Numbers.{first_of}
 use Rattle.sq_draft_laws.proofs.ArrayPlaces.{HomeIs, stays, owns, owns_two, leaves, home_by, StandsAt, param_stands, local_stands}
-use Rattle.sq_forms_fit.proofs.RowsHold.{arrays_are}
-use Rattle.sq_forms_fit.proofs.Shapes.{param_shape}
+use Rattle.sq_program_laws.proofs.RowsHold.{arrays_are}
+use Rattle.sq_program_laws.proofs.Shapes.{param_shape}
 use Rattle.sq_plan_good.specs.Needed.{KeepInPlace}
 use Rattle.sq_plan_good.specs.Sums.{either_buffer, params_from, brought}
 

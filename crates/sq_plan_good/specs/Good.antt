@@ -23,10 +23,10 @@ use Rattle.sq_cells.specs.Alike.{Weight, leaf_count}
 use Rattle.sq_plan_laws.specs.Codes.{loaded}
 use Rattle.sq_term.specs.Terms.{body_in, homes_in}
 use Rattle.sq_plan_laws.specs.Entry.{held_in, EndsSo}
-use Rattle.sq_forms_fit.specs.Entry.{entry_shapes}
-use Rattle.sq_forms_fit.specs.Held.{HoldsFit}
-use Rattle.sq_forms_fit.specs.Piped.{PipesFit}
-use Rattle.sq_forms_fit.specs.LeafCalls.{form_calls}
+use Rattle.sq_program_laws.specs.Entry.{entry_shapes}
+use Rattle.sq_program_laws.specs.Held.{HoldsFit}
+use Rattle.sq_program_laws.specs.Piped.{PipesFit}
+use Rattle.sq_program_laws.specs.LeafCalls.{form_calls}
 use Rattle.sq_nests.specs.Nests.{named_in}
 use Rattle.sq_nests.specs.Stacks.{capped, total, of_level}
 use Rattle.sq_nests.specs.Drafts.{whole, size_in, IsPlaceable, KeepsRoom}

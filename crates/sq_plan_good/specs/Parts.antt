@@ -4,11 +4,11 @@ use Rattle.sq_spec.specs.Numbered.{TablesMeanProgram, TablesAreRaceFree}
 use Rattle.sq_plan_laws.specs.Entry.{PlansAreSafe}
 use Rattle.sq_plan_laws.specs.LeafCalls.{PlansCount}
 use Rattle.sq_plan_laws.specs.Room.{PlansInside}
-use Rattle.sq_forms_fit.specs.Laws.{ProgramsFit}
+use Rattle.sq_program_laws.specs.Laws.{ProgramsFit}
 use Rattle.sq_plan_laws.specs.Rooms.{RoomIsStowed}
-use Rattle.sq_forms_fit.specs.Entry.{EntriesSit, EntriesArePlans, EntriesFollow}
-use Rattle.sq_forms_fit.specs.LeafCalls.{CallsAreOfTables}
-use Rattle.sq_forms_fit.specs.Written.{PlansAreWritten}
+use Rattle.sq_program_laws.specs.Entry.{EntriesSit, EntriesArePlans, EntriesFollow}
+use Rattle.sq_program_laws.specs.LeafCalls.{CallsAreOfTables}
+use Rattle.sq_program_laws.specs.Written.{PlansAreWritten}
 use Rattle.sq_draft_laws.specs.AtLevels.{LeavesAreAtLevels}
 use Rattle.sq_draft_laws.specs.Laws.{FormsAreNear, PathsAreShort, PlansAreWellFormed}
 use Rattle.sq_draft_laws.specs.Given.{HomesAreLeveled}

@@ -20,12 +20,12 @@ use sq_draft_laws::{
     homes_fit_forms, lanes_are_there, leaves_are_at_levels, memories_are_machines, paths_are_short,
     plans_are_well_formed,
 };
-use sq_forms_fit::{
+use sq_placed::laws::{same_works_mean, same_works_race};
+use sq_plan_laws::{plans_are_safe, plans_count, plans_inside, room_is_stowed};
+use sq_program_laws::{
     calls_are_of_tables, entries_are_plans, entries_follow, entries_sit, plans_are_written,
     programs_fit,
 };
-use sq_placed::laws::{same_works_mean, same_works_race};
-use sq_plan_laws::{plans_are_safe, plans_count, plans_inside, room_is_stowed};
 use sq_spec::meaning::{tables_are_free_of_races, tables_mean_the_program};
 use sq_store::laws::the_walk_lays_buffers;
 use sq_work::laws::race_free_maps_are_serial;

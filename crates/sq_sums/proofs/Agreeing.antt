@@ -17,9 +17,9 @@ use Rattle.sq_ir.specs.declared.plan.Buffer.{Buffer}
 use Rattle.sq_ir.specs.declared.plan.PlanNode.{PlanNode}
 use Rattle.sq_ir.proofs.Meeting.{meets_skip, meets_act, meets_seq, meets_par, meets_loop, meets_spread, meets_case}
 use Rattle.sq_ir.proofs.Meeting.{meets_within}
-use Rattle.sq_nums.specs.Words.{count}
-use Rattle.sq_nums.specs.Laws as nums
-use Rattle.sq_nums.proofs.Values.{value-is, count-is}
+use Rattle.sq_term_nums.specs.Words.{count}
+use Rattle.sq_term_nums.specs.Laws as nums
+use Rattle.sq_term_nums.proofs.Values.{value-is, count-is}
 use Rattle.sq_nests.specs.Nests as nests
 use Rattle.sq_nests.specs.Nests.{End, Both, Open, Scopes, ScopesAt, scopes_of, all_at, each_of}
 use Rattle.sq_nests.specs.Levels.{AllNodes}

@@ -13,7 +13,7 @@ use Rattle.sq_ir.specs.declared.term.Term.TheVariants as t
 use Rattle.sq_ir.specs.declared.term.Term.TheOpen.{Term-F}
 use Rattle.sq_ir.specs.declared.term.Term.TheFolds.{ind-Term, map-Term}
 use Rattle.sq_ir.specs.declared.plan.PlanNode.{PlanNode}
-use Rattle.sq_nums.specs.Words.{Env, fit, div_of, rem_of, nat_part, pick_of, value_step, value, count}
+use Rattle.sq_term_nums.specs.Words.{Env, fit, div_of, rem_of, nat_part, pick_of, value_step, value, count}
 use Rattle.sq_nests.specs.Nests.{End, Both, Open}
 use Rattle.sq_nests.specs.Stacks.{capped}
 use Rattle.sq_sums.specs.declared.region.Region.{Region}

@@ -35,9 +35,9 @@ use Rattle.sq_ir.proofs.Meeting.{meets_within}
 use Rattle.sq_ir.proofs.Equations.{written_skip, written_act, written_seq, written_par, written_loop, written_spread}
 use Rattle.sq_ir.proofs.Equations.{written_case, written_within}
 use Rattle.sq_ir.proofs.OpenScopes.{contains-first}
-use Rattle.sq_nums.specs.Words.{count}
-use Rattle.sq_nums.specs.Laws as nums
-use Rattle.sq_nums.proofs.Values.{value-is, count-is}
+use Rattle.sq_term_nums.specs.Words.{count}
+use Rattle.sq_term_nums.specs.Laws as nums
+use Rattle.sq_term_nums.proofs.Values.{value-is, count-is}
 use Rattle.sq_nests.specs.Stacks.{capped}
 use Rattle.sq_nests.proofs.Machines.{layered, child-there}
 use Rattle.sq_sums.specs.declared.toll.Kind.{Kind}

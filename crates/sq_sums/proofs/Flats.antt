@@ -7,7 +7,7 @@ use Rattle.sq_ir.specs.declared.term.Term.TheVariants as t
 use Rattle.sq_ir.specs.declared.term.Term.TheOpen.{Term-F}
 use Rattle.sq_ir.specs.declared.term.Term.TheFolds.{ind-Term, map-Term}
 use Rattle.sq_ir.specs.declared.plan.PlanNode.{PlanNode}
-use Rattle.sq_nums.specs.Words.{count, value}
+use Rattle.sq_term_nums.specs.Words.{count, value}
 use Rattle.sq_nests.specs.Nests.{Nest, End, Both, Open}
 use Rattle.sq_sums.specs.Parts.{all_parts, each_turn, arm_of, arm_at, through}
 use Rattle.sq_sums.specs.Tops.{Stand, TopsAt, at_turn, env_at, tops, raise_to, raise_by, any_scope, has_scope}

@@ -21,9 +21,9 @@ use Rattle.sq_ir.specs.declared.plan.PlanNode.{PlanNode}
 use Rattle.sq_ir.specs.declared.plan.Plan.{Plan}
 use Rattle.sq_ir.proofs.Meeting.{meets_skip, meets_act, meets_seq, meets_par, meets_loop, meets_spread, meets_case}
 use Rattle.sq_ir.proofs.Meeting.{meets_within}
-use Rattle.sq_nums.specs.Laws as nums
-use Rattle.sq_nums.specs.Words.{nat_part, value, count}
-use Rattle.sq_nums.proofs.Values.{value-is, count-is}
+use Rattle.sq_term_nums.specs.Laws as nums
+use Rattle.sq_term_nums.specs.Words.{nat_part, value, count}
+use Rattle.sq_term_nums.proofs.Values.{value-is, count-is}
 use Rattle.sq_nests.specs.Stacks.{capped}
 use Rattle.sq_nests.proofs.Machines.{layered, child-there, root-there}
 use Rattle.sq_sums.specs.declared.flow.Flow.{Flow, roll-Flow}

@@ -11,7 +11,7 @@ use Rattle.sq_ir.specs.declared.term.Term.TheVariants as t
 use Rattle.sq_ir.specs.declared.term.Term.TheOpen.{Term-F}
 use Rattle.sq_ir.specs.declared.term.Term.TheFolds.{ind-Term, map-Term}
 use Rattle.sq_ir.specs.declared.plan.PlanNode.{PlanNode}
-use Rattle.sq_nums.specs.Words.{nat_part, value, count}
+use Rattle.sq_term_nums.specs.Words.{nat_part, value, count}
 use Rattle.sq_nests.specs.Nests.{Nest, End, Both, Open}
 use Rattle.sq_nests.specs.Stacks.{capped}
 use Rattle.sq_sums.specs.declared.region.Region.{Region}

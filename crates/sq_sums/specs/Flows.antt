@@ -4,7 +4,7 @@ use Rattle.sq_ir.specs.declared.term.Action.{Action}
 use Rattle.sq_ir.specs.declared.term.Term.{Term}
 use Rattle.sq_ir.specs.declared.term.Term.TheOpen.{Term-F}
 use Rattle.sq_ir.specs.declared.term.Term.TheFolds.{fold-Term}
-use Rattle.sq_nums.specs.Words.{Env, value, count}
+use Rattle.sq_term_nums.specs.Words.{Env, value, count}
 use Rattle.sq_nests.specs.Stacks.{capped}
 use Rattle.sq_sums.specs.declared.flow.Flow.{Flow}
 use Rattle.sq_sums.specs.declared.flow.Flow.TheVariants as f

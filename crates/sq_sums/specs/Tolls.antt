@@ -18,7 +18,7 @@ use Rattle.sq_ir.specs.declared.plan.Buffer.{Buffer}
 use Rattle.sq_ir.specs.declared.plan.PlanNode.{PlanNode}
 use Rattle.sq_ir.specs.declared.plan.Plan.{Plan}
 use Rattle.sq_nests.specs.Stacks.{capped}
-use Rattle.sq_nums.specs.Words.{value, count}
+use Rattle.sq_term_nums.specs.Words.{value, count}
 use Rattle.sq_sums.specs.declared.toll.Kind.{Kind}
 use Rattle.sq_sums.specs.declared.toll.Kind.TheVariants.{Down, Up, Copies, Fills, Accumulations, Leaves}
 use Rattle.sq_sums.specs.Tops.{Stand, at_turn, at_other, child_at, env_at}

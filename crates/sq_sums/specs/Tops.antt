@@ -7,7 +7,7 @@ use Rattle.sq_ir.specs.declared.term.Term.TheOpen.{Term-F}
 use Rattle.sq_ir.specs.declared.term.Term.TheFolds.{fold-Term}
 use Rattle.sq_ir.specs.declared.num.Num.{Num}
 use Rattle.sq_ir.specs.declared.plan.PlanNode.{PlanNode}
-use Rattle.sq_nums.specs.Words.{Env, turns_of, value, count}
+use Rattle.sq_term_nums.specs.Words.{Env, turns_of, value, count}
 use Rattle.sq_nests.specs.Nests.{Nest, End, Open}
 use Rattle.sq_nests.specs.Stacks.{capped}
 use Rattle.sq_sums.specs.Parts.{all_parts, each_turn, arm_at, greatest, through}

@@ -14,7 +14,7 @@ use crate::stand::Stand;
 use crate::tally::{Counter, tally};
 use crate::toll::Kind;
 use sq_ir::{Carried, EventCounts, Plan, PlanNode, Term};
-use sq_nums::Turns;
+use sq_term_nums::Turns;
 use std::alloc::{AllocError, Global};
 
 // Whether the number of children is known of each level, or the term doesn't ask for it.

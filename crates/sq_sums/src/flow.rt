@@ -2,7 +2,7 @@
 
 ghost use Rattle.std.specs.Prelude.{◌≡◌, ◌+◌, ◌*◌, ◌∷◌, ◌++◌, map, get_or, [], IfOk};
 ghost use Rattle.sq_nests.specs.Stacks.{capped};
-ghost use Rattle.sq_nums.specs.Words.{turns_of, env_of};
+ghost use Rattle.sq_term_nums.specs.Words.{turns_of, env_of};
 ghost use Rattle.sq_sums.specs.Counters.{toll_by};
 ghost use Rattle.sq_sums.specs.Fans.{fans_inside};
 ghost use Rattle.sq_sums.specs.Tolls.{all_sum, each_sum, arm_sum_of};
@@ -18,7 +18,7 @@ use crate::scale::capped_sum;
 use crate::stand::arm_for;
 use crate::toll::{Kind, toll, word};
 use sq_ir::{Buffer, Num, Term};
-use sq_nums::{Env, Turns, count_of};
+use sq_term_nums::{Env, Turns, count_of};
 use sqlite_items::{Boxed as Box, Items};
 use std::alloc::{AllocError, Global};
 

@@ -1,7 +1,7 @@
 //! Which scopes of a part are reached, at a node with so many children.
 
 ghost use Rattle.std.specs.Prelude.{◌≡◌, ◌<◌, length, replicate, suc, true, false, IfOk, set, get_or, map};
-ghost use Rattle.sq_nums.specs.Words.{env_of, value, count};
+ghost use Rattle.sq_term_nums.specs.Words.{env_of, value, count};
 ghost use Rattle.sq_sums.specs.Parts.{through, all_parts, each_turn, arm_of};
 ghost use Rattle.sq_sums.specs.Routes as routes;
 ghost use Rattle.sq_sums.specs.Routes.{position_of, next_position, env_on_way, to_child, scope_arrivals, arrivals};
@@ -9,7 +9,7 @@ ghost use Rattle.sq_sums.specs.Routes.{no_marks, marks};
 
 use crate::route::{Number, Route};
 use crate::stand::arm_for;
-use sq_nums::{Env, Turns, count_of};
+use sq_term_nums::{Env, Turns, count_of};
 use sqlite_items::Items;
 use std::alloc::{AllocError, Global};
 

@@ -2,11 +2,11 @@
 
 ghost use Rattle.std.specs.Prelude.{◌≡◌};
 ghost use Rattle.sq_ir.specs.Plans.{node_at};
-ghost use Rattle.sq_nums.specs.Words.{env_of, value};
+ghost use Rattle.sq_term_nums.specs.Words.{env_of, value};
 ghost use Rattle.sq_sums.specs.Scales.{arm_index};
 
 use sq_ir::{Num, PlanNode};
-use sq_nums::{Env, Turns, value_of};
+use sq_term_nums::{Env, Turns, value_of};
 
 /// The numbers of the iterations round a part, the node in force, and the bytes of the buffers that are open at it.
 #[derive(Clone, Copy, Drop)]

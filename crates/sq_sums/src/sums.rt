@@ -17,7 +17,7 @@ use crate::scale::{Scale, weight_of};
 use crate::stand::{Stand, memory};
 use crate::walk::{Ground, Sums, raise_to, walk};
 use sq_ir::{Draft, PlanNode, PlanNodes, Term};
-use sq_nums::Turns;
+use sq_term_nums::Turns;
 use sqlite_items::Items;
 use std::alloc::{AllocError, Global};
 

@@ -2,7 +2,7 @@
 
 ghost use Rattle.std.specs.Prelude.{◌≡◌, map};
 ghost use Rattle.sq_nests.specs.Stacks.{capped};
-ghost use Rattle.sq_nums.specs.Words.{env_of};
+ghost use Rattle.sq_term_nums.specs.Words.{env_of};
 ghost use Rattle.sq_sums.specs.Tops.{stand_of, at_turn, env_at};
 ghost use Rattle.sq_sums.specs.Tolls as tolls;
 ghost use Rattle.sq_sums.specs.Tolls.{all_sum, each_sum, arm_sum_of, scope_sum};
@@ -13,7 +13,7 @@ use crate::scale::capped_sum;
 use crate::stand::{Stand, arm_for, memory};
 use crate::toll::{toll, word};
 use sq_ir::{Num, PlanNode, Term};
-use sq_nums::{Env, Turns, count_of};
+use sq_term_nums::{Env, Turns, count_of};
 
 /// The memories, and what is summed.
 #[derive(Clone, Copy, Drop)]

@@ -2,7 +2,7 @@
 
 ghost use Rattle.std.specs.Prelude.{◌≡◌, ◌<◌, get_or, set, map};
 ghost use Rattle.sq_nests.specs.Stacks.{capped};
-ghost use Rattle.sq_nums.specs.Words.{env_of, count};
+ghost use Rattle.sq_term_nums.specs.Words.{env_of, count};
 ghost use Rattle.sq_sums.specs.Tops.{stand_of, at_turn, with_more, at_other, open_scope, env_at, at_child, child_at};
 ghost use Rattle.sq_sums.specs.Tops.{raise_to, raise_by, has_scope, have_scope};
 ghost use Rattle.sq_sums.specs.Grounds.{tops_on, all_on, turns_on, arm_on, scope_on};
@@ -10,7 +10,7 @@ ghost use Rattle.sq_sums.specs.Grounds.{tops_on, all_on, turns_on, arm_on, scope
 use crate::scale::{Scale, capped_sum, weight_of};
 use crate::stand::{Stand, arm_for, memory};
 use sq_ir::{Num, PlanNode, Term};
-use sq_nums::{Env, Turns, count_of};
+use sq_term_nums::{Env, Turns, count_of};
 use sqlite_items::Items;
 
 /// One number for each node.

@@ -1,8 +1,8 @@
 //! What the tests of drafts share: their cases, memories and buffers.
 
+use fixture_store::{draft, numbers};
 use sq_ir::Draft;
 use std::alloc::{AllocError, Global};
-use trial_store::{draft, numbers};
 
 /// Memories, buffers, those of the entry, a term, and the numbers that are told.
 pub type Case = (

@@ -4,11 +4,11 @@ use crate::cases::{
     BELOW, BOTH, CHIPS, Case, EIGHT, FIRST_ONLY, HALVES, IN_FOURS, IN_TILES, IN_TWO_SETS, PRODUCT,
     SEVEN, SIXTEEN, STACKED, TEN, drawn, is_told,
 };
+use fixture_store::memories;
 use sq_ir::{Offsets, Plan, PlanNodes};
 use sq_store::{StoreFault, greatest_end, offsets_of, place};
 use std::alloc::{AllocError, Global};
 use std::test::Fail;
-use trial_store::memories;
 
 // Iterations 0 and 1 have blocks of four, iteration 2 one of two; by either rule.
 const RAGGED: &str = "skip in:2,3 skip in:2,3 skip in:4,5 case:i at:i%c: cyclic:3";

@@ -4,11 +4,11 @@ use crate::cases::{
     BELOW, BOTH, CHIPS, Case, EIGHT, FIRST_ONLY, HALVES, IN_BLOCKS, IN_FOURS, IN_TILES,
     IN_TWO_SETS, PRODUCT, SEVEN, SIXTEEN, STACKED, TWO, UNEVEN, drawn, is_told,
 };
+use fixture_store::memories;
 use sq_ir::{Draft, PlanNodes};
 use sq_sums::{Sums, needs, nested_sums};
 use std::alloc::{AllocError, Global};
 use std::test::Fail;
-use trial_store::memories;
 
 const BESIDE: &str = "1:10:t:A 1:1:u:A 1:2:u:B 1:4:u:C 1:8:u:D";
 

@@ -4,12 +4,12 @@ use crate::cases::{
     CHIPS, Case, EIGHT, IN_FOURS, IN_TILES, IN_TWO_SETS, PRODUCT, SIXTEEN, TWO, UNEVEN, drawn,
     is_told,
 };
+use fixture_store::memories;
 use sq_ir::{Plan, PlanNodes};
 use sq_sums::{event_counts, traffic};
 use sqlite_items::Items;
 use std::alloc::{AllocError, Global};
 use std::test::Fail;
-use trial_store::memories;
 
 const ROWS: &str = "0:16:t:A 1:8:u:A 2:8:v:A";
 

@@ -3,6 +3,7 @@ ghost use Rattle.std.specs.Prelude.{IfOk};
 ghost use Rattle.sq_ir.specs.Plans.{IsGood};
 ghost use Rattle.sq_ir.specs.DraftLeaves.{leaves_of};
 
+use fixture_tree::{Ran, fills, int_leaf, run_on, three_lanes};
 use sq_ir::Plan;
 use sq_leaf::{Trap, TrapKind};
 use sq_port::{FirstOrder, LastOrder, ListOrder, MemSink, Order, Picks, SeedOrder};
@@ -11,7 +12,6 @@ use sq_tree::{Bank, LogBank, RawBank, RunEnd, put_event};
 use std::alloc::{AllocError, Global};
 use std::rc::Rc;
 use std::test::Fail;
-use trial_tree::{Ran, fills, int_leaf, run_on, three_lanes};
 
 // Its division is at column 46.
 const LEAF: &[u8] = b"task share::leaf(inout int X[1]) { X[0] = 12 / X[0]; }";

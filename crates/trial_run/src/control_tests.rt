@@ -1,9 +1,9 @@
 //! The orders in which plans are performed, and their traps.
+use fixture_sched::{calling, filling, mixed};
 use sq_sched::{Control, Event, Outcome};
 use sq_text::SpreadRule;
 use std::alloc::{AllocError, Global};
 use std::test::Fail;
-use trial_sched::{calling, filling, mixed};
 
 // Of a fill its value and its first byte.
 fn told(event: &Event) -> (i64, u32) {

@@ -6,6 +6,7 @@ ghost use Rattle.sq_ir.specs.Plans.{IsGood};
 ghost use Rattle.sq_ir.specs.DraftLeaves.{leaves_of};
 ghost use Rattle.sq_race.specs.Race.{IsFirstRace};
 
+use fixture_tree::{Ran, run_on};
 use sq_compile::compile;
 use sq_ir::Plan;
 use sq_leaf::TrapKind;
@@ -22,7 +23,6 @@ use std::alloc::{AllocError, Global};
 use std::process::Abort;
 use std::rc::Rc;
 use std::test::Fail;
-use trial_tree::{Ran, run_on};
 
 // A program, its mapping and its machine.
 type Sources = (&'static str, &'static str, &'static str);

@@ -1,6 +1,6 @@
 //! Each pattern of tokens once, and what read tokens hold.
 use sq_lexer::{Sign, TokenList, tokens};
-use sq_shapes::{
+use sq_patterns::{
     Pattern, ReadError, Tokens, number_at, numeral_at, place_at, syntax_fault, word_at,
 };
 use sq_text::{Code, Phase, Place, Stop};

@@ -1,7 +1,7 @@
 use Rattle.std.proofs.Common.{◌≡◌, Err, ◌∙◌, sym, ap}
-use Rattle.sq_shapes.specs.declared.cursor.ReadError.TheVariants.{NoMemory, Syntax}
+use Rattle.sq_patterns.specs.declared.cursor.ReadError.TheVariants.{NoMemory, Syntax}
 use Rattle.sq_text.specs.declared.code.Phase.TheVariants.{Machine}
-use Rattle.sq_shapes.proofs.Places.{read_is_text, syntax_fault_at}
+use Rattle.sq_patterns.proofs.Places.{read_is_text, syntax_fault_at}
 use Rattle.sq_machfile.proofs.Texts.{machine_format}
 use Rattle.sq_machfile.proofs.reading.parse.Goals as goal
 

@@ -1,6 +1,6 @@
 use Rattle.std.proofs.Common.{◌≡◌, ◌-◌}
-use Rattle.sq_shapes.specs.declared.pattern.Pattern.TheVariants as s
-use Rattle.sq_shapes.specs.Reading.{until}
+use Rattle.sq_patterns.specs.declared.pattern.Pattern.TheVariants as s
+use Rattle.sq_patterns.specs.Reading.{until}
 use Rattle.sq_mapfile.specs.Reading as spec
 use Rattle.sq_mapfile.proofs.reading.instances.Given as goal
 

@@ -1,10 +1,10 @@
 use Rattle.std.proofs.Common.{rules, arith, sym, ◌∙◌}
 use Rattle.std.proofs.lemmas.Grind.{common_steps}
 use Rattle.sq_lexer.specs.declared.token.Sign.TheVariants as g
-use Rattle.sq_shapes.specs.declared.pattern.Pattern.TheVariants as s
-use Rattle.sq_shapes.specs.Reading.{until}
+use Rattle.sq_patterns.specs.declared.pattern.Pattern.TheVariants as s
+use Rattle.sq_patterns.specs.Reading.{until}
 use Rattle.sq_mapfile.specs.Reading.{next_size}
-use Rattle.sq_shapes.proofs.Turns.{one_more, stops}
+use Rattle.sq_patterns.proofs.Turns.{one_more, stops}
 use Rattle.sq_mapfile.proofs.reading.more_sizes.Goals as goal
 
 pub returns-in_err-next : goal.returns-in_err-next

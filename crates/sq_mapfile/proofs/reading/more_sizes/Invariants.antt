@@ -1,7 +1,7 @@
 use Rattle.std.proofs.Common.{◌≡◌, ◌-◌}
 use Rattle.sq_lexer.specs.declared.token.Sign.TheVariants as g
-use Rattle.sq_shapes.specs.declared.pattern.Pattern.TheVariants as s
-use Rattle.sq_shapes.specs.Reading.{until}
+use Rattle.sq_patterns.specs.declared.pattern.Pattern.TheVariants as s
+use Rattle.sq_patterns.specs.Reading.{until}
 use Rattle.sq_mapfile.specs.Reading as spec
 use Rattle.sq_mapfile.proofs.reading.more_sizes.Given as goal
 

@@ -1,5 +1,5 @@
 use Rattle.std.proofs.Common.{◌≡◌, ℕ, List, ◌∷◌, refl, sym, ap, ◌∙◌}
-use Rattle.sq_nums.specs.Words.{turns_of, env_of, value}
+use Rattle.sq_term_nums.specs.Words.{turns_of, env_of, value}
 use Rattle.sq_nests.specs.Stacks.{capped}
 use Rattle.sq_sums.specs.declared.flow.Flow.{Flow}
 use Rattle.sq_sums.specs.declared.flow.Flow.TheVariants as f

@@ -1,5 +1,5 @@
 use Rattle.std.proofs.Common.{◌≡◌, ◌+◌, ◌-◌, ◌<◌, ◌^◌, ◌∷◌, drop, map}
-use Rattle.sq_nums.specs.Words.{turns_of}
+use Rattle.sq_term_nums.specs.Words.{turns_of}
 use Rattle.sq_nests.specs.Stacks.{capped}
 use Rattle.sq_sums.specs.Tolls.{all_sum, each_sum}
 use Rattle.sq_sums.specs.Flows.{flow_sum}

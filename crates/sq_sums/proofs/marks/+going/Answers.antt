@@ -1,5 +1,5 @@
 use Rattle.std.proofs.Common.{refl, sym, ap, ◌∙◌}
-use Rattle.sq_nums.specs.Words.{env_of, value}
+use Rattle.sq_term_nums.specs.Words.{env_of, value}
 use Rattle.sq_sums.specs.Parts.{through}
 use Rattle.sq_sums.specs.Scales.{arm_index}
 use Rattle.sq_sums.specs.Routes.{position_of, next_position, env_on_way, arrivals, mark}

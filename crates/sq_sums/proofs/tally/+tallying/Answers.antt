@@ -1,5 +1,5 @@
 use Rattle.std.proofs.Common.{refl, sym, ap, ◌∙◌}
-use Rattle.sq_nums.specs.Words.{value}
+use Rattle.sq_term_nums.specs.Words.{value}
 use Rattle.sq_nests.specs.Stacks.{capped}
 use Rattle.sq_sums.specs.Scales.{arm_index}
 use Rattle.sq_sums.specs.Tops.{stand_of, at_turn, env_at}

@@ -1,5 +1,5 @@
 use Rattle.std.proofs.Common.{rules, ◌≡◌, false, refl, sym, ap, ◌∙◌}
-use Rattle.sq_nums.specs.Words.{value}
+use Rattle.sq_term_nums.specs.Words.{value}
 use Rattle.sq_sums.specs.Tops.{has_scope, stand_of, at_turn, env_at, raise_to, raise_by}
 use Rattle.sq_sums.specs.Scales.{arm_index}
 use Rattle.sq_sums.specs.Grounds.{weight_on, tops_on}

@@ -1,5 +1,0 @@
-use Rattle.sq_forms_fit.proofs.LeafCalls.{calls_are_of_tables}
-use Rattle.sq_forms_fit.proofs.calls_are_of_tables.Goals as goal
-
-pub returns : goal.returns
-returns c = calls_are_of_tables

@@ -1,5 +1,0 @@
-use Rattle.sq_forms_fit.proofs.Unpiped.{pipes_fit_stand}
-use Rattle.sq_forms_fit.proofs.pipes_fit_stand.Goals as goal
-
-pub returns : goal.returns
-returns c = pipes_fit_stand

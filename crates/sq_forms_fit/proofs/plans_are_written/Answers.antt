@@ -1,5 +1,0 @@
-use Rattle.sq_forms_fit.proofs.Written.{plans_are_written}
-use Rattle.sq_forms_fit.proofs.plans_are_written.Goals as goal
-
-pub returns : goal.returns
-returns c = plans_are_written

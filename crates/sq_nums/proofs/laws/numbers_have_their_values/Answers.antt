@@ -1,8 +1,0 @@
-use Rattle.sq_nums.proofs.Values.{value-is, count-is}
-use Rattle.sq_nums.proofs.laws.numbers_have_their_values.Goals as goal
-
-pub returns-clause-values : goal.returns-clause-values
-returns-clause-values c = λ s env at ag. value-is s env at ag
-
-pub returns-clause-counts : goal.returns-clause-counts
-returns-clause-counts c = λ s env at ag. count-is s env at ag
