@@ -1,7 +1,7 @@
 -- How trees end: sequences and parts beside one another, on both sides.
 use Rattle.std.proofs.Common.{◌≡◌, Bool, true, false, Option, Some, None, refl, sym, ap, ◌∙◌}
 use Rattle.std.specs.Prelude.{is_none, if◌then◌else◌}
-use Rattle.sq_rect.specs.Paths.{is_before}
+use Rattle.sq_ir.specs.Rect.Paths.{is_before}
 use Rattle.sq_ir.specs.Tree.{seq, par}
 use Rattle.sq_ir.specs.Runs.{Trap, least, End, joined, beside, in_turn, exec}
 use Rattle.sq_ir.specs.Events.{Bytes, Leaves, meaning}

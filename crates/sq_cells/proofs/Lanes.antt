@@ -7,7 +7,7 @@ use Rattle.std.proofs.lemmas.Bool.Decides.{nat_tests}
 use Rattle.std.specs.Prelude.{if◌then◌else◌}
 use Rattle.sq_cells.specs.Cells.{State}
 use Rattle.sq_ir.specs.Runs.{least}
-use Rattle.sq_rect.specs.Paths.{is_before}
+use Rattle.sq_ir.specs.Rect.Paths.{is_before}
 use Rattle.sq_cells.specs.Tree.{Trap, Tree, Empty, Seq, After, go_on, run}
 use Rattle.sq_cells.specs.Work.{first_of, first_trap}
 use Rattle.sq_cells.specs.Lowered.{pick, beside, turns}

@@ -4,7 +4,7 @@ use Rattle.std.proofs.Common.{map, get_or, slice_get, Some, refl, sym, ap, ap₂
 use Rattle.std.specs.Prelude.{if◌then◌else◌, reverse}
 use Rattle.std.proofs.lemmas.Bool.Decides.{nat_tests}
 use Rattle.std.proofs.lemmas.List.{ext_get_or, length-reverse, get_or-reverse}
-use Rattle.sq_rect.specs.declared.view.View.{View}
+use Rattle.sq_ir.specs.Rect.declared.view.View.{View}
 use Rattle.sq_ir.specs.Events as events
 use Rattle.sq_ir.specs.Events.{Leaf, Leaves, Bytes, Shape, shape_of, places, is_among, in_view, in_views, seen, chosen}
 use Rattle.sq_ir.specs.Events.{written_views, stored, put, put_end, trap_end, after_event, trap_event, meaning}

@@ -4,7 +4,7 @@ use Rattle.std.proofs.Common.{Some, None, refl, sym, ap, ap₂, ◌∙◌, subst
 use Rattle.std.specs.Prelude.{reverse, is_none, ◌||◌}
 use Rattle.std.specs.List.{Contains}
 use mathlib.Core.Path.{fun_ext}
-use Rattle.sq_rect.specs.declared.view.View.{View}
+use Rattle.sq_ir.specs.Rect.declared.view.View.{View}
 use Rattle.sq_ir.specs.Runs.{exec}
 use Rattle.sq_ir.specs.Tree.{Act}
 use Rattle.sq_ir.specs.Scopes.{Scope}

@@ -2,7 +2,7 @@
 use Rattle.std.specs.Prelude.{◌≡◌, ℕ, ◌+◌, ◌-◌, ◌*◌, ◌<◌, true, List, length, map, Some, is_none}
 use Rattle.std.specs.List.{All}
 use Rattle.sq_num.specs.Elements.{width}
-use Rattle.sq_rect.specs.declared.view.View.{View}
+use Rattle.sq_ir.specs.Rect.declared.view.View.{View}
 use Rattle.sq_ir.specs.Tree.{Skip, Act, Stuck, Seq, Par, Within}
 use Rattle.sq_ir.specs.Runs.{End, exec}
 use Rattle.sq_ir.specs.Unordered.{AllEvents, AllUnordered}

@@ -1,6 +1,6 @@
 -- The leaves of a plan as leaf code over cells.
 use Rattle.std.specs.Prelude.{◌≡◌, ℕ, ◌<◌, Bool, true, false, List, [], ◌∷◌, length, get_or, slice_get, Some, reverse}
-use Rattle.sq_rect.specs.declared.view.View.{View}
+use Rattle.sq_ir.specs.Rect.declared.view.View.{View}
 use Rattle.sq_ir.specs.Events as events
 use Rattle.sq_ir.specs.Events.{Leaves, Shape, shape_of, places, Finishes, Traps}
 use Rattle.sq_cells.specs.Cells.{Spot, spot}

@@ -3,7 +3,7 @@ use Rattle.std.specs.Prelude.{◌+◌, ◌-◌, ◌*◌, ◌/◌, ◌%◌, ◌�
 use Rattle.std.specs.Prelude.{List, [], get_or, reverse}
 use Rattle.sq_num.specs.Elements.{width, cell}
 use Rattle.sq_num.specs.Reductions.{identity}
-use Rattle.sq_leaf.specs.declared.trap.Trap as leaf
+use Rattle.sq_ir.specs.Leaf.declared.trap.Trap as leaf
 use Rattle.sq_ir.specs.Runs as runs
 use Rattle.sq_ir.specs.Events as events
 use Rattle.sq_cells.specs.Machine.{Op}

@@ -10,13 +10,13 @@ use Rattle.sq_store.specs.declared.fitting.StoreFault.{StoreFault}
 use Rattle.sq_store.specs.declared.fitting.StoreFault.TheVariants.{Capacity, NoMemory}
 use Rattle.sq_store.specs.Place.{IsPlaced, IsRefusal, IsOver}
 use Rattle.sq_spec.specs.declared.resolved.Resolved.{Resolved}
-use Rattle.sq_homes.specs.declared.choice.Choice.{Choice}
-use Rattle.sq_homes.specs.Drafts.{IsDraftOf, program_term, buffers_of, leaves_of, entry_of}
-use Rattle.sq_draft_laws.specs.Choosing.{AreMemories, Walked}
-use Rattle.sq_hoist.specs.Choices.{hoisted}
+use Rattle.sq_plan_good.specs.Homes.declared.choice.Choice.{Choice}
+use Rattle.sq_plan_good.specs.Homes.Drafts.{IsDraftOf, program_term, buffers_of, leaves_of, entry_of}
+use Rattle.sq_plan_good.specs.DraftLaws.Choosing.{AreMemories, Walked}
+use Rattle.sq_pass_laws.specs.Hoist.Choices.{hoisted}
 use Rattle.sq_pass_laws.specs.HoistLaws.{ChoicesAreHoisted, HoistedOverlapNothing}
-use Rattle.sq_pipe.specs.Greedy.{overlapped}
-use Rattle.sq_pipe.specs.Notes.{notes_of}
+use Rattle.sq_pass_laws.specs.Pipe.Greedy.{overlapped}
+use Rattle.sq_pass_laws.specs.Pipe.Notes.{notes_of}
 use Rattle.sq_pass_laws.specs.PipeLaws.{OverlapsMayBeChosen, OverlapsHold, OverlapsFit}
 use Rattle.sq_plan_good.specs.Needed.{KeepInPlace, NeedsAreSums, SumsAreNeeds, NeedsAreSmall}
 use Rattle.sq_plan_good.specs.Good.{HasNoRace, DraftsCanBePlaced, PlacedAreGood}

@@ -5,15 +5,15 @@ use Rattle.std.specs.List.{range_with_len}
 use Rattle.sq_forms.specs.declared.form.Form.{Form}
 use Rattle.sq_spec.specs.declared.body.FormBody.{FormBody}
 use Rattle.sq_spec.specs.declared.resolved.Resolved.{Resolved}
-use Rattle.sq_homes.specs.declared.choice.Choice.{Choice}
-use Rattle.sq_homes.specs.Numbering.{deepest, left_by, params_where, hoisted_from, hoisted as left_first, others, again}
-use Rattle.sq_homes.specs.Numbering.{locals_count, standing, array_size}
-use Rattle.sq_homes.specs.Drafts.{no_choice}
+use Rattle.sq_plan_good.specs.Homes.declared.choice.Choice.{Choice}
+use Rattle.sq_plan_good.specs.Homes.Numbering.{deepest, left_by, params_where, hoisted_from, hoisted as left_first, others, again}
+use Rattle.sq_plan_good.specs.Homes.Numbering.{locals_count, standing, array_size}
+use Rattle.sq_plan_good.specs.Homes.Drafts.{no_choice}
 use Rattle.sq_plan_good.specs.Room.{sizes_of}
-use Rattle.sq_pipe.specs.declared.candidate.Candidate.{Candidate}
-use Rattle.sq_pipe.specs.Runs.{Marks}
-use Rattle.sq_pipe.specs.Greedy.{sizes_of as bytes_in, room_of, bytes_of, with_form, taken_from, none_taken}
-use Rattle.sq_pipe.specs.Greedy.{with_overlap, overlaps_from}
+use Rattle.sq_pass_laws.specs.Pipe.declared.candidate.Candidate.{Candidate}
+use Rattle.sq_pass_laws.specs.Pipe.Runs.{Marks}
+use Rattle.sq_pass_laws.specs.Pipe.Greedy.{sizes_of as bytes_in, room_of, bytes_of, with_form, taken_from, none_taken}
+use Rattle.sq_pass_laws.specs.Pipe.Greedy.{with_overlap, overlaps_from}
 
 -- ---- bytes
 

@@ -6,20 +6,20 @@ use Rattle.std.proofs.lemmas.Bool.Decides.{nat_tests}
 use Rattle.std.proofs.lemmas.Option.{slice_get_within}
 use Rattle.sq_forms.specs.declared.form.Caller.{Caller}
 use Rattle.sq_forms.specs.declared.form.Form.{Form}
-use Rattle.sq_form_laws.specs.Reached.{FormsCallersFirst}
+use Rattle.sq_spec.specs.FormLaws.Reached.{FormsCallersFirst}
 use Rattle.sq_spec.specs.declared.body.FormBody.{FormBody}
 use Rattle.sq_spec.specs.declared.resolved.Resolved.{Resolved}
 use Rattle.sq_spec_laws.specs.Needs.{Ended, end_at, callers_end}
-use Rattle.sq_homes.specs.declared.choice.Choice.{Choice}
-use Rattle.sq_homes.specs.Numbering.{standing}
-use Rattle.sq_homes.specs.Drafts.{bodies_of, choice_in}
-use Rattle.sq_draft_laws.specs.Choosing.{Walked}
-use Rattle.sq_draft_laws.proofs.Hoisting.{at_index, bodies_many}
-use Rattle.sq_hoist.specs.Choices.{hoisted}
+use Rattle.sq_plan_good.specs.Homes.declared.choice.Choice.{Choice}
+use Rattle.sq_plan_good.specs.Homes.Numbering.{standing}
+use Rattle.sq_plan_good.specs.Homes.Drafts.{bodies_of, choice_in}
+use Rattle.sq_plan_good.specs.DraftLaws.Choosing.{Walked}
+use Rattle.sq_plan_good.proofs.DraftLaws.Hoisting.{at_index, bodies_many}
+use Rattle.sq_pass_laws.specs.Hoist.Choices.{hoisted}
 use Rattle.sq_plan_good.specs.Room.{level_top, callers_top, sizes_of, FormsEnd}
-use Rattle.sq_pipe.specs.declared.room.Room.{Room}
-use Rattle.sq_pipe.specs.Runs.{Marks, marks_of, least_room, no_bound}
-use Rattle.sq_pipe.specs.Greedy.{room_of, rooms_by, rooms_of, bytes_of, have_room}
+use Rattle.sq_pass_laws.specs.Pipe.declared.room.Room.{Room}
+use Rattle.sq_pass_laws.specs.Pipe.Runs.{Marks, marks_of, least_room, no_bound}
+use Rattle.sq_pass_laws.specs.Pipe.Greedy.{room_of, rooms_by, rooms_of, bytes_of, have_room}
 
 -- ---- tests and lists
 

@@ -4,26 +4,26 @@ use Rattle.std.proofs.Common.{length, get_or, nat_le, nat_lt, refl, sym, subst, 
 use Rattle.std.proofs.lemmas.Bool.Decides.{nat_tests}
 use Rattle.std.specs.List.{list_all}
 use Rattle.sq_machfile.specs.declared.node.Node.{Node}
-use Rattle.sq_form_laws.proofs.RanHold.{as_many_forms}
+use Rattle.sq_spec.proofs.FormLaws.RanHold.{as_many_forms}
 use Rattle.sq_ir.specs.Plans.{node_at}
 use Rattle.sq_spec.specs.declared.statement.LoopKind.{LoopKind}
 use Rattle.sq_spec.specs.declared.statement.LoopKind.TheVariants as loop_kind
 use Rattle.sq_spec.specs.declared.statement.CallInstance.{CallInstance}
 use Rattle.sq_spec.specs.declared.body.FormBody.{FormBody}
 use Rattle.sq_spec.specs.declared.resolved.Resolved.{Resolved}
-use Rattle.sq_placed.specs.Pipes.{CallLoop, call_loops_of}
-use Rattle.sq_term.specs.Terms.{body_in}
-use Rattle.sq_term_laws.specs.Orders.{EachOf}
-use Rattle.sq_program_laws.proofs.Loops.{each_at, left_true, right_true}
-use Rattle.sq_homes.specs.Drafts.{bodies_of}
-use Rattle.sq_draft_laws.specs.Choosing.{Walked}
-use Rattle.sq_draft_laws.proofs.Programs.{bodies_are_tables}
-use Rattle.sq_draft_laws.specs.Memories.{plan_node}
-use Rattle.sq_hoist.specs.Counts.{total}
+use Rattle.sq_lower.specs.Placed.Pipes.{CallLoop, call_loops_of}
+use Rattle.sq_pass_laws.specs.Term.Terms.{body_in}
+use Rattle.sq_pass_laws.specs.TermLaws.Orders.{EachOf}
+use Rattle.sq_plan_good.proofs.ProgramLaws.Loops.{each_at, left_true, right_true}
+use Rattle.sq_plan_good.specs.Homes.Drafts.{bodies_of}
+use Rattle.sq_plan_good.specs.DraftLaws.Choosing.{Walked}
+use Rattle.sq_plan_good.proofs.DraftLaws.Programs.{bodies_are_tables}
+use Rattle.sq_plan_good.specs.DraftLaws.Memories.{plan_node}
+use Rattle.sq_pass_laws.specs.Hoist.Counts.{total}
 use Rattle.sq_plan_good.specs.Room.{machine_setting, IsEnough, HasEnough}
-use Rattle.sq_pipe.specs.Runs.{Marks, is_marked, marks_of, most_children}
-use Rattle.sq_pipe.specs.Candidates.{may_overlap, have_one_form}
-use Rattle.sq_pipe.specs.Greedy.{overlapped}
+use Rattle.sq_pass_laws.specs.Pipe.Runs.{Marks, is_marked, marks_of, most_children}
+use Rattle.sq_pass_laws.specs.Pipe.Candidates.{may_overlap, have_one_form}
+use Rattle.sq_pass_laws.specs.Pipe.Greedy.{overlapped}
 use Rattle.sq_pass_laws.proofs.Candidates.{one_form}
 use Rattle.sq_pass_laws.proofs.Choices.{homes}
 use Rattle.sq_pass_laws.proofs.Loops.{LoopMay}

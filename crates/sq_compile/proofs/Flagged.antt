@@ -4,7 +4,7 @@ use Rattle.std.proofs.Common.{◌∷◌, length, replicate, get_or, slice_get, s
 use Rattle.std.proofs.Common.{arith, if◌then◌else◌}
 use Rattle.std.proofs.lemmas.List.{length-set, length-replicate}
 use Rattle.sq_machfile.specs.declared.node.Node.{Node}
-use Rattle.sq_pipe.specs.Runs.{noted, has_flag, is_marked, mark_children, mark_below, unmarked}
+use Rattle.sq_pass_laws.specs.Pipe.Runs.{noted, has_flag, is_marked, mark_children, mark_below, unmarked}
 
 -- ---- a flag
 

@@ -3,9 +3,9 @@ use Rattle.std.proofs.Common.{◌≡◌, ℕ, zero, suc, List, [], ◌∷◌, ge
 use Rattle.std.specs.Prelude.{slice_get}
 use Rattle.sq_forms.specs.declared.form.Form.{Form}
 use Rattle.sq_spec.specs.declared.resolved.Resolved.{Resolved}
-use Rattle.sq_homes.specs.Drafts.{no_choice}
-use Rattle.sq_draft_laws.specs.Choosing.{MayBeChosen, NoneOverlaps}
-use Rattle.sq_hoist.specs.Choices.{choices_from, find_leaves, sites_of, hoisted}
+use Rattle.sq_plan_good.specs.Homes.Drafts.{no_choice}
+use Rattle.sq_plan_good.specs.DraftLaws.Choosing.{MayBeChosen, NoneOverlaps}
+use Rattle.sq_pass_laws.specs.Hoist.Choices.{choices_from, find_leaves, sites_of, hoisted}
 use Rattle.sq_plan_good.specs.Needed.{KeepInPlace}
 
 same : {x y : Form} → Some x ≡ Some y → x ≡ y

@@ -12,10 +12,10 @@ use Rattle.sq_nests.specs.Stacks.{capped}
 use Rattle.sq_store.specs.Place.{need_at, capacity_at, level_at, excess_at, IsShort, IsOver}
 use Rattle.sq_spec.specs.declared.resolved.Resolved.{Resolved}
 use Rattle.sq_spec.proofs.Rows.{get_or_map}
-use Rattle.sq_homes.specs.declared.choice.Choice.{Choice}
-use Rattle.sq_homes.specs.Drafts.{IsDraftOf}
-use Rattle.sq_draft_laws.specs.Choosing.{Walked}
-use Rattle.sq_draft_laws.specs.Memories.{plan_node}
+use Rattle.sq_plan_good.specs.Homes.declared.choice.Choice.{Choice}
+use Rattle.sq_plan_good.specs.Homes.Drafts.{IsDraftOf}
+use Rattle.sq_plan_good.specs.DraftLaws.Choosing.{Walked}
+use Rattle.sq_plan_good.specs.DraftLaws.Memories.{plan_node}
 use Rattle.sq_plan_good.specs.Planned.{memories_of}
 use Rattle.sq_plan_good.specs.Needed.{KeepInPlace, NeedsAreSums, SumsAreNeeds, NeedsAreSmall}
 use Rattle.sq_compile.specs.Capacity.{NodeNeeds, Lacks, NoneLacks, IsFirstLack}

@@ -14,12 +14,12 @@ use Rattle.sq_spec.specs.declared.statement.Statement.TheFolds.{fold-roll-Statem
 use Rattle.sq_spec.specs.declared.body.Body.{Body}
 use Rattle.sq_spec.specs.declared.body.Body.TheVariants as body
 use Rattle.sq_spec_laws.specs.Needs.{Turn, turn_in}
-use Rattle.sq_term.specs.Stands.{Each, none, more}
-use Rattle.sq_homes.specs.Begun as tables
-use Rattle.sq_homes.specs.Begun.{Begun, BegunPart, calls_in, row_begun, begun, begun_step, calls_of, child_in}
-use Rattle.sq_tables.specs.Loops.{any_of}
-use Rattle.sq_pipe.specs.Candidates as pipe
-use Rattle.sq_pipe.specs.Runs.{Landing, all_lands, row_lands, turns_land, turn_lands, landing_step, landing, body_lands}
+use Rattle.sq_pass_laws.specs.Term.Stands.{Each, none, more}
+use Rattle.sq_plan_good.specs.Homes.Begun as tables
+use Rattle.sq_plan_good.specs.Homes.Begun.{Begun, BegunPart, calls_in, row_begun, begun, begun_step, calls_of, child_in}
+use Rattle.sq_lower.specs.Tables.Loops.{any_of}
+use Rattle.sq_pass_laws.specs.Pipe.Candidates as pipe
+use Rattle.sq_pass_laws.specs.Pipe.Runs.{Landing, all_lands, row_lands, turns_land, turn_lands, landing_step, landing, body_lands}
 use Rattle.sq_plan_good.proofs.Terms.{begun_call, begun_map}
 use Rattle.sq_plan_good.proofs.Turning.{Among, among_left, among_right, EachIn, each_both, each_weaker}
 

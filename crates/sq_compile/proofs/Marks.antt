@@ -11,23 +11,23 @@ use Rattle.sq_text.proofs.Spreads.{spreads}
 use Rattle.sq_ast.specs.declared.program.Variant.{Variant}
 use Rattle.sq_machfile.specs.declared.node.Node.{Node}
 use Rattle.sq_machfile.specs.Machines.{WithinLimits}
-use Rattle.sq_mapfile.specs.declared.mapping.Instance.{Instance}
+use Rattle.sq_forms.specs.Mapfile.declared.mapping.Instance.{Instance}
 use Rattle.sq_forms.specs.declared.form.Caller.{Caller}
 use Rattle.sq_forms.specs.declared.form.Form.{Form}
 use Rattle.sq_forms.specs.Resolving.{Resolving}
-use Rattle.sq_form_laws.specs.Reached.{FormsCallersFirst}
+use Rattle.sq_spec.specs.FormLaws.Reached.{FormsCallersFirst}
 use Rattle.sq_spec.specs.declared.body.FormBody.{FormBody}
 use Rattle.sq_spec.specs.declared.resolved.Resolved.{Resolved}
 use Rattle.sq_spec_laws.specs.Needs.{Turn, Reached, child_for, IsCall, StandsAt, RunsAt, entry, beside}
 use Rattle.sq_spec_laws.specs.Needs.{below, AtLevel, FormsRunAtTheirLevel}
-use Rattle.sq_homes.specs.Begun.{Begun, calls_of, child_in}
-use Rattle.sq_homes.specs.Drafts.{instance_at, instance_by, level_by, rule_by}
-use Rattle.sq_draft_laws.specs.Choosing.{Walked}
-use Rattle.sq_draft_laws.specs.Programs.{BodiesAreTables}
-use Rattle.sq_hoist.specs.Choices.{body_at}
+use Rattle.sq_plan_good.specs.Homes.Begun.{Begun, calls_of, child_in}
+use Rattle.sq_plan_good.specs.Homes.Drafts.{instance_at, instance_by, level_by, rule_by}
+use Rattle.sq_plan_good.specs.DraftLaws.Choosing.{Walked}
+use Rattle.sq_plan_good.specs.DraftLaws.Programs.{BodiesAreTables}
+use Rattle.sq_pass_laws.specs.Hoist.Choices.{body_at}
 use Rattle.sq_plan_good.specs.Listed.{IsListed, CallsAreListed}
-use Rattle.sq_pipe.specs.Runs.{Marks, is_marked, mark_below, unmarked, level_at, flags_at, body_lands, has_flag}
-use Rattle.sq_pipe.specs.Runs.{marks_called, marks_by, marks_from, marks_of}
+use Rattle.sq_pass_laws.specs.Pipe.Runs.{Marks, is_marked, mark_below, unmarked, level_at, flags_at, body_lands, has_flag}
+use Rattle.sq_pass_laws.specs.Pipe.Runs.{marks_called, marks_by, marks_from, marks_of}
 use Rattle.sq_compile.specs.Room.{Runs, RunsAreMarked}
 use Rattle.sq_compile.proofs.Flagged.{set_sets, flag_is_set, below_marked, unmarked_long}
 use Rattle.sq_plan_good.proofs.Turning.{EachIn}

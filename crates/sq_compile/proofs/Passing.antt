@@ -3,23 +3,23 @@ use Rattle.std.proofs.Common.{◌≡◌, ℕ, zero, suc, Bool, true, false, List
 use Rattle.std.proofs.Common.{refl, sym, ap, ◌∙◌}
 use Rattle.sq_forms.specs.declared.form.Form.{Form}
 use Rattle.sq_spec.specs.declared.resolved.Resolved.{Resolved}
-use Rattle.sq_program_laws.specs.Held.{UnheldFits}
-use Rattle.sq_program_laws.specs.Piped.{UnpipedFits}
-use Rattle.sq_homes.specs.declared.choice.Choice.{Choice}
-use Rattle.sq_homes.specs.Numbering.{left_by}
-use Rattle.sq_homes.specs.Drafts.{homes_of, choice_in, no_choice}
-use Rattle.sq_draft_laws.specs.Choosing.{Walked, MayBeChosen}
-use Rattle.sq_draft_laws.proofs.Hoisting.{none_pipes}
-use Rattle.sq_draft_laws.specs.Opened.{WalkedIsThere}
+use Rattle.sq_plan_good.specs.ProgramLaws.Held.{UnheldFits}
+use Rattle.sq_plan_good.specs.ProgramLaws.Piped.{UnpipedFits}
+use Rattle.sq_plan_good.specs.Homes.declared.choice.Choice.{Choice}
+use Rattle.sq_plan_good.specs.Homes.Numbering.{left_by}
+use Rattle.sq_plan_good.specs.Homes.Drafts.{homes_of, choice_in, no_choice}
+use Rattle.sq_plan_good.specs.DraftLaws.Choosing.{Walked, MayBeChosen}
+use Rattle.sq_plan_good.proofs.DraftLaws.Hoisting.{none_pipes}
+use Rattle.sq_plan_good.specs.DraftLaws.Opened.{WalkedIsThere}
 use Rattle.sq_lower.specs.Choices.{in_buffer, in_buffers, all_in_buffers}
 use Rattle.sq_elim.specs.Choices.{in_place, all_in_place}
-use Rattle.sq_hoist.specs.Choices.{hoisted}
+use Rattle.sq_pass_laws.specs.Hoist.Choices.{hoisted}
 use Rattle.sq_pass_laws.specs.HoistLaws.{ChoicesAreHoisted, HoistedOverlapNothing, ChoicesHold}
 use Rattle.sq_pass_laws.proofs.Kept.{AreStaying, may_be_chosen, may_leave, may_overlap}
 use Rattle.sq_pass_laws.proofs.HoistPrograms.{flag_there}
 use Rattle.sq_pass_laws.specs.PipeLaws.{OverlapsMayBeChosen, OverlapsHold, OverlapsFit}
 use Rattle.sq_spec.specs.Bodies.{body_of}
-use Rattle.sq_term.specs.Terms.{homes_in}
+use Rattle.sq_pass_laws.specs.Term.Terms.{homes_in}
 use Rattle.sq_plan_good.specs.Good.{MayLeave, MayOverlap, WithRoomAreGood}
 use Rattle.sq_compile.specs.Passes.{IsOfPass, Lowered, Dropped, Hoisted, Overlapped, EachPassIsGood}
 

@@ -3,25 +3,25 @@ use Rattle.std.proofs.Common.{◌≡◌, ◌⊎◌, inl, inr, ℕ, zero, suc, �
 use Rattle.std.proofs.Common.{get_or, slice_get, Some, refl, sym, ap, subst, ◌∙◌, arith, if◌then◌else◌}
 use Rattle.sq_machfile.specs.declared.node.Node.{Node}
 use Rattle.sq_machfile.specs.Machines.{WithinLimits}
-use Rattle.sq_form_laws.specs.Reached.{FormsCallersFirst}
+use Rattle.sq_spec.specs.FormLaws.Reached.{FormsCallersFirst}
 use Rattle.sq_spec.specs.declared.body.FormBody.{FormBody}
 use Rattle.sq_spec.specs.declared.resolved.Resolved.{Resolved}
 use Rattle.sq_spec.proofs.Rows.{get_or_map}
 use Rattle.sq_spec_laws.specs.Needs.{FormsRunAtTheirLevel}
 use Rattle.sq_ir.specs.Plans.{node_at}
 use Rattle.sq_ir.specs.declared.plan.PlanNode.{PlanNode}
-use Rattle.sq_placed.specs.Tables.{row_form}
-use Rattle.sq_homes.specs.declared.choice.Choice.{Choice}
-use Rattle.sq_homes.specs.Numbering.{standing}
-use Rattle.sq_homes.specs.Drafts.{choice_in}
-use Rattle.sq_draft_laws.specs.Choosing.{Walked, MayBeChosen, NonePipes}
-use Rattle.sq_hoist.specs.Choices.{hoisted}
+use Rattle.sq_lower.specs.Placed.Tables.{row_form}
+use Rattle.sq_plan_good.specs.Homes.declared.choice.Choice.{Choice}
+use Rattle.sq_plan_good.specs.Homes.Numbering.{standing}
+use Rattle.sq_plan_good.specs.Homes.Drafts.{choice_in}
+use Rattle.sq_plan_good.specs.DraftLaws.Choosing.{Walked, MayBeChosen, NonePipes}
+use Rattle.sq_pass_laws.specs.Hoist.Choices.{hoisted}
 use Rattle.sq_pass_laws.specs.HoistLaws.{ChoicesAreHoisted, HoistedOverlapNothing}
-use Rattle.sq_draft_laws.specs.Memories.{plan_node}
+use Rattle.sq_plan_good.specs.DraftLaws.Memories.{plan_node}
 use Rattle.sq_plan_good.specs.Room.{sizes_of, FormsEnd, EndsAreTops, LoopsHaveEnough, LoopsAreBusy, SumsFit}
-use Rattle.sq_pipe.specs.Runs.{Marks, is_marked, marks_of, least_room, no_bound}
-use Rattle.sq_pipe.specs.Greedy.{room_of, rooms_of, bytes_of, have_room, none_taken, candidates_of, taken_of}
-use Rattle.sq_pipe.specs.Greedy.{overlaps_from, overlapped}
+use Rattle.sq_pass_laws.specs.Pipe.Runs.{Marks, is_marked, marks_of, least_room, no_bound}
+use Rattle.sq_pass_laws.specs.Pipe.Greedy.{room_of, rooms_of, bytes_of, have_room, none_taken, candidates_of, taken_of}
+use Rattle.sq_pass_laws.specs.Pipe.Greedy.{overlaps_from, overlapped}
 use Rattle.sq_pass_laws.specs.PipeLaws.{OverlapsMayBeChosen}
 use Rattle.sq_compile.specs.Room.{Runs, RunsAreMarked, OverlapsHaveEnough, HaveSpace, OverlapsHaveRoom}
 use Rattle.sq_compile.proofs.Doubled.{brought_with, brought_once, chosen_with, none_flag, none_chosen, taken_fits}

@@ -5,14 +5,14 @@ use Rattle.sq_spec.specs.declared.resolved.Resolved.{Resolved}
 use Rattle.sq_spec_laws.specs.Needs.{RunsAt}
 use Rattle.sq_ir.specs.declared.plan.Draft.{Draft}
 use Rattle.sq_nests.specs.Drafts.{HasSpace}
-use Rattle.sq_homes.specs.declared.choice.Choice.{Choice}
-use Rattle.sq_homes.specs.Drafts.{IsDraftOf}
-use Rattle.sq_draft_laws.specs.Choosing.{Walked}
-use Rattle.sq_hoist.specs.Choices.{hoisted}
-use Rattle.sq_draft_laws.specs.Memories.{plan_node}
+use Rattle.sq_plan_good.specs.Homes.declared.choice.Choice.{Choice}
+use Rattle.sq_plan_good.specs.Homes.Drafts.{IsDraftOf}
+use Rattle.sq_plan_good.specs.DraftLaws.Choosing.{Walked}
+use Rattle.sq_pass_laws.specs.Hoist.Choices.{hoisted}
+use Rattle.sq_plan_good.specs.DraftLaws.Memories.{plan_node}
 use Rattle.sq_plan_good.specs.Room.{LoopsHaveEnough}
-use Rattle.sq_pipe.specs.Runs.{is_marked, marks_of}
-use Rattle.sq_pipe.specs.Greedy.{overlapped}
+use Rattle.sq_pass_laws.specs.Pipe.Runs.{is_marked, marks_of}
+use Rattle.sq_pass_laws.specs.Pipe.Greedy.{overlapped}
 
 -- ---- on the way
 

@@ -3,13 +3,13 @@
 ghost use Rattle.sq_compile.specs.Capacity.{LacksAreOne, FirstLacksAreOne, FirstLackIsOne};
 ghost use Rattle.sq_compile.specs.Passes.{EachPassIsGood};
 
-use sq_draft_laws::laws::resolved_programs_were_walked;
 use sq_pass_laws::{
     choices_are_hoisted, choices_hold, hoisted_overlap_nothing, overlaps_fit, overlaps_hold,
     overlaps_may_be_chosen,
 };
 use sq_plan_good::plans_with_room_are_good;
-use sq_program_laws::{unheld_fits, unpiped_fits};
+use sq_plan_good::sq_draft_laws::laws::resolved_programs_were_walked;
+use sq_plan_good::sq_program_laws::{unheld_fits, unpiped_fits};
 
 /// Only the program, the mapping, the machine and the forms matter; and of them one node is told, with one need.
 pub fn lacks_are_one()

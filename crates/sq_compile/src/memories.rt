@@ -2,12 +2,12 @@
 
 ghost use Rattle.std.specs.Prelude.{◌≡◌, map, IfOk};
 ghost use Rattle.sq_machfile.specs.Machines.{WithinLimits};
-ghost use Rattle.sq_draft_laws.specs.Choosing.{AreMemories};
-ghost use Rattle.sq_draft_laws.specs.Memories as spec;
+ghost use Rattle.sq_plan_good.specs.DraftLaws.Choosing.{AreMemories};
+ghost use Rattle.sq_plan_good.specs.DraftLaws.Memories as spec;
 
-use sq_draft_laws::laws::nodes_are_memories;
 use sq_ir::{PlanNode, PlanNodes};
 use sq_machfile::{Machine, Node};
+use sq_plan_good::sq_draft_laws::laws::nodes_are_memories;
 use sqlite_items::Items;
 use std::alloc::{AllocError, Global};
 

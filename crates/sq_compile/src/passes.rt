@@ -2,10 +2,10 @@
 
 ghost use Rattle.std.specs.Prelude.{◌≡◌, IfOk, IfErr};
 ghost use Rattle.sq_machfile.specs.Machines.{WithinLimits};
-ghost use Rattle.sq_pipe.specs.Greedy.{overlapped};
-ghost use Rattle.sq_pipe.specs.Notes.{notes_of};
-ghost use Rattle.sq_homes.specs.Drafts.{IsDraftOf};
-ghost use Rattle.sq_draft_laws.specs.Choosing.{AreMemories};
+ghost use Rattle.sq_pass_laws.specs.Pipe.Greedy.{overlapped};
+ghost use Rattle.sq_pass_laws.specs.Pipe.Notes.{notes_of};
+ghost use Rattle.sq_plan_good.specs.Homes.Drafts.{IsDraftOf};
+ghost use Rattle.sq_plan_good.specs.DraftLaws.Choosing.{AreMemories};
 ghost use Rattle.sq_plan_good.specs.Good.{HasNoRace};
 ghost use Rattle.sq_plan_good.specs.Planned.{memories_of, IsPlacedFor};
 ghost use Rattle.sq_compile.specs.Capacity.{NoneLacks};
@@ -13,16 +13,16 @@ ghost use Rattle.sq_compile.specs.Compiled.{IsPlanOf, IsRefusedFor};
 
 use crate::fitting::overlaps_have_room;
 use crate::memories::plan_nodes;
-use sq_draft_laws::laws::resolved_programs_were_walked;
 use sq_elim::drop_copies;
-use sq_hoist::hoist;
 use sq_ir::{Draft, Plan, PlanNodes};
 use sq_lower::lower;
+use sq_pass_laws::sq_hoist::hoist;
+use sq_pass_laws::sq_pipe::overlap_transfers;
 use sq_pass_laws::{
     choices_are_hoisted, hoisted_overlap_nothing, overlaps_fit, overlaps_hold,
     overlaps_may_be_chosen,
 };
-use sq_pipe::overlap_transfers;
+use sq_plan_good::sq_draft_laws::laws::resolved_programs_were_walked;
 use sq_plan_good::{
     needs_are_small, needs_are_sums, placed_plans_are_good, placing_succeeds, sums_are_needs,
 };

@@ -3,13 +3,13 @@
 ghost use Rattle.std.specs.Prelude.{◌≡◌, ◌++◌, ◌∷◌, [], IfOk, OnOk, map};
 ghost use Rattle.sq_ir.specs.Lifting.{lift};
 ghost use Rattle.sq_ir.specs.declared.num.Num.TheVariants as num;
-ghost use Rattle.sq_placed.specs.Tables as tables;
+ghost use Rattle.sq_term.specs.Placed.Tables as tables;
 ghost use Rattle.sq_term.specs.Terms as terms;
 
 use crate::numbers::start_table;
 use crate::places::{copy_nums, copy_view, copy_views, lift_nums, lift_views, push_locals};
+use sq_ir::sq_leaf::Shape;
 use sq_ir::{LeafView, LeafViews, Num, Nums};
-use sq_leaf::Shape;
 use sq_term::{Context, Move};
 use sq_text::SpreadRule;
 use sqlite_items::Items;

@@ -1,16 +1,16 @@
 //! Where arrays stand.
 
 ghost use Rattle.std.specs.Prelude.{◌≡◌, ◌++◌, ◌<◌, ◌^◌, IfOk, OnOk, map, true};
-ghost use Rattle.sq_rect.specs.Extents.{behind_first};
+ghost use Rattle.sq_ir.specs.Rect.Extents.{behind_first};
 ghost use Rattle.sq_ir.specs.Lifting.{lift};
-ghost use Rattle.sq_placed.specs.Tables as tables;
+ghost use Rattle.sq_term.specs.Placed.Tables as tables;
 ghost use Rattle.sq_term.specs.Terms as terms;
-ghost use Rattle.sq_placed.specs.Trees as trees;
+ghost use Rattle.sq_term.specs.Placed.Trees as trees;
 
+use sq_ir::sq_leaf::Shape;
+use sq_ir::sq_rect::Dims;
 use sq_ir::{BufferIds, LeafView, LeafViews, Num, Numbers, Nums, Slot};
-use sq_leaf::Shape;
-use sq_placed::Home;
-use sq_rect::Dims;
+use sq_term::sq_placed::Home;
 use sqlite_items::Items;
 use std::alloc::{AllocError, Global};
 

@@ -15,7 +15,7 @@ use Rattle.sq_arrays.specs.Arrays.{AreValuesOf, arrays_of}
 use Rattle.sq_arrays.specs.Window.{AreIn}
 use Rattle.sq_arrays.specs.Words.{is_over}
 use Rattle.sq_arrays.specs.Written.{row_from, rows_text, head_text, array_text, arrays_text, HasHead}
-use Rattle.sq_report.specs.Demo.{demo_first, demo_second, demo_elements}
+use Rattle.sq_demo.specs.Report.Demo.{demo_first, demo_second, demo_elements}
 use Rattle.sq_demo.specs.Data.{demo_data, matrix_of, matrix_text}
 use Rattle.sq_demo_laws.specs.Laws.{demo_wants, demo_values, matrix_values, DataIsRead}
 use Rattle.sq_demo_laws.proofs.Given.{WrittenReadBack}

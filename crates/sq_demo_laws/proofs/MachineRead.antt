@@ -15,7 +15,7 @@ use Rattle.sq_machfile.specs.Grammar.{IsText, of_levels, a_level, one_below, non
 use Rattle.sq_machfile.specs.Faults.{rules_of, LimitFault}
 use Rattle.sq_machfile.specs.Machines.{Hierarchy, machine_of, Writes, StandsFor, MachineFault}
 use Rattle.sq_machfile.proofs.Texts.{machine_format}
-use Rattle.sq_report.specs.Demo.{demo_machine}
+use Rattle.sq_demo.specs.Report.Demo.{demo_machine}
 use Rattle.sq_demo_laws.specs.Texts.{at, machine_tokens}
 use Rattle.sq_demo_laws.specs.Machine.{machine_text, demo_hierarchy}
 use Rattle.sq_demo_laws.proofs.Given.{OneList, NeverBoth}

@@ -35,7 +35,7 @@ use Rattle.sq_mapfile.specs.Sound.{Sound}
 use Rattle.sq_mapfile.proofs.Texts.{mapping_format}
 use Rattle.sq_mapfile.proofs.Resolved.{resolved, one_resolved}
 use Rattle.sq_mapfile.proofs.Sounds.{sound}
-use Rattle.sq_report.specs.Demo.{demo_mapping}
+use Rattle.sq_demo.specs.Report.Demo.{demo_mapping}
 use Rattle.sq_demo_laws.specs.Texts.{at, mapping_tokens}
 use Rattle.sq_demo_laws.specs.Tree.{word, bound_i, bound_j, bound_k, product_call, products_map, blocks_map, inner_params, inner_decls, inner_variant, leaf_variant, demo_tree}
 use Rattle.sq_demo_laws.specs.Machine.{mapping_text, demo_hierarchy, demo_mapped}

@@ -9,7 +9,7 @@ use Rattle.sq_lexer.specs.Faults.{FitsFile, HasFault, most_bytes}
 use Rattle.sq_ast.specs.declared.program.Program.{Program}
 use Rattle.sq_ast.specs.Grammar.{Leveled, Within, most_levels}
 use Rattle.sq_parser.specs.Programs as parsing
-use Rattle.sq_report.specs.Demo.{demo_program}
+use Rattle.sq_demo.specs.Report.Demo.{demo_program}
 use Rattle.sq_demo_laws.specs.Texts.{program_tokens}
 use Rattle.sq_demo_laws.specs.Tree.{demo_tree}
 use Rattle.sq_demo_laws.proofs.Given.{OneList, NeverBoth, OneProgram, NeverMisread}

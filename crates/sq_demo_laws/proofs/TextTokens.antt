@@ -3,7 +3,7 @@ use Rattle.std.proofs.Common.{◌≡◌, true, List, ℕ, refl, subst}
 use Rattle.sq_text.specs.Places.{start}
 use Rattle.sq_lexer.specs.declared.token.Token.{Token}
 use Rattle.sq_lexer.specs.Tokens.{TokensFrom, AreTokens}
-use Rattle.sq_report.specs.Demo.{demo_program, demo_mapping, demo_machine}
+use Rattle.sq_demo.specs.Report.Demo.{demo_program, demo_mapping, demo_machine}
 use Rattle.sq_demo_laws.specs.Texts.{program_tokens, mapping_tokens, machine_tokens}
 use Rattle.sq_demo_laws.specs.Laws.{ProgramHasTokens, MappingHasTokens, MachineHasTokens}
 use Rattle.sq_demo_laws.proofs.Pieces.{Piece, text_of, tokens_of, all_fit, tokens_fit, program_pieces, mapping_pieces, machine_pieces}

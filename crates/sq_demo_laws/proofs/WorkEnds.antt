@@ -27,8 +27,8 @@ use Rattle.sq_forms.specs.Calls.{CallSite, call_of}
 use Rattle.sq_forms.specs.Stmts.{times_of, in_iteration, within}
 use Rattle.sq_forms.specs.Decls.{Scope, empty_scope}
 use Rattle.sq_forms.specs.Resolving.{start}
-use Rattle.sq_spec.specs.Statements.{number_or, loop_kind_of}
-use Rattle.sq_spec.specs.Works.{Share, Working, all_of, map_work, reached_work, call_work, stmt_step, declared_work, form_work, work_of, flat, found_in}
+use Rattle.sq_spec_laws.specs.Spec.Statements.{number_or, loop_kind_of}
+use Rattle.sq_spec_laws.specs.Spec.Works.{Share, Working, all_of, map_work, reached_work, call_work, stmt_step, declared_work, form_work, work_of, flat, found_in}
 use Rattle.sq_work.specs.Work.{Work, Nothing, Then, Each, AtOnce, Call, Leaf}
 use Rattle.sq_work.specs.Meaning.{Outcome, and_then, with_turn, in_turn, apart, with_writes, writes, leaf_outcome, at_entry, at_return, meaning, Trapped}
 use Rattle.sq_demo_laws.specs.Texts.{at}

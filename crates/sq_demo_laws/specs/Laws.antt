@@ -11,7 +11,7 @@ use Rattle.sq_text.specs.declared.code.Phase.TheVariants.{Program as ProgramPhas
 use Rattle.sq_lexer.specs.Faults.{HasFault}
 use Rattle.sq_ast.specs.declared.program.Program.{Program}
 use Rattle.sq_parser.specs.Programs as parsing
-use Rattle.sq_spec.specs.declared.resolved.Resolved.{Resolved}
+use Rattle.sq_spec_laws.specs.Spec.declared.resolved.Resolved.{Resolved}
 use Rattle.sq_race.specs.Race.{IsFirstRace}
 use Rattle.sq_machfile.specs.Machines.{Hierarchy, StandsFor as IsHierarchyOf, MachineFault}
 use Rattle.sq_mapfile.specs.declared.mapping.Mapping.{Mapping}
@@ -21,12 +21,12 @@ use Rattle.sq_types.specs.Sites.{TypeFault}
 use Rattle.sq_forms.specs.Resolving.{resolution}
 use Rattle.sq_leaf.specs.Source.{Arrays}
 use Rattle.sq_work.specs.Meaning.{Trapped}
-use Rattle.sq_spec.specs.Works.{flat}
+use Rattle.sq_spec_laws.specs.Spec.Works.{flat}
 use Rattle.sq_spec_laws.specs.Needs.{Needs}
 use Rattle.sq_machfile.specs.declared.node.Node.{Node}
 use Rattle.sq_machfile.specs.Machines.{WithinLimits}
 use Rattle.sq_demo_laws.specs.Tree.{demo_tree}
-use Rattle.sq_report.specs.Demo.{demo_program, demo_mapping, demo_machine, demo_first, demo_second, demo_elements}
+use Rattle.sq_demo.specs.Report.Demo.{demo_program, demo_mapping, demo_machine, demo_first, demo_second, demo_elements}
 use Rattle.sq_demo.specs.Data.{demo_data, matrix_of}
 use Rattle.sq_demo_laws.specs.Texts.{program_tokens, mapping_tokens, machine_tokens}
 use Rattle.sq_demo_laws.specs.Machine.{demo_hierarchy, demo_mapped}

@@ -4,11 +4,11 @@ use Rattle.std.proofs.Common.{None, refl, sym, ap, ap₂, subst, ◌∙◌}
 use Rattle.sq_num.specs.declared.RedOp.{RedOp}
 use Rattle.sq_text.specs.declared.place.Place.{Place}
 use Rattle.sq_text.specs.declared.spread.SpreadRule.{SpreadRule}
-use Rattle.sq_leaf.specs.declared.shape.Shape.{Shape}
+use Rattle.sq_ir.specs.Leaf.declared.shape.Shape.{Shape}
 use Rattle.sq_ir.specs.declared.num.Num.{Num}
 use Rattle.sq_ir.specs.declared.term.Term.{Term}
 use Rattle.sq_ir.specs.declared.term.Term.TheVariants as term
-use Rattle.sq_blocks.specs.declared.argument.Argument.{Argument}
+use Rattle.sq_spec.specs.Blocks.declared.argument.Argument.{Argument}
 use Rattle.sq_spec.specs.declared.statement.LoopKind.{LoopKind}
 use Rattle.sq_spec.specs.declared.statement.CallInstance.{CallInstance}
 use Rattle.sq_spec.specs.declared.statement.Statement.{Statement, roll-Statement}
@@ -16,18 +16,18 @@ use Rattle.sq_spec.specs.declared.statement.Statement.TheVariants as b
 use Rattle.sq_spec.specs.declared.statement.Statement.TheOpen.{Statement-F}
 use Rattle.sq_spec.specs.declared.statement.Statement.TheFolds.{ind-Statement, map-Statement}
 use Rattle.sq_spec.specs.declared.body.FormBody.{FormBody}
-use Rattle.sq_placed.specs.declared.home.Home.{Home}
-use Rattle.sq_placed.specs.declared.home.Homes.{Homes}
-use Rattle.sq_term.specs.declared.context.Context.{Context}
-use Rattle.sq_placed.specs.Tables.{op_of, spread_of, Chain, chain_of, leaving_args, leaving_row, row_form, pipe_of}
-use Rattle.sq_term.specs.Terms.{arm_term, entry_context, entry_row, entry_term, body_in, homes_in, no_homes, body_term}
-use Rattle.sq_term.specs.Terms.{term_of, TermPart, any_lower, any_same, all_terms, in_map, map_term, count_num}
-use Rattle.sq_term.specs.Terms.{rows_term, statement_term, chains, first_num, loop_term, hold_term, map_hold, run_term}
+use Rattle.sq_tables.specs.Placed.declared.home.Home.{Home}
+use Rattle.sq_tables.specs.Placed.declared.home.Homes.{Homes}
+use Rattle.sq_tables.specs.Term.declared.context.Context.{Context}
+use Rattle.sq_tables.specs.Placed.Tables.{op_of, spread_of, Chain, chain_of, leaving_args, leaving_row, row_form, pipe_of}
+use Rattle.sq_tables.specs.Term.Terms.{arm_term, entry_context, entry_row, entry_term, body_in, homes_in, no_homes, body_term}
+use Rattle.sq_tables.specs.Term.Terms.{term_of, TermPart, any_lower, any_same, all_terms, in_map, map_term, count_num}
+use Rattle.sq_tables.specs.Term.Terms.{rows_term, statement_term, chains, first_num, loop_term, hold_term, map_hold, run_term}
 use Rattle.sq_tables.specs.Loops.{any_of, lower_in, same_in, chain_in}
 use Rattle.sq_draft.specs.Building.{callee_in, holding_args, holding_row, holding_of, hold_by, pipe_by, run_in}
 use Rattle.sq_spec.specs.Bodies.{no_body}
 use Rattle.sq_tables.proofs.Lists.{an_item}
-use Rattle.sq_term.proofs.Opened.{built_call, built_map}
+use Rattle.sq_tables.proofs.Term.Opened.{built_call, built_map}
 use Rattle.sq_tables.proofs.InStatements.{lower_call, lower_map, same_call, same_map, chain_call, chain_map}
 
 module _ (bodies : ℕ → FormBody) (homes : ℕ → Homes) (callee : ℕ → Context → Term) (rule : SpreadRule) where

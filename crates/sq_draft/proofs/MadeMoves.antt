@@ -2,12 +2,12 @@
 use Rattle.std.proofs.Common.{◌≡◌, List, ℤ, Option, ap, ap₂, ◌∙◌}
 use Rattle.sq_num.specs.declared.RedOp.{RedOp}
 use Rattle.sq_ast.specs.declared.program.Mode.{Mode}
-use Rattle.sq_leaf.specs.declared.shape.Shape.{Shape}
+use Rattle.sq_ir.specs.Leaf.declared.shape.Shape.{Shape}
 use Rattle.sq_ir.specs.declared.num.Num.{Num}
 use Rattle.sq_ir.specs.declared.term.LeafView.{LeafView}
-use Rattle.sq_placed.specs.declared.home.Home.{Home}
-use Rattle.sq_term.specs.declared.context.Move.{Move}
-use Rattle.sq_term.specs.Terms.{block_view, own_view}
+use Rattle.sq_tables.specs.Placed.declared.home.Home.{Home}
+use Rattle.sq_tables.specs.Term.declared.context.Move.{Move}
+use Rattle.sq_tables.specs.Term.Terms.{block_view, own_view}
 
 abbrev move_with : Mode → Option RedOp → Shape → Home → LeafView → Move
 move_with mode gathers shape home outside

@@ -6,18 +6,18 @@ use Rattle.sq_ir.specs.declared.num.Num.{Num}
 use Rattle.sq_ir.specs.declared.term.LeafView.{LeafView}
 use Rattle.sq_ir.specs.declared.term.Term.{Term}
 use Rattle.sq_ir.specs.declared.term.Term.TheVariants as term
-use Rattle.sq_blocks.specs.declared.argument.Argument.{Argument}
+use Rattle.sq_spec.specs.Blocks.declared.argument.Argument.{Argument}
 use Rattle.sq_spec.specs.declared.statement.CallInstance.{CallInstance}
 use Rattle.sq_spec.specs.declared.body.FormBody.{FormBody}
 use Rattle.sq_spec.specs.Bodies.{no_body}
-use Rattle.sq_placed.specs.declared.home.Homes.{Homes}
-use Rattle.sq_placed.specs.Tables.{placed_locals, locals_of, row_form}
-use Rattle.sq_placed.specs.Trees.{home_in_set}
-use Rattle.sq_term.specs.declared.context.Context.{Context}
-use Rattle.sq_term.specs.Terms.{lift_view, bytes_in, bytes_of, bytes_at, unless_zero, numbers, count_num, no_homes}
-use Rattle.sq_term.specs.Terms.{body_in, homes_in, moves_from, row_args, set_buffers_from, fill_held_term, callee_term}
-use Rattle.sq_term.specs.Terms.{in_callee, lanes_term, come_term, leave_term}
-use Rattle.sq_term.specs.declared.context.Move.{Move}
+use Rattle.sq_tables.specs.Placed.declared.home.Homes.{Homes}
+use Rattle.sq_tables.specs.Placed.Tables.{placed_locals, locals_of, row_form}
+use Rattle.sq_tables.specs.Placed.Trees.{home_in_set}
+use Rattle.sq_tables.specs.Term.declared.context.Context.{Context}
+use Rattle.sq_tables.specs.Term.Terms.{lift_view, bytes_in, bytes_of, bytes_at, unless_zero, numbers, count_num, no_homes}
+use Rattle.sq_tables.specs.Term.Terms.{body_in, homes_in, moves_from, row_args, set_buffers_from, fill_held_term, callee_term}
+use Rattle.sq_tables.specs.Term.Terms.{in_callee, lanes_term, come_term, leave_term}
+use Rattle.sq_tables.specs.Term.declared.context.Move.{Move}
 use Rattle.sq_tables.specs.Cases.{AreTables}
 use Rattle.sq_tables.proofs.Lists.{an_item}
 use Rattle.sq_draft.specs.declared.forms.Places.{Places}

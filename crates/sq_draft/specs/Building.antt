@@ -1,23 +1,23 @@
 -- What the builder of a term computes on the way.
 use Rattle.std.specs.Prelude.{ℕ, Bool, true, List, [], ◌∷◌, map, slice_get, Option, Some, None}
 use Rattle.sq_text.specs.declared.spread.SpreadRule.{SpreadRule}
-use Rattle.sq_leaf.specs.declared.shape.Shape.{Shape}
+use Rattle.sq_ir.specs.Leaf.declared.shape.Shape.{Shape}
 use Rattle.sq_ir.specs.declared.num.Num.{Num}
 use Rattle.sq_ir.specs.declared.term.Term.{Term}
 use Rattle.sq_ir.specs.declared.term.Term.TheVariants as term
-use Rattle.sq_blocks.specs.declared.argument.Argument.{Argument}
+use Rattle.sq_spec.specs.Blocks.declared.argument.Argument.{Argument}
 use Rattle.sq_spec.specs.declared.statement.LoopKind.{LoopKind}
 use Rattle.sq_spec.specs.declared.statement.CallInstance.{CallInstance}
 use Rattle.sq_spec.specs.declared.statement.Statement.{Statement}
 use Rattle.sq_spec.specs.declared.body.FormBody.{FormBody}
-use Rattle.sq_placed.specs.declared.home.Home.{Home}
-use Rattle.sq_placed.specs.declared.home.Homes.{Homes}
-use Rattle.sq_placed.specs.Tables.{Chain, leaving_args, spread_of, Pipe, pipe_of}
-use Rattle.sq_term.specs.declared.context.Context.{Context}
-use Rattle.sq_term.specs.Terms.{TermPart, statement_term, loop_term, term_of, body_in, homes_in, chain_num}
-use Rattle.sq_term.specs.declared.context.Move.{Move}
-use Rattle.sq_term.specs.Terms.{held_moves, leaving_buffers, hold_in_term, hold_out_term, at_child_already, pipe_term}
-use Rattle.sq_term.specs.Terms.{bring_term, back_term, come_in_term, fill_held_term}
+use Rattle.sq_tables.specs.Placed.declared.home.Home.{Home}
+use Rattle.sq_tables.specs.Placed.declared.home.Homes.{Homes}
+use Rattle.sq_tables.specs.Placed.Tables.{Chain, leaving_args, spread_of, Pipe, pipe_of}
+use Rattle.sq_tables.specs.Term.declared.context.Context.{Context}
+use Rattle.sq_tables.specs.Term.Terms.{TermPart, statement_term, loop_term, term_of, body_in, homes_in, chain_num}
+use Rattle.sq_tables.specs.Term.declared.context.Move.{Move}
+use Rattle.sq_tables.specs.Term.Terms.{held_moves, leaving_buffers, hold_in_term, hold_out_term, at_child_already, pipe_term}
+use Rattle.sq_tables.specs.Term.Terms.{bring_term, back_term, come_in_term, fill_held_term}
 use Rattle.sq_tables.specs.Loops.{rows_of_chain, loops_of_chain, any_of, lower_in, same_in, chain_in}
 use Rattle.sq_draft.specs.declared.forms.Holding.{Holding}
 use Rattle.sq_draft.specs.declared.transfers.Transfer.{Transfer}

@@ -2,22 +2,22 @@
 use Rattle.std.specs.Prelude.{ℕ, ℤ, pos, List, [], ◌∷◌, ◌++◌, map, Option, Some, None}
 use Rattle.sq_num.specs.declared.RedOp.{RedOp}
 use Rattle.sq_text.specs.declared.spread.SpreadRule.{SpreadRule}
-use Rattle.sq_leaf.specs.declared.shape.Shape.{Shape}
+use Rattle.sq_ir.specs.Leaf.declared.shape.Shape.{Shape}
 use Rattle.sq_ir.specs.Lifting.{lift}
 use Rattle.sq_ir.specs.declared.num.Num.{Num}
 use Rattle.sq_ir.specs.declared.num.Num.TheVariants as n
 use Rattle.sq_ir.specs.declared.term.Term.{Term}
 use Rattle.sq_ir.specs.declared.term.Term.TheVariants as term
-use Rattle.sq_blocks.specs.declared.argument.Argument.{Argument}
+use Rattle.sq_spec.specs.Blocks.declared.argument.Argument.{Argument}
 use Rattle.sq_spec.specs.declared.statement.CallInstance.{CallInstance}
-use Rattle.sq_placed.specs.declared.home.Home.{Home}
-use Rattle.sq_placed.specs.Placed.{PlacedLocal}
-use Rattle.sq_placed.specs.Tables.{placed_locals}
-use Rattle.sq_placed.specs.Trees.{home_in_set}
-use Rattle.sq_term.specs.declared.context.Context.{Context}
-use Rattle.sq_term.specs.declared.context.Move.{Move}
-use Rattle.sq_term.specs.Terms.{moves_from, in_callee, callee_term, at_child_already, lift_context, lift_lane}
-use Rattle.sq_term.specs.Terms.{whole_lane, lane_at, iteration, by_set, where_some, set_buffers_from, each_child}
+use Rattle.sq_tables.specs.Placed.declared.home.Home.{Home}
+use Rattle.sq_tables.specs.Placed.Placed.{PlacedLocal}
+use Rattle.sq_tables.specs.Placed.Tables.{placed_locals}
+use Rattle.sq_tables.specs.Placed.Trees.{home_in_set}
+use Rattle.sq_tables.specs.Term.declared.context.Context.{Context}
+use Rattle.sq_tables.specs.Term.declared.context.Move.{Move}
+use Rattle.sq_tables.specs.Term.Terms.{moves_from, in_callee, callee_term, at_child_already, lift_context, lift_lane}
+use Rattle.sq_tables.specs.Term.Terms.{whole_lane, lane_at, iteration, by_set, where_some, set_buffers_from, each_child}
 use Rattle.sq_tables.specs.Cases.{AreTables}
 use Rattle.sq_draft.specs.declared.forms.PipeCall.{PipeCall}
 use Rattle.sq_draft.specs.declared.forms.Set.{Set}

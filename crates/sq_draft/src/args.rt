@@ -2,25 +2,25 @@
 
 ghost use Rattle.std.specs.Prelude.{◌≡◌, ◌++◌, ℕ, List, IfOk, OnOk, Some, get_or, slice_get};
 ghost use Rattle.std.specs.Option.{option_copied};
-ghost use Rattle.sq_leaf.specs.declared.shape.Shape.{Shape as SpecShape};
-ghost use Rattle.sq_term.specs.declared.context.Move.{Move as SpecMove};
-ghost use Rattle.sq_placed.specs.declared.home.Home.TheVariants as home;
-ghost use Rattle.sq_placed.specs.Seats.{cons_some};
-ghost use Rattle.sq_placed.specs.Tables as tables;
-ghost use Rattle.sq_placed.specs.Trees as trees;
-ghost use Rattle.sq_term.specs.Terms as terms;
+ghost use Rattle.sq_ir.specs.Leaf.declared.shape.Shape.{Shape as SpecShape};
+ghost use Rattle.sq_tables.specs.Term.declared.context.Move.{Move as SpecMove};
+ghost use Rattle.sq_tables.specs.Placed.declared.home.Home.TheVariants as home;
+ghost use Rattle.sq_tables.specs.Placed.Seats.{cons_some};
+ghost use Rattle.sq_tables.specs.Placed.Tables as tables;
+ghost use Rattle.sq_tables.specs.Placed.Trees as trees;
+ghost use Rattle.sq_tables.specs.Term.Terms as terms;
 ghost use Rattle.sq_tables.specs.Cases as cases;
 
 use crate::forms::CalleeArrays;
 use sq_ast::Mode;
-use sq_blocks::Argument;
 use sq_contexts::{block_view, own_view};
+use sq_ir::sq_leaf::Shape;
 use sq_ir::{BufferIds, LeafView};
-use sq_leaf::Shape;
 use sq_num::RedOp;
-use sq_placed::Home;
+use sq_spec::sq_blocks::Argument;
+use sq_tables::sq_placed::Home;
+use sq_tables::sq_term::{Context, Move};
 use sq_tables::{CallTable, home_at, table_of};
-use sq_term::{Context, Move};
 use sqlite_items::{Items, at};
 use std::alloc::{AllocError, Global};
 

@@ -2,8 +2,8 @@
 
 ghost use Rattle.std.specs.Prelude.{◌≡◌, ◌+◌, [], ◌∷◌, map, IfOk, true, Some};
 ghost use Rattle.sq_ir.specs.declared.term.Term.TheVariants as term;
-ghost use Rattle.sq_placed.specs.Tables as tables;
-ghost use Rattle.sq_term.specs.Terms as terms;
+ghost use Rattle.sq_tables.specs.Placed.Tables as tables;
+ghost use Rattle.sq_tables.specs.Term.Terms as terms;
 ghost use Rattle.sq_tables.specs.Cases as cases;
 ghost use Rattle.sq_tables.specs.Loops as loops;
 ghost use Rattle.sq_draft.specs.Building as building;
@@ -24,10 +24,10 @@ use crate::transfers::{Transfer, push_transfers};
 use sq_contexts::{LocalArrays, at_child_already, count_num, in_callee, in_map, start_table};
 use sq_ir::{Num, Term, Terms};
 use sq_num::RedOp;
-use sq_placed::{Home, Homes};
 use sq_spec::{Body, CallInstance, Statement};
+use sq_tables::sq_placed::{Home, Homes};
+use sq_tables::sq_term::{Context, Move};
 use sq_tables::{Arm, CallTable, Pipe, any_lower, any_same, arms_of, spread_of, tables_of};
-use sq_term::{Context, Move};
 use sq_text::SpreadRule;
 use sqlite_items::{Items, at};
 use std::alloc::{AllocError, Global};

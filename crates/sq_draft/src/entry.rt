@@ -1,18 +1,18 @@
 //! The term of a whole draft.
 
 ghost use Rattle.std.specs.Prelude.{◌≡◌, [], ◌∷◌, length, IfOk, None, false};
-ghost use Rattle.sq_term.specs.Terms as terms;
+ghost use Rattle.sq_tables.specs.Term.Terms as terms;
 ghost use Rattle.sq_draft.specs.Building as building;
 
 use crate::build::call_term;
 use crate::forms::Forms;
-use sq_blocks::Argument;
 use sq_contexts::entry_context;
 use sq_ir::Term;
-use sq_placed::Homes;
+use sq_spec::sq_blocks::Argument;
 use sq_spec::{CallInstance, FormBody};
+use sq_tables::sq_placed::Homes;
+use sq_tables::sq_term::Context;
 use sq_tables::{CallTable, tables_of};
-use sq_term::Context;
 use sqlite_items::{Items, at};
 use std::alloc::{AllocError, Global};
 

@@ -1,17 +1,17 @@
 //! What a part of a term is made from.
 
 ghost use Rattle.std.specs.Prelude.{◌≡◌, ◌||◌, is_some, drop, true};
-ghost use Rattle.sq_placed.specs.Tables as tables;
+ghost use Rattle.sq_tables.specs.Placed.Tables as tables;
 
-use sq_blocks::Argument;
 use sq_contexts::LocalArrays;
+use sq_ir::sq_leaf::Shape;
 use sq_ir::{BufferIds, Num, Numbers};
-use sq_leaf::Shape;
 use sq_num::RedOp;
-use sq_placed::{Home, Homes};
+use sq_spec::sq_blocks::Argument;
 use sq_spec::{FormBody, LoopKind, Statement};
+use sq_tables::sq_placed::{Home, Homes};
+use sq_tables::sq_term::{Context, Lane, Move};
 use sq_tables::{CallTable, op_of};
-use sq_term::{Context, Lane, Move};
 use sq_text::SpreadRule;
 use sqlite_items::Items;
 

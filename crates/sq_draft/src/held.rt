@@ -1,12 +1,12 @@
 //! Loops that arguments leave.
 
 ghost use Rattle.std.specs.Prelude.{◌≡◌, ◌++◌, List, ℕ, IfOk, OnOk, map, get_or, slice_get};
-ghost use Rattle.sq_placed.specs.declared.home.Home.TheVariants as home;
-ghost use Rattle.sq_term.specs.declared.context.Move.{Move as SpecMove};
-ghost use Rattle.sq_placed.specs.Seats.{cons_some};
-ghost use Rattle.sq_placed.specs.Tables as tables;
-ghost use Rattle.sq_placed.specs.Trees as trees;
-ghost use Rattle.sq_term.specs.Terms as terms;
+ghost use Rattle.sq_tables.specs.Placed.declared.home.Home.TheVariants as home;
+ghost use Rattle.sq_tables.specs.Term.declared.context.Move.{Move as SpecMove};
+ghost use Rattle.sq_tables.specs.Placed.Seats.{cons_some};
+ghost use Rattle.sq_tables.specs.Placed.Tables as tables;
+ghost use Rattle.sq_tables.specs.Placed.Trees as trees;
+ghost use Rattle.sq_tables.specs.Term.Terms as terms;
 ghost use Rattle.sq_tables.specs.Loops as loops;
 ghost use Rattle.sq_draft.specs.Building as building;
 
@@ -14,10 +14,10 @@ use crate::args::{move_from, shape_at};
 use crate::forms::{CalleeArrays, Forms, Holding};
 use sq_contexts::{block_view, start_table};
 use sq_ir::{BufferIds, LeafView, Num};
-use sq_placed::Home;
 use sq_spec::{CallInstance, LoopKind, Statement};
+use sq_tables::sq_placed::Home;
+use sq_tables::sq_term::{Context, Move};
 use sq_tables::{Left, held_offsets, home_at, leaving_args, loops_in, rows_in};
-use sq_term::{Context, Move};
 use sqlite_items::{Items, at};
 use std::alloc::{AllocError, Global};
 

@@ -12,3 +12,5 @@ mod pipes;
 mod transfers;
 
 pub use entry::draft_term;
+pub use sq_tables;
+pub use sq_tables::sq_placed;

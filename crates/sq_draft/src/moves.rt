@@ -4,16 +4,16 @@ ghost use Rattle.std.specs.Prelude.{◌≡◌, ◌*◌, get_or, IfOk, pos};
 ghost use Rattle.sq_num.specs.Elements as elements;
 ghost use Rattle.sq_ir.specs.declared.num.Num.TheVariants as num;
 ghost use Rattle.sq_ir.specs.declared.term.Term.TheVariants as term;
-ghost use Rattle.sq_placed.specs.Trees as trees;
-ghost use Rattle.sq_term.specs.Terms as terms;
+ghost use Rattle.sq_tables.specs.Placed.Trees as trees;
+ghost use Rattle.sq_tables.specs.Term.Terms as terms;
 
 use sq_ast::Mode;
 use sq_contexts::signed;
+use sq_ir::sq_rect::Dims;
 use sq_ir::{Action, LeafView, Num, Slot, Term};
 use sq_num::{Elem, RedOp, identity, width};
-use sq_placed::Home;
-use sq_rect::Dims;
-use sq_term::Move;
+use sq_tables::sq_placed::Home;
+use sq_tables::sq_term::Move;
 use sqlite_items::{Boxed as Box, at};
 use std::alloc::{AllocError, Global};
 

@@ -4,21 +4,21 @@ ghost use Rattle.std.specs.Prelude.{◌≡◌, ◌++◌, [], ◌∷◌, map, Non
 ghost use Rattle.sq_ir.specs.declared.num.Num.TheVariants as num;
 ghost use Rattle.sq_ir.specs.declared.term.Term.TheVariants as term;
 ghost use Rattle.sq_ir.specs.declared.term.Action.TheVariants as action;
-ghost use Rattle.sq_placed.specs.Tables as tables;
-ghost use Rattle.sq_placed.specs.Trees as trees;
-ghost use Rattle.sq_term.specs.Terms as terms;
+ghost use Rattle.sq_tables.specs.Placed.Tables as tables;
+ghost use Rattle.sq_tables.specs.Placed.Trees as trees;
+ghost use Rattle.sq_tables.specs.Term.Terms as terms;
 ghost use Rattle.sq_tables.specs.Cases as cases;
 
 use crate::args::call_buffers;
 use crate::moves::fill_term;
-use sq_blocks::Argument;
 use sq_contexts::{LocalArrays, buffer_view, call_child, copy_lists, pick_at, push_local_buffers};
+use sq_ir::sq_leaf::Shape;
 use sq_ir::{Action, BufferIds, Num, Term, Terms};
-use sq_leaf::Shape;
-use sq_placed::Home;
 use sq_spec::CallInstance;
+use sq_spec::sq_blocks::Argument;
+use sq_tables::sq_placed::Home;
+use sq_tables::sq_term::Context;
 use sq_tables::{Arms, picks};
-use sq_term::Context;
 use sq_text::SpreadRule;
 use sqlite_items::{Boxed as Box, Items};
 use std::alloc::{AllocError, Global};

@@ -5,8 +5,8 @@ ghost use Rattle.sq_ir.specs.Lifting.{lift};
 ghost use Rattle.sq_ir.specs.declared.num.Num.TheVariants as num;
 ghost use Rattle.sq_ir.specs.declared.term.Term.TheVariants as term;
 ghost use Rattle.sq_text.specs.declared.spread.SpreadRule.TheVariants as spread_rule;
-ghost use Rattle.sq_placed.specs.Trees as trees;
-ghost use Rattle.sq_term.specs.Terms as terms;
+ghost use Rattle.sq_tables.specs.Placed.Trees as trees;
+ghost use Rattle.sq_tables.specs.Term.Terms as terms;
 ghost use Rattle.sq_draft.specs.declared.transfers.Transfer.TheVariants as transfer;
 ghost use Rattle.sq_draft.specs.Building as building;
 ghost use Rattle.sq_draft.specs.Piping as piping;
@@ -15,15 +15,15 @@ use crate::args::moves;
 use crate::forms::{CalleeArrays, LanePlace, MapTable, PipeCall, Places, Round, Set, Shell};
 use crate::parts::within;
 use crate::transfers::{Transfer, transfers_term};
-use sq_blocks::Argument;
 use sq_contexts::{
     at_child_already, at_iteration, call_child, count_num, iteration, lane_at, lift_context,
     lift_lane, whole_lane,
 };
 use sq_ir::{BufferIds, Num, Numbers, Term, Terms};
-use sq_placed::{Home, Homes};
+use sq_spec::sq_blocks::Argument;
+use sq_tables::sq_placed::{Home, Homes};
+use sq_tables::sq_term::{Context, Lane, Move};
 use sq_tables::{Pipe, any_lower, any_same, home_at, pipe_of, spread_of};
-use sq_term::{Context, Lane, Move};
 use sq_text::SpreadRule;
 use sqlite_items::{Boxed as Box, Items};
 use std::alloc::{AllocError, Global};

@@ -2,15 +2,15 @@
 
 ghost use Rattle.std.specs.Prelude.{◌≡◌, ◌++◌, [], ◌∷◌, map, IfOk, OnOk};
 ghost use Rattle.sq_ir.specs.declared.term.Term.TheVariants as term;
-ghost use Rattle.sq_placed.specs.Trees as trees;
-ghost use Rattle.sq_term.specs.Terms as terms;
+ghost use Rattle.sq_tables.specs.Placed.Trees as trees;
+ghost use Rattle.sq_tables.specs.Term.Terms as terms;
 ghost use Rattle.sq_draft.specs.Building as building;
 
 use crate::moves::{back_term, bring_term, copy_term};
 use sq_ast::Mode;
 use sq_ir::{Term, Terms};
-use sq_placed::Home;
-use sq_term::Move;
+use sq_tables::sq_placed::Home;
+use sq_tables::sq_term::Move;
 use sqlite_items::Items;
 use std::alloc::{AllocError, Global};
 

@@ -7,12 +7,12 @@ use Rattle.sq_leaf.specs.declared.shape.Shape.{Shape}
 use Rattle.sq_blocks.specs.Arguments.{lengths}
 use Rattle.sq_blocks.specs.declared.argument.Argument.{Argument}
 use Rattle.sq_placed.specs.Seats.{firsts}
-use Rattle.sq_plan_laws.specs.Coordinates.{Fits}
-use Rattle.sq_plan_laws.specs.Fitting.{whole}
+use Rattle.sq_program_laws.specs.PlanLaws.Coordinates.{Fits}
+use Rattle.sq_program_laws.specs.PlanLaws.Fitting.{whole}
 use Rattle.sq_program_laws.specs.Facts.{ArgFacts}
 use Rattle.sq_program_laws.specs.Entry.{IsWhole}
 use Rattle.sq_term.specs.Stands.{Each, none, more}
-use Rattle.sq_term_laws.specs.Roomy.{ArgFits, IsBelow, no_more, in_each}
+use Rattle.sq_program_laws.specs.TermLaws.Roomy.{ArgFits, IsBelow, no_more, in_each}
 use Rattle.sq_program_laws.specs.Sizes.{IsSized}
 use Rattle.sq_draft_laws.proofs.Sizes.{tops_of, tops_are, shaped}
 

@@ -11,9 +11,9 @@ use Rattle.sq_placed.specs.declared.home.Home.TheVariants.{InPlace, Own, Held, T
 use Rattle.sq_placed.specs.Tables.{leaves_loop}
 use Rattle.sq_placed.specs.Trees as trees
 use Rattle.sq_placed.specs.Trees.{buffer_of, held_of, twin_of}
-use Rattle.sq_term_laws.specs.Orders.{held_at, held_over}
-use Rattle.sq_term_laws.specs.Callers.{home_buffers, home_set}
-use Rattle.sq_plan_laws.specs.Buffers.{home_buffer}
+use Rattle.sq_program_laws.specs.TermLaws.Orders.{held_at, held_over}
+use Rattle.sq_program_laws.specs.TermLaws.Callers.{home_buffers, home_set}
+use Rattle.sq_program_laws.specs.PlanLaws.Buffers.{home_buffer}
 use Rattle.sq_homes.specs.declared.choice.Choice.{Choice}
 use Rattle.sq_homes.specs.Numbering.{deepest, left_by, is_moved, params_where, hoisted_from, hoisted, others, again}
 use Rattle.sq_homes.specs.Numbering.{locals_count, standing, position, home_of, local_base}

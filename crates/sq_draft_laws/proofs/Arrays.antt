@@ -13,16 +13,16 @@ use Rattle.sq_ir.specs.declared.plan.Buffer.{Buffer}
 use Rattle.sq_ir.specs.Plans.{of_buffer}
 use Rattle.sq_spec.specs.declared.body.FormBody.{FormBody}
 use Rattle.sq_spec.specs.declared.resolved.Resolved.{Resolved}
-use Rattle.sq_spec_laws.specs.Needs.{rounded}
+use Rattle.sq_homes.specs.SpecLaws.Needs.{rounded}
 use Rattle.sq_placed.specs.declared.home.Home.{Home}
 use Rattle.sq_placed.specs.declared.home.Home.TheVariants.{InPlace, Held, Twin}
 use Rattle.sq_placed.specs.declared.home.Homes.{Homes}
 use Rattle.sq_placed.specs.Placed.{PlacedArg, PlacedLocal}
 use Rattle.sq_placed.specs.Tables.{no_shape, placed_args, placed_locals, locals_of}
 use Rattle.sq_placed.specs.Trees.{local_buffers}
-use Rattle.sq_plan_laws.specs.Codes.{bytes_in}
+use Rattle.sq_program_laws.specs.PlanLaws.Codes.{bytes_in}
 use Rattle.sq_term.specs.Terms.{body_in, homes_in}
-use Rattle.sq_plan_laws.specs.Buffers.{home_buffer}
+use Rattle.sq_program_laws.specs.PlanLaws.Buffers.{home_buffer}
 use Rattle.sq_program_laws.proofs.Shapes.{at_mapped}
 use Rattle.sq_homes.specs.declared.choice.Choice.{Choice}
 use Rattle.sq_homes.specs.Numbering.{standing, array_size, shape_size, local_base, locals_count}

@@ -8,8 +8,8 @@ use Rattle.sq_ir.specs.Plans.{AskedOfActions}
 use Rattle.sq_ir.proofs.Meeting.{met-entry}
 use Rattle.sq_placed.specs.declared.home.Homes.{Homes}
 use Rattle.sq_term.specs.Terms.{entry_term, buffer_or}
-use Rattle.sq_term_laws.specs.Fits.{NodeAt}
-use Rattle.sq_term_laws.proofs.Meeting.{entry_is_fine}
+use Rattle.sq_program_laws.specs.TermLaws.Fits.{NodeAt}
+use Rattle.sq_program_laws.proofs.TermLaws.Meeting.{entry_is_fine}
 use Rattle.sq_draft_laws.specs.AtLevels.{IsAtLevel, LeavesAreAtLevels}
 use Rattle.sq_draft_laws.proofs.AtNodes.{with_node, at_nodes}
 use Rattle.sq_draft_laws.proofs.Back.{with_both}

@@ -12,7 +12,7 @@ use Rattle.sq_ir.specs.Written.{Setting, Env, at_turn, at_child, node_of, count_
 use Rattle.sq_ir.specs.Plans.{AskedOfActions, AskedOfTerms, IsChild, each_part, this_arm, Meets}
 use Rattle.sq_ir.proofs.Meeting.{meets_skip, meets_act, meets_seq, meets_par, meets_loop, meets_spread, meets_case}
 use Rattle.sq_ir.proofs.Meeting.{meets_within}
-use Rattle.sq_term_laws.specs.Fits.{Bounds, IsMachine}
+use Rattle.sq_program_laws.specs.TermLaws.Fits.{Bounds, IsMachine}
 
 module _ (s : Setting) (most : Bounds) (last : ℕ) (is_at : ℕ → ℕ → Type 0) (machine : IsMachine s most last is_at)
     (asked : AskedOfActions) where

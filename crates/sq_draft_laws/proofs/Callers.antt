@@ -27,10 +27,10 @@ use Rattle.sq_spec.specs.declared.resolved.Resolved.{Resolved}
 use Rattle.sq_spec.specs.Bodies.{body_of, found_body, instance_body, variant_body, scope_body, declared_body, what_runs}
 use Rattle.sq_spec.specs.Statements.{tables, elems_of}
 use Rattle.sq_spec.specs.Works.{shapes_of}
-use Rattle.sq_spec_laws.specs.TableRows.{Table, tables_in, RowIsReached}
-use Rattle.sq_spec_laws.proofs.TableRowsHold.{rows_are_reached}
+use Rattle.sq_homes.specs.SpecLaws.TableRows.{Table, tables_in, RowIsReached}
+use Rattle.sq_homes.proofs.SpecLaws.TableRowsHold.{rows_are_reached}
 use Rattle.sq_term.specs.Terms.{body_in}
-use Rattle.sq_term_laws.specs.Orders.{EachOf}
+use Rattle.sq_program_laws.specs.TermLaws.Orders.{EachOf}
 use Rattle.sq_homes.specs.Drafts.{bodies_of}
 use Rattle.sq_draft_laws.specs.Choosing.{Walked}
 use Rattle.sq_draft_laws.proofs.Programs.{bodies_are_tables}

@@ -18,7 +18,7 @@ use Rattle.sq_mapfile.specs.declared.mapping.Instance.{Instance}
 use Rattle.sq_mapfile.specs.declared.mapping.Mapping.{Mapping}
 use Rattle.sq_mapfile.specs.Sound.{Sound}
 use Rattle.sq_types.specs.Sound.{is_sound}
-use Rattle.sq_work.specs.declared.reduction.Reduction.{Reduction}
+use Rattle.sq_spec.specs.Work.declared.reduction.Reduction.{Reduction}
 use Rattle.sq_forms.specs.declared.form.Found.{Found}
 use Rattle.sq_forms.specs.Args.{Names}
 use Rattle.sq_forms.specs.Steps.{Called, Forms, Key}
@@ -44,8 +44,8 @@ use Rattle.sq_spec.specs.Bodies.{body_of, found_body, instance_body, variant_bod
 use Rattle.sq_spec.specs.Statements.{tables, elems_of}
 use Rattle.sq_spec.specs.Walked.{IsWalked}
 use Rattle.sq_spec.specs.Works.{shapes_of}
-use Rattle.sq_spec_laws.specs.TableRows.{Table, red_of, all_tables, tables_step, tables_of, tables_in, RowIsReached}
-use Rattle.sq_spec_laws.proofs.TableRowsHold.{rows_are_reached}
+use Rattle.sq_homes.specs.SpecLaws.TableRows.{Table, red_of, all_tables, tables_step, tables_of, tables_in, RowIsReached}
+use Rattle.sq_homes.proofs.SpecLaws.TableRowsHold.{rows_are_reached}
 use Rattle.sq_term.specs.Stands.{calls_in_rows, all_calls, calls_in, calls_in_all, calls_of, AreLevel, below}
 use Rattle.sq_term.proofs.Opened.{calls_call, calls_map}
 use Rattle.sq_homes.specs.Drafts.{level_by}

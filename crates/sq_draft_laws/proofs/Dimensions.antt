@@ -48,7 +48,7 @@ use Rattle.sq_forms.specs.Decls.{Scope, with_first, with_array, with_chop, array
 use Rattle.sq_forms.specs.Decls.{param_at, params_from, dims_of, dims_from, most_extent, most_elements}
 use Rattle.sq_form_laws.proofs.InsideHold.{first_stood, chosen_ok}
 use Rattle.sq_form_laws.proofs.Shapes.{Stood, old, new}
-use Rattle.sq_spec_laws.proofs.Sorted.{known_kept, known_own, is_fresh, both, three, four}
+use Rattle.sq_homes.proofs.SpecLaws.Sorted.{known_kept, known_own, is_fresh, both, three, four}
 
 -- ---- names that are known
 

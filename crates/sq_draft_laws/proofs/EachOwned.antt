@@ -34,16 +34,16 @@ use Rattle.sq_placed.specs.Tables.{placed_step, no_call, row_call, row_body, pip
 use Rattle.sq_placed.specs.Tables.{statement_placed, body_placed, placed_of}
 use Rattle.sq_placed.proofs.Opened.{part_call, part_map}
 use Rattle.sq_placed.proofs.Pipes.{taken, chains_placed}
-use Rattle.sq_plan_laws.proofs.PlacedLists.{same_some}
+use Rattle.sq_program_laws.proofs.PlanLaws.PlacedLists.{same_some}
 use Rattle.sq_cells.proofs.Access.{end_or_below}
 use Rattle.sq_term.specs.Terms.{body_in, homes_in}
-use Rattle.sq_term_laws.specs.Leaves.{loops_left}
-use Rattle.sq_term_laws.specs.Orders.{EachOf, Round, all_rounds, map_rounds, round_step, rounds_in, rounds_of}
-use Rattle.sq_term_laws.specs.Held.{IsHeldRow, AreHeldRows}
-use Rattle.sq_term_laws.proofs.Piped.{pipe_is, pipe_spread}
-use Rattle.sq_plan_laws.specs.Buffers.{HoldsBuffer, OpensInSet, Opens, HoldOwns, PipeOwns, held_round, OwnIn}
-use Rattle.sq_plan_laws.proofs.Live.{opens_has}
-use Rattle.sq_plan_laws.proofs.Openings.{contains_left, contains_right}
+use Rattle.sq_program_laws.specs.TermLaws.Leaves.{loops_left}
+use Rattle.sq_program_laws.specs.TermLaws.Orders.{EachOf, Round, all_rounds, map_rounds, round_step, rounds_in, rounds_of}
+use Rattle.sq_program_laws.specs.TermLaws.Held.{IsHeldRow, AreHeldRows}
+use Rattle.sq_program_laws.proofs.TermLaws.Piped.{pipe_is, pipe_spread}
+use Rattle.sq_program_laws.specs.PlanLaws.Buffers.{HoldsBuffer, OpensInSet, Opens, HoldOwns, PipeOwns, held_round, OwnIn}
+use Rattle.sq_program_laws.proofs.PlanLaws.Live.{opens_has}
+use Rattle.sq_program_laws.proofs.PlanLaws.Openings.{contains_left, contains_right}
 use Rattle.sq_program_laws.proofs.Shapes.{at_mapped}
 use Rattle.sq_program_laws.proofs.Carried.{held_leaves, left_there}
 use Rattle.sq_homes.specs.declared.choice.Choice.{Choice}

@@ -24,7 +24,7 @@ use Rattle.sq_placed.specs.declared.home.Home.TheVariants.{InPlace}
 use Rattle.sq_placed.specs.declared.home.Homes.{Homes}
 use Rattle.sq_program_laws.specs.Entry.{IsWhole, EntryFacts}
 use Rattle.sq_term.specs.Terms.{body_in, homes_in}
-use Rattle.sq_term_laws.specs.Leaves.{loops_left}
+use Rattle.sq_program_laws.specs.TermLaws.Leaves.{loops_left}
 use Rattle.sq_program_laws.specs.Homes.{params_at, may_write, mays_of}
 use Rattle.sq_program_laws.proofs.RowsHold.{arrays_are, params_are, mays_are}
 use Rattle.sq_program_laws.proofs.Shapes.{param_shape}

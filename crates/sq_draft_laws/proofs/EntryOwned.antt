@@ -11,11 +11,11 @@ use Rattle.sq_placed.specs.declared.home.Home.TheVariants.{InPlace}
 use Rattle.sq_placed.specs.declared.home.Homes.{Homes}
 use Rattle.sq_placed.specs.Placed.{PlacedArg, PlacedLocal, PlacedCall}
 use Rattle.sq_placed.specs.Tables.{no_shape, placed_args, locals_of, entry_call_placed, placed_of}
-use Rattle.sq_plan_laws.specs.Calling.{shapes_of}
+use Rattle.sq_program_laws.specs.PlanLaws.Calling.{shapes_of}
 use Rattle.sq_term.specs.Terms.{buffer_or, body_in, homes_in}
-use Rattle.sq_plan_laws.specs.Buffers.{home_buffer, HasBuffer, OpensBuffer, Opens, IsAmong, CallOwns}
-use Rattle.sq_plan_laws.specs.Rooms.{EntryOwns}
-use Rattle.sq_plan_laws.proofs.Live.{opens_has}
+use Rattle.sq_program_laws.specs.PlanLaws.Buffers.{home_buffer, HasBuffer, OpensBuffer, Opens, IsAmong, CallOwns}
+use Rattle.sq_program_laws.specs.PlanLaws.Rooms.{EntryOwns}
+use Rattle.sq_program_laws.proofs.PlanLaws.Live.{opens_has}
 use Rattle.sq_program_laws.specs.Entry.{entry_shapes}
 use Rattle.sq_program_laws.proofs.Shapes.{mapped_at, at_mapped}
 use Rattle.sq_homes.specs.declared.choice.Choice.{Choice}

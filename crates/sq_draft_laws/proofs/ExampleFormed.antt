@@ -14,21 +14,21 @@ use Rattle.sq_spec.specs.declared.statement.Statement.TheVariants as b
 use Rattle.sq_spec.specs.declared.body.Body.TheVariants as body
 use Rattle.sq_spec.specs.declared.body.FormBody.{FormBody}
 use Rattle.sq_spec.specs.Bodies.{no_body}
-use Rattle.sq_spec_laws.specs.TableRows.{Table, tables_in}
-use Rattle.sq_work.specs.declared.reduction.Reduction.{Reduction}
+use Rattle.sq_homes.specs.SpecLaws.TableRows.{Table, tables_in}
+use Rattle.sq_spec.specs.Work.declared.reduction.Reduction.{Reduction}
 use Rattle.sq_placed.specs.Pipes.{CallLoop, CallLoops, loop_round, call_loops, call_loops_of, AreHeads, no_heads}
 use Rattle.sq_placed.specs.Pipes.{more_heads, IsPiped, LoopsStand, PipesStand}
 use Rattle.sq_placed.proofs.Pipes.{loops_call, loops_map}
 use Rattle.sq_placed.specs.declared.home.Home.TheVariants.{InPlace, Own, Held, Twin}
 use Rattle.sq_placed.specs.declared.home.Homes.{Homes}
-use Rattle.sq_plan_laws.specs.Seated.{IsNear}
+use Rattle.sq_program_laws.specs.PlanLaws.Seated.{IsNear}
 use Rattle.sq_draft_laws.specs.Scope.{HomesAreNear}
 use Rattle.sq_draft_laws.specs.Paths.{Nested, nested_of, PathsFit, LeavesAreSmall}
 use Rattle.sq_draft_laws.proofs.Every.{Every, every_at}
-use Rattle.sq_term_laws.specs.Orders.{EachOf, Round, rounds_of}
-use Rattle.sq_term_laws.specs.Held.{IsHeldRow, AreHeldRows, AreHeldInside}
-use Rattle.sq_term_laws.specs.Overlapping.{IsSuited, AskedInMaps, RowOverlaps, BodyOverlaps, OverlapsStand}
-use Rattle.sq_term_laws.proofs.Overlaps.{overlaps_call, overlaps_map}
+use Rattle.sq_program_laws.specs.TermLaws.Orders.{EachOf, Round, rounds_of}
+use Rattle.sq_program_laws.specs.TermLaws.Held.{IsHeldRow, AreHeldRows, AreHeldInside}
+use Rattle.sq_program_laws.specs.TermLaws.Overlapping.{IsSuited, AskedInMaps, RowOverlaps, BodyOverlaps, OverlapsStand}
+use Rattle.sq_program_laws.proofs.TermLaws.Overlaps.{overlaps_call, overlaps_map}
 use Rattle.sq_draft_laws.proofs.Scoped.{tables_call, tables_map, rounds_call, rounds_map}
 use Rattle.sq_draft_laws.proofs.Paths.{RowsFit, nested_call, nested_map}
 

@@ -50,8 +50,8 @@ use Rattle.sq_form_laws.proofs.EachCall.{AllIn, all_joined, text_call, text_map}
 use Rattle.sq_form_laws.proofs.FitHold.{some_same, is_equal, variant_parts}
 use Rattle.sq_form_laws.proofs.Passing.{as_many}
 use Rattle.sq_form_laws.proofs.ServedHold.{all_at, calls_are_served}
-use Rattle.sq_spec_laws.proofs.Sorted.{both}
-use Rattle.sq_spec_laws.proofs.TypedHold.{as_first, get_there, callee_typed}
+use Rattle.sq_homes.proofs.SpecLaws.Sorted.{both}
+use Rattle.sq_homes.proofs.SpecLaws.TypedHold.{as_first, get_there, callee_typed}
 use Rattle.sq_program_laws.proofs.Shapes.{mapped_at}
 use Rattle.sq_draft_laws.proofs.Dimensions.{Extends, decls_extend, ranges_extend, params_are_known, decls_are_known}
 use Rattle.sq_draft_laws.proofs.Dimensions.{dims_are, map_many, AsKnown, params_as_known, decls_as_known, HasSpans}

@@ -16,11 +16,11 @@ use Rattle.sq_placed.specs.Tables.{entry_placed}
 use Rattle.sq_cells.specs.Tree.{Cause}
 use Rattle.sq_cells.specs.Alike.{MayRun}
 use Rattle.sq_term.specs.Terms.{entry_term, buffer_or}
-use Rattle.sq_term_laws.specs.Roomy.{RowsInside}
-use Rattle.sq_term_laws.proofs.Meeting.{entry_is_fine}
-use Rattle.sq_term_laws.proofs.Roomed.{entry_is_roomy}
-use Rattle.sq_plan_laws.specs.Entry.{plan_tree}
-use Rattle.sq_plan_laws.specs.Room.{IsRoomy}
+use Rattle.sq_program_laws.specs.TermLaws.Roomy.{RowsInside}
+use Rattle.sq_program_laws.proofs.TermLaws.Meeting.{entry_is_fine}
+use Rattle.sq_program_laws.proofs.TermLaws.Roomed.{entry_is_roomy}
+use Rattle.sq_program_laws.specs.PlanLaws.Entry.{plan_tree}
+use Rattle.sq_program_laws.specs.PlanLaws.Room.{IsRoomy}
 use Rattle.sq_program_laws.specs.Entry.{entry_shapes}
 use Rattle.sq_program_laws.proofs.Written.{plans_are_written}
 use Rattle.sq_draft_laws.specs.Scope.{InScope}

@@ -9,9 +9,9 @@ use Rattle.sq_placed.specs.declared.home.Home.{Home}
 use Rattle.sq_placed.specs.declared.home.Home.TheVariants.{InPlace, Own, Held, Twin}
 use Rattle.sq_placed.specs.declared.home.Homes.{Homes}
 use Rattle.sq_term.specs.Terms.{body_in, homes_in}
-use Rattle.sq_term_laws.specs.Leaves.{loops_left}
-use Rattle.sq_term_laws.specs.Orders.{Round, rounds_of}
-use Rattle.sq_term_laws.specs.Held.{IsHeldRow, AreHeldRows}
+use Rattle.sq_program_laws.specs.TermLaws.Leaves.{loops_left}
+use Rattle.sq_program_laws.specs.TermLaws.Orders.{Round, rounds_of}
+use Rattle.sq_program_laws.specs.TermLaws.Held.{IsHeldRow, AreHeldRows}
 use Rattle.sq_homes.specs.declared.choice.Choice.{Choice}
 use Rattle.sq_homes.specs.Numbering.{left_by}
 use Rattle.sq_homes.specs.Drafts.{bodies_of, homes_of, choice_in}

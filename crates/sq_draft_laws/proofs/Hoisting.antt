@@ -10,10 +10,10 @@ use Rattle.sq_spec.specs.Bodies.{body_of}
 use Rattle.sq_placed.specs.declared.home.Home.{Home}
 use Rattle.sq_placed.specs.declared.home.Home.TheVariants.{InPlace, Own, Held, Twin}
 use Rattle.sq_placed.specs.declared.home.Homes.{Homes}
-use Rattle.sq_term_laws.specs.Orders.{EachOf}
-use Rattle.sq_term_laws.specs.Overlapping.{IsSuited}
+use Rattle.sq_program_laws.specs.TermLaws.Orders.{EachOf}
+use Rattle.sq_program_laws.specs.TermLaws.Overlapping.{IsSuited}
 use Rattle.sq_term.specs.Terms.{no_homes, homes_in}
-use Rattle.sq_term_laws.specs.Leaves.{loops_left}
+use Rattle.sq_program_laws.specs.TermLaws.Leaves.{loops_left}
 use Rattle.sq_homes.specs.declared.choice.Choice.{Choice}
 use Rattle.sq_homes.specs.Numbering.{left_by, home_of, hoisted, others, position, form_homes}
 use Rattle.sq_homes.specs.Drafts.{bodies_of, homes_of, homes_from, choice_in, instance_at, rule_by}

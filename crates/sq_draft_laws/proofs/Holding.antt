@@ -14,12 +14,12 @@ use Rattle.sq_placed.specs.Tables.{no_shape, leaves_loop, leaving_args}
 use Rattle.sq_term.specs.declared.context.Move.{Move}
 use Rattle.sq_term.specs.Terms.{own_view, leaving_buffers, held_move, held_moves, held_view}
 use Rattle.sq_term.specs.Stands.{IsOf}
-use Rattle.sq_term_laws.specs.Roomy.{AreWhole}
+use Rattle.sq_program_laws.specs.TermLaws.Roomy.{AreWhole}
 use Rattle.sq_draft_laws.proofs.Every.{Every, Among, first_there, later_there, every_at}
 use Rattle.sq_ir.specs.declared.num.Num.{Num}
 use Rattle.sq_draft_laws.proofs.Moves.{IsHere, IsMoved, last_some, extents_own}
 use Rattle.sq_placed.specs.Trees.{held_of}
-use Rattle.sq_plan_laws.proofs.Grown.{same_true}
+use Rattle.sq_program_laws.proofs.PlanLaws.Grown.{same_true}
 
 module _ (loops : ℕ) (hs : List Home) where
   -- they leave it by their homes

@@ -37,8 +37,8 @@ use Rattle.sq_forms.specs.Decls.{Scope, with_array, param_at, params_from, numbe
 use Rattle.sq_form_laws.proofs.InsideHold.{first_stood}
 use Rattle.sq_form_laws.proofs.Shapes.{Stood, old, new, KeptIn, IsBound, took_from, there_kept, new_there}
 use Rattle.sq_spec.specs.Works.{extents_at, param_shapes, local_shapes}
-use Rattle.sq_spec_laws.proofs.Sorted.{both, three}
-use Rattle.sq_plan_laws.specs.LeafLaws.{event_shape}
+use Rattle.sq_homes.proofs.SpecLaws.Sorted.{both, three}
+use Rattle.sq_program_laws.specs.PlanLaws.LeafLaws.{event_shape}
 use Rattle.sq_draft_laws.proofs.Dimensions.{ParamDims, param_type, local_type, dims_are}
 use Rattle.sq_draft_laws.proofs.Worth.{Tells, worth_same}
 

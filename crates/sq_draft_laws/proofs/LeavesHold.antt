@@ -39,10 +39,10 @@ use Rattle.sq_spec.specs.declared.body.FormBody.{FormBody}
 use Rattle.sq_spec.specs.declared.resolved.Resolved.{Resolved}
 use Rattle.sq_spec.specs.Bodies.{no_body, found_body, what_runs}
 use Rattle.sq_spec.specs.Works.{shapes_of, param_shapes, local_shapes}
-use Rattle.sq_plan_laws.specs.LeafLaws.{IsInside, IsLeafOf, event_shape}
-use Rattle.sq_plan_laws.specs.LeafRuns.{IsCompiled, LinesCanRun, AreSmall}
-use Rattle.sq_plan_laws.proofs.Law.{leaves_stay_inside, leaves_are_coded}
-use Rattle.sq_plan_laws.specs.Seated.{HasDims}
+use Rattle.sq_program_laws.specs.PlanLaws.LeafLaws.{IsInside, IsLeafOf, event_shape}
+use Rattle.sq_program_laws.specs.PlanLaws.LeafRuns.{IsCompiled, LinesCanRun, AreSmall}
+use Rattle.sq_program_laws.proofs.PlanLaws.Law.{leaves_stay_inside, leaves_are_coded}
+use Rattle.sq_program_laws.specs.PlanLaws.Seated.{HasDims}
 use Rattle.sq_term.specs.Terms.{homes_in}
 use Rattle.sq_homes.specs.Drafts as drafts
 use Rattle.sq_homes.specs.Drafts.{homes_of}

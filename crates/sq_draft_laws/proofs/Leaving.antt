@@ -10,9 +10,9 @@ use Rattle.sq_spec.specs.declared.statement.Statement.TheOpen.{Statement-F}
 use Rattle.sq_spec.specs.declared.statement.Statement.TheFolds.{ind-Statement, map-Statement}
 use Rattle.sq_spec.specs.declared.body.Body.{Body}
 use Rattle.sq_spec.specs.declared.body.Body.TheVariants as body
-use Rattle.sq_term_laws.specs.Leaves.{Left, HasTurns, RowLeaves, AskedInLoops, each_in, loops_in, Leaves, BodyLeaves}
-use Rattle.sq_term_laws.proofs.Chains.{leaves_call, leaves_map}
-use Rattle.sq_term_laws.specs.Orders.{EachOf, Round, all_rounds, map_rounds, rounds_in, rounds_of}
+use Rattle.sq_program_laws.specs.TermLaws.Leaves.{Left, HasTurns, RowLeaves, AskedInLoops, each_in, loops_in, Leaves, BodyLeaves}
+use Rattle.sq_program_laws.proofs.TermLaws.Chains.{leaves_call, leaves_map}
+use Rattle.sq_program_laws.specs.TermLaws.Orders.{EachOf, Round, all_rounds, map_rounds, rounds_in, rounds_of}
 use Rattle.sq_draft_laws.proofs.Rounds.{each_of, each_both, rounds_call, rounds_map}
 
 -- of a row of a call

@@ -17,7 +17,7 @@ use Rattle.sq_ir.specs.declared.plan.Buffer.{Buffer}
 use Rattle.sq_spec.specs.declared.body.FormBody.{FormBody}
 use Rattle.sq_spec.specs.declared.resolved.Resolved.{Resolved}
 use Rattle.sq_placed.specs.declared.home.Home.{Home}
-use Rattle.sq_term_laws.specs.Programs.{HaveLevels}
+use Rattle.sq_program_laws.specs.TermLaws.Programs.{HaveLevels}
 use Rattle.sq_homes.specs.declared.choice.Choice.{Choice}
 use Rattle.sq_homes.specs.Drafts.{bodies_of, buffers_from, buffer_at, choice_in, level_by}
 use Rattle.sq_homes.specs.Numbering.{left_by, standing, IsHomeIn}

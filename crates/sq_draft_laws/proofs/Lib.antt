@@ -60,3 +60,6 @@ pub mod Formed
 pub mod AtNodes
 pub mod AtLevels
 pub mod ExampleFormed
+-- Lemmas of crates below, passed on.
+pub use Rattle.sq_program_laws.proofs as ProgramLaws
+pub use Rattle.sq_program_laws.proofs.TermLaws

@@ -21,15 +21,15 @@ use Rattle.sq_placed.specs.Placed.{Placed, PlacedArg, Call, Piped}
 use Rattle.sq_placed.specs.Tables.{map_placed, placed_call, placed_of, leaving_chain, held_arg, chain_form, chain_row}
 use Rattle.sq_placed.specs.Tables.{hold_placed, placed_rule, row_call, row_body}
 use Rattle.sq_cells.specs.Machine.{fan_of, lane, lane_of}
-use Rattle.sq_plan_laws.specs.Seated.{at_node}
+use Rattle.sq_program_laws.specs.PlanLaws.Seated.{at_node}
 use Rattle.sq_term.specs.Terms.{body_in, homes_in}
 use Rattle.sq_term.specs.Stands.{below, calls_of, AreLevel}
-use Rattle.sq_term_laws.specs.Fits.{NodeAt, TabledBody}
-use Rattle.sq_term_laws.proofs.Lower.{lower_stand_above}
-use Rattle.sq_term_laws.proofs.Programs.{programs_are_tabled}
-use Rattle.sq_term_laws.specs.Lowers.{statements, lower_in}
-use Rattle.sq_term_laws.specs.Orders.{EachOf}
-use Rattle.sq_plan_laws.specs.Buffers.{HaveLanes}
+use Rattle.sq_program_laws.specs.TermLaws.Fits.{NodeAt, TabledBody}
+use Rattle.sq_program_laws.proofs.TermLaws.Lower.{lower_stand_above}
+use Rattle.sq_program_laws.proofs.TermLaws.Programs.{programs_are_tabled}
+use Rattle.sq_program_laws.specs.TermLaws.Lowers.{statements, lower_in}
+use Rattle.sq_program_laws.specs.TermLaws.Orders.{EachOf}
+use Rattle.sq_program_laws.specs.PlanLaws.Buffers.{HaveLanes}
 use Rattle.sq_homes.specs.declared.choice.Choice.{Choice}
 use Rattle.sq_homes.specs.Drafts.{bodies_of, homes_of, buffers_of}
 use Rattle.sq_draft_laws.specs.Given.{level_at}

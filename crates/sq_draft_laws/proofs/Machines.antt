@@ -7,8 +7,8 @@ use Rattle.sq_ir.specs.Plans.{node_at, placed}
 use Rattle.sq_ir.specs.declared.plan.Buffer.{Buffer}
 use Rattle.sq_ir.specs.declared.plan.PlanNode.{PlanNode}
 use Rattle.sq_nests.proofs.Machines.{child-there, root-there, layered}
-use Rattle.sq_term_laws.specs.Fits.{AreBounds, IsMachine, NodeAt}
-use Rattle.sq_term_laws.proofs.Meeting.{within_limits}
+use Rattle.sq_program_laws.specs.TermLaws.Fits.{AreBounds, IsMachine, NodeAt}
+use Rattle.sq_program_laws.proofs.TermLaws.Meeting.{within_limits}
 use Rattle.sq_draft_laws.specs.Choosing.{AreMemories}
 use Rattle.sq_draft_laws.specs.Drafts.{limits}
 use Rattle.sq_draft_laws.specs.Lanes.{MachinesAreMachines}

@@ -36,8 +36,8 @@ use Rattle.sq_term.specs.Terms.{bring_term_by, bring_term, back_term_by, back_te
 use Rattle.sq_term.specs.Terms.{own_view, move_of, moves_from, buffers_from, hold_in_term_by, hold_in_term}
 use Rattle.sq_term.specs.Terms.{hold_out_term_by, hold_out_term, come_in_term, fill_held_term}
 use Rattle.sq_term.specs.Stands.{IsOf, LocalsOf, below}
-use Rattle.sq_term_laws.specs.Roomy.{IsWhole, AreWhole}
-use Rattle.sq_plan_laws.specs.Seated.{IsNear}
+use Rattle.sq_program_laws.specs.TermLaws.Roomy.{IsWhole, AreWhole}
+use Rattle.sq_program_laws.specs.PlanLaws.Seated.{IsNear}
 use Rattle.sq_draft_laws.specs.Scope.{InScope}
 use Rattle.sq_draft_laws.proofs.Back.{with_both}
 use Rattle.sq_draft_laws.proofs.Every.{Every, Among, first_there, later_there}

@@ -6,11 +6,11 @@ use Rattle.sq_blocks.specs.declared.argument.Argument.{Argument}
 use Rattle.sq_spec.specs.declared.statement.CallInstance.{CallInstance}
 use Rattle.sq_spec.specs.declared.body.Body.{Body}
 use Rattle.sq_spec.specs.declared.body.FormBody.{FormBody}
-use Rattle.sq_spec_laws.specs.TableRows.{Table}
+use Rattle.sq_homes.specs.SpecLaws.TableRows.{Table}
 use Rattle.sq_placed.specs.declared.home.Home.TheVariants.{InPlace}
 use Rattle.sq_placed.specs.declared.home.Homes.{Homes}
 use Rattle.sq_cells.specs.Tree.{Cause}
-use Rattle.sq_plan_laws.specs.Seated.{IsNear}
+use Rattle.sq_program_laws.specs.PlanLaws.Seated.{IsNear}
 use Rattle.sq_program_laws.specs.Rows.{operator_of, RowFits, BodyFits}
 use Rattle.sq_program_laws.proofs.Facts.{passed, passed_there}
 use Rattle.sq_draft_laws.specs.Laws.{FormsAreNear}

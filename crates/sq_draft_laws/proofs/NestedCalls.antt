@@ -13,7 +13,7 @@ use Rattle.sq_ast.specs.declared.stmt.Stmt.TheVariants as s
 use Rattle.sq_ast.specs.declared.stmt.Stmt.TheOpen.{Stmt-F}
 use Rattle.sq_ast.specs.declared.stmt.Stmt.TheFolds.{ind-Stmt, map-Stmt}
 use Rattle.sq_blocks.specs.Names.{Numbers}
-use Rattle.sq_work.specs.declared.reduction.Reduction.{Reduction}
+use Rattle.sq_spec.specs.Work.declared.reduction.Reduction.{Reduction}
 use Rattle.sq_forms.specs.Args.{Names, arguments}
 use Rattle.sq_forms.specs.Calls.{key_of, flags, extents_of}
 use Rattle.sq_forms.specs.Steps.{Forms, key_number}
@@ -28,8 +28,8 @@ use Rattle.sq_spec.specs.declared.statement.Statement.TheFolds.{fold-roll-Statem
 use Rattle.sq_spec.specs.Statements.{number_or, starts_from, iteration_points, count_at, count_rows, call_instance}
 use Rattle.sq_spec.specs.Statements.{loop_kind_of, StatementTable, all_of, call_table, table_of, tables}
 use Rattle.sq_spec.proofs.OpenedStatement.{table_of_call, table_of_map, same_calls}
-use Rattle.sq_spec_laws.specs.TableRows.{Table, red_of, all_tables, tables_of, tables_in}
-use Rattle.sq_spec_laws.proofs.TableRowsHold.{tables_call, tables_map}
+use Rattle.sq_homes.specs.SpecLaws.TableRows.{Table, red_of, all_tables, tables_of, tables_in}
+use Rattle.sq_homes.proofs.SpecLaws.TableRowsHold.{tables_call, tables_map}
 use Rattle.sq_draft_laws.specs.Paths.{Nested, all_nested, nested_step, nested_in}
 use Rattle.sq_program_laws.proofs.Shapes.{mapped_at}
 use Rattle.sq_draft_laws.proofs.Loops.{all_loops, loops_in, loops_call, loops_map, loops_many}

@@ -20,9 +20,9 @@ use Rattle.sq_placed.specs.declared.home.Homes.{Homes}
 use Rattle.sq_placed.specs.Trees.{local_buffers}
 use Rattle.sq_placed.specs.Tables.{placed_locals, locals_of}
 use Rattle.sq_term.specs.Terms.{body_in, homes_in}
-use Rattle.sq_term_laws.specs.Leaves.{loops_left}
-use Rattle.sq_term_laws.specs.Orders.{EachOf, Round, rounds_of, held_at, held_over, params_of, round_held}
-use Rattle.sq_term_laws.specs.Callers.{home_buffers, home_set, Numbering, own, IsRowOf, AreRowsOf, AreNumbered}
+use Rattle.sq_program_laws.specs.TermLaws.Leaves.{loops_left}
+use Rattle.sq_program_laws.specs.TermLaws.Orders.{EachOf, Round, rounds_of, held_at, held_over, params_of, round_held}
+use Rattle.sq_program_laws.specs.TermLaws.Callers.{home_buffers, home_set, Numbering, own, IsRowOf, AreRowsOf, AreNumbered}
 use Rattle.sq_homes.specs.declared.choice.Choice.{Choice}
 use Rattle.sq_homes.specs.Numbering.{deepest, hoisted, others, again, locals_count, local_base}
 use Rattle.sq_homes.specs.Drafts.{bodies_of, homes_of, buffers_of, choice_in}

@@ -20,13 +20,13 @@ use Rattle.sq_placed.specs.declared.home.Homes.{Homes}
 use Rattle.sq_placed.specs.Placed.{Placed, PlacedArg, PlacedLocal, PlacedCall}
 use Rattle.sq_placed.specs.Tables.{no_shape, placed_args, locals_of, placed_call, leaves_loop, leaving_args}
 use Rattle.sq_placed.specs.Tables.{held_arg}
-use Rattle.sq_plan_laws.specs.Calling.{shapes_of}
-use Rattle.sq_plan_laws.specs.Codes.{bytes_in}
-use Rattle.sq_plan_laws.proofs.PlacedLists.{same_some}
+use Rattle.sq_program_laws.specs.PlanLaws.Calling.{shapes_of}
+use Rattle.sq_program_laws.specs.PlanLaws.Codes.{bytes_in}
+use Rattle.sq_program_laws.proofs.PlanLaws.PlacedLists.{same_some}
 use Rattle.sq_term.specs.Terms.{body_in, homes_in}
-use Rattle.sq_plan_laws.specs.Buffers.{home_buffer, opened_buffer, HasBuffer, OpensBuffer, HoldsBuffer, Opens}
-use Rattle.sq_plan_laws.specs.Buffers.{IsAmong, CallOwns, HoldOwns, buffer_in, opened_in, array_buffers, HasInSet, OpensInSet, IsTwice, PipeOwns}
-use Rattle.sq_plan_laws.proofs.Live.{opens_has}
+use Rattle.sq_program_laws.specs.PlanLaws.Buffers.{home_buffer, opened_buffer, HasBuffer, OpensBuffer, HoldsBuffer, Opens}
+use Rattle.sq_program_laws.specs.PlanLaws.Buffers.{IsAmong, CallOwns, HoldOwns, buffer_in, opened_in, array_buffers, HasInSet, OpensInSet, IsTwice, PipeOwns}
+use Rattle.sq_program_laws.proofs.PlanLaws.Live.{opens_has}
 use Rattle.sq_program_laws.specs.Sizes.{IsSized}
 use Rattle.sq_program_laws.proofs.Shapes.{mapped_at, at_mapped}
 use Rattle.sq_program_laws.proofs.Whole.{arrays_are_sized}

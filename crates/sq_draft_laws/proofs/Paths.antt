@@ -19,11 +19,11 @@ use Rattle.sq_spec.specs.declared.body.Body.TheVariants as body
 use Rattle.sq_spec.specs.declared.body.FormBody.{FormBody}
 use Rattle.sq_cells.specs.Leaves.{sum_below}
 use Rattle.sq_cells.specs.Alike.{Weight, event_count, leaf_count}
-use Rattle.sq_term_laws.specs.Fits.{Bounds, AskedOfStatement, HaveCounts, all_parts, Tabled, TabledBody}
-use Rattle.sq_term_laws.proofs.Chains.{tabled_map}
+use Rattle.sq_program_laws.specs.TermLaws.Fits.{Bounds, AskedOfStatement, HaveCounts, all_parts, Tabled, TabledBody}
+use Rattle.sq_program_laws.proofs.TermLaws.Chains.{tabled_map}
 use Rattle.sq_placed.specs.Tables.{entry_placed}
-use Rattle.sq_plan_laws.specs.Entry.{plan_tree}
-use Rattle.sq_plan_laws.proofs.LeafCalls.{plans_count}
+use Rattle.sq_program_laws.specs.PlanLaws.Entry.{plan_tree}
+use Rattle.sq_program_laws.proofs.PlanLaws.LeafCalls.{plans_count}
 use Rattle.sq_program_laws.specs.LeafCalls.{FormWeight, row_calls, all_calls, calls_step, statement_calls, body_calls}
 use Rattle.sq_program_laws.specs.LeafCalls.{form_calls}
 use Rattle.sq_program_laws.proofs.LeafCalls.{calls_are_of_tables}

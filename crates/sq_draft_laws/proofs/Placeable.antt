@@ -18,12 +18,12 @@ use Rattle.sq_placed.specs.declared.home.Homes.{Homes}
 use Rattle.sq_placed.specs.Trees.{buffer_of}
 use Rattle.sq_term.specs.Terms.{buffer_or, entry_term, body_in, homes_in}
 use Rattle.sq_term.specs.Stands.{IsOf, AreOf, AreLeveled}
-use Rattle.sq_term_laws.specs.Fits.{IsThere, AreThere, AreTabled}
-use Rattle.sq_term_laws.proofs.Meeting.{entry_is_fine}
+use Rattle.sq_program_laws.specs.TermLaws.Fits.{IsThere, AreThere, AreTabled}
+use Rattle.sq_program_laws.proofs.TermLaws.Meeting.{entry_is_fine}
 use Rattle.sq_nests.specs.Drafts.{Nothing, IsPlaceable}
-use Rattle.sq_term_laws.specs.Callers.{home_buffers, Numbering, AreNumbered}
-use Rattle.sq_term_laws.specs.Lowered.{IsLowered, HasNumbers}
-use Rattle.sq_term_laws.proofs.Lowered.{are_stacked, lowered_is_placeable}
+use Rattle.sq_program_laws.specs.TermLaws.Callers.{home_buffers, Numbering, AreNumbered}
+use Rattle.sq_program_laws.specs.TermLaws.Lowered.{IsLowered, HasNumbers}
+use Rattle.sq_program_laws.proofs.TermLaws.Lowered.{are_stacked, lowered_is_placeable}
 use Rattle.sq_homes.specs.declared.choice.Choice.{Choice}
 use Rattle.sq_homes.specs.Drafts.{bodies_of, homes_of, args_of, IsDraftOf}
 use Rattle.sq_draft_laws.specs.Given.{level_at}

@@ -24,13 +24,13 @@ use Rattle.sq_placed.specs.Tables.{hold_placed, holds, Pipe, overlapped, pipe_of
 use Rattle.sq_placed.specs.Tables.{pipe_placed, row_form, PlacedPart, chains, any_lower, any_same, all_placed, row_placed}
 use Rattle.sq_placed.specs.Tables.{placed_step, statement_placed, body_placed, no_call, row_call, one_more, lanes_of}
 use Rattle.sq_placed.proofs.Opened.{part_call, part_map}
-use Rattle.sq_term_laws.specs.Lowers.{lower_in, same_in}
-use Rattle.sq_term_laws.specs.Orders.{EachOf}
-use Rattle.sq_term_laws.specs.Overlapping.{AskedInMaps, each_in_maps, any_by, is_spread, can_overlap, RowOverlaps, overlaps_step}
-use Rattle.sq_term_laws.specs.Overlapping.{Overlaps, BodyOverlaps}
-use Rattle.sq_term_laws.proofs.Overlaps.{overlaps_call, overlaps_map, same_call, same_map, any_map}
-use Rattle.sq_term_laws.proofs.LowersOpened.{lower_call, lower_map}
-use Rattle.sq_term_laws.proofs.Piped.{no_pipe, pipe_is, pipe_none}
+use Rattle.sq_program_laws.specs.TermLaws.Lowers.{lower_in, same_in}
+use Rattle.sq_program_laws.specs.TermLaws.Orders.{EachOf}
+use Rattle.sq_program_laws.specs.TermLaws.Overlapping.{AskedInMaps, each_in_maps, any_by, is_spread, can_overlap, RowOverlaps, overlaps_step}
+use Rattle.sq_program_laws.specs.TermLaws.Overlapping.{Overlaps, BodyOverlaps}
+use Rattle.sq_program_laws.proofs.TermLaws.Overlaps.{overlaps_call, overlaps_map, same_call, same_map, any_map}
+use Rattle.sq_program_laws.proofs.TermLaws.LowersOpened.{lower_call, lower_map}
+use Rattle.sq_program_laws.proofs.TermLaws.Piped.{no_pipe, pipe_is, pipe_none}
 use Rattle.sq_draft_laws.proofs.Rounds.{one_of}
 
 -- nothing, or the call of a form that overlaps its transfers

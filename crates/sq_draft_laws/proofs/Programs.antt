@@ -19,7 +19,7 @@ use Rattle.sq_spec.specs.Bodies.{no_body, body_of, found_body, numbered_work}
 use Rattle.sq_spec.specs.Entry.{IsEntry, EntryIsFirst}
 use Rattle.sq_spec.specs.Numbered.{called_entry, entry_call}
 use Rattle.sq_spec.specs.Works.{entry_arguments}
-use Rattle.sq_work.specs.Work as work
+use Rattle.sq_spec.specs.Work.Work as work
 use Rattle.sq_term.specs.Terms.{body_in}
 use Rattle.sq_placed.specs.Placed.{plain}
 use Rattle.sq_placed.specs.Tables.{entry_placed}

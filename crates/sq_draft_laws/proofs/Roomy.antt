@@ -30,20 +30,20 @@ use Rattle.sq_spec.specs.declared.resolved.Resolved.{Resolved}
 use Rattle.sq_spec.specs.declared.statement.CallInstance.{CallInstance}
 use Rattle.sq_spec.specs.Bodies.{no_body, what_runs}
 use Rattle.sq_spec.specs.Statements.{tables, elems_of}
-use Rattle.sq_spec_laws.specs.TableRows.{Table, tables_in, RowIsReached}
-use Rattle.sq_spec_laws.proofs.TableRowsHold.{rows_are_reached}
+use Rattle.sq_homes.specs.SpecLaws.TableRows.{Table, tables_in, RowIsReached}
+use Rattle.sq_homes.proofs.SpecLaws.TableRowsHold.{rows_are_reached}
 use Rattle.sq_placed.specs.declared.home.Home.{Home}
 use Rattle.sq_placed.specs.declared.home.Home.TheVariants.{InPlace, Own, Held, Twin}
 use Rattle.sq_placed.specs.declared.home.Homes.{Homes}
 use Rattle.sq_placed.specs.Tables.{no_shape}
 use Rattle.sq_term.specs.Terms.{no_homes, homes_in, buffer_or, entry_row}
 use Rattle.sq_term.specs.Stands.{Each, none, more}
-use Rattle.sq_term_laws.specs.Roomy.{FitsInto, HomeFits, ArgFits, reached_of, RowFits, RowsFit, AreRoomy}
-use Rattle.sq_term_laws.specs.Roomy.{EntryFits}
-use Rattle.sq_term_laws.specs.Leaves.{BodyLeaves, arrays_in, TakeSame, BodySame}
+use Rattle.sq_program_laws.specs.TermLaws.Roomy.{FitsInto, HomeFits, ArgFits, reached_of, RowFits, RowsFit, AreRoomy}
+use Rattle.sq_program_laws.specs.TermLaws.Roomy.{EntryFits}
+use Rattle.sq_program_laws.specs.TermLaws.Leaves.{BodyLeaves, arrays_in, TakeSame, BodySame}
 use Rattle.sq_program_laws.specs.Homes.{AreHomes}
 use Rattle.sq_program_laws.proofs.RowsHold.{body_is, arg_facts, many_args}
-use Rattle.sq_plan_laws.specs.Buffers.{home_buffer}
+use Rattle.sq_program_laws.specs.PlanLaws.Buffers.{home_buffer}
 use Rattle.sq_homes.specs.declared.choice.Choice.{Choice}
 use Rattle.sq_homes.specs.Drafts.{homes_of, buffers_of, buffer_at, args_of, choice_in}
 use Rattle.sq_homes.specs.Numbering.{standing, local_base, locals_count, shape_size}

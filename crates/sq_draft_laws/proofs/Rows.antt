@@ -3,7 +3,7 @@ use Rattle.std.proofs.Common.{◌≡◌, ℕ, suc, Bool, List, [], ◌∷◌, �
 use Rattle.std.proofs.Common.{◌∙◌, subst}
 use Rattle.std.specs.Prelude.{slice_get}
 use Rattle.sq_text.specs.declared.place.Place.{Place}
-use Rattle.sq_work.specs.declared.reduction.Reduction.{Reduction}
+use Rattle.sq_spec.specs.Work.declared.reduction.Reduction.{Reduction}
 use Rattle.sq_leaf.specs.declared.shape.Shape.{Shape}
 use Rattle.sq_spec.specs.declared.statement.LoopKind.{LoopKind}
 use Rattle.sq_spec.specs.declared.statement.CallInstance.{CallInstance}
@@ -12,9 +12,9 @@ use Rattle.sq_spec.specs.declared.statement.Statement.TheVariants as b
 use Rattle.sq_spec.specs.declared.statement.Statement.TheOpen.{Statement-F}
 use Rattle.sq_spec.specs.declared.statement.Statement.TheFolds.{ind-Statement, map-Statement, fold-roll-Statement}
 use Rattle.sq_spec.specs.declared.body.FormBody.{FormBody}
-use Rattle.sq_spec_laws.specs.TableRows.{Table, red_of, all_tables, tables_step, tables_of, tables_in}
+use Rattle.sq_homes.specs.SpecLaws.TableRows.{Table, red_of, all_tables, tables_step, tables_of, tables_in}
 use Rattle.sq_placed.specs.declared.home.Homes.{Homes}
-use Rattle.sq_term_laws.specs.Roomy.{joined_rows, reached_step, reached_in, RowFits, RowsFit}
+use Rattle.sq_program_laws.specs.TermLaws.Roomy.{joined_rows, reached_step, reached_in, RowFits, RowsFit}
 
 rows_in : List Table → List CallInstance
 rows_in [] = []

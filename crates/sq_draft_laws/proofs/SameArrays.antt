@@ -18,15 +18,15 @@ use Rattle.sq_forms.specs.Faults.{Value, and_then}
 use Rattle.sq_forms.specs.Args.{Names, block_or_fault, of_array, all_of_array, of_block, block_of, block_in, block_by}
 use Rattle.sq_forms.specs.Args.{worths, mode_of, is_reduced, argument}
 use Rattle.sq_form_laws.specs.Reached.{AreExamined}
-use Rattle.sq_work.specs.declared.reduction.Reduction.{Reduction}
+use Rattle.sq_spec.specs.Work.declared.reduction.Reduction.{Reduction}
 use Rattle.sq_spec.specs.declared.statement.CallInstance.{CallInstance}
 use Rattle.sq_spec.specs.declared.statement.Statement.{Statement, roll-Statement}
 use Rattle.sq_spec.specs.declared.statement.Statement.TheVariants as b
 use Rattle.sq_spec.specs.declared.statement.Statement.TheOpen.{Statement-F}
 use Rattle.sq_spec.specs.declared.statement.Statement.TheFolds.{ind-Statement, map-Statement}
-use Rattle.sq_spec_laws.specs.TableRows.{Table, red_of, all_tables, tables_of, tables_in}
-use Rattle.sq_term_laws.specs.Leaves.{joined_calls, by_call, TakeSame, AreSame}
-use Rattle.sq_term_laws.proofs.Chains.{by_call_call, by_call_map}
+use Rattle.sq_homes.specs.SpecLaws.TableRows.{Table, red_of, all_tables, tables_of, tables_in}
+use Rattle.sq_program_laws.specs.TermLaws.Leaves.{joined_calls, by_call, TakeSame, AreSame}
+use Rattle.sq_program_laws.proofs.TermLaws.Chains.{by_call_call, by_call_map}
 use Rattle.sq_draft_laws.proofs.Rounds.{tables_call, tables_map}
 
 -- ---- the array of an argument

@@ -15,7 +15,7 @@ use Rattle.sq_ir.specs.declared.term.Action.TheVariants as action
 use Rattle.sq_ir.specs.declared.term.Term.{Term}
 use Rattle.sq_ir.specs.declared.term.Term.TheVariants as term
 use Rattle.sq_blocks.specs.declared.argument.Argument.{Argument}
-use Rattle.sq_work.specs.declared.reduction.Reduction.{Reduction}
+use Rattle.sq_spec.specs.Work.declared.reduction.Reduction.{Reduction}
 use Rattle.sq_spec.specs.declared.statement.LoopKind.{LoopKind}
 use Rattle.sq_spec.specs.declared.statement.CallInstance.{CallInstance}
 use Rattle.sq_spec.specs.declared.statement.Statement.{Statement, roll-Statement}
@@ -25,7 +25,7 @@ use Rattle.sq_spec.specs.declared.statement.Statement.TheFolds.{ind-Statement, m
 use Rattle.sq_spec.specs.declared.body.Body.{Body}
 use Rattle.sq_spec.specs.declared.body.Body.TheVariants as body
 use Rattle.sq_spec.specs.declared.body.FormBody.{FormBody}
-use Rattle.sq_spec_laws.specs.TableRows.{Table, red_of, all_tables, tables_step, tables_of, tables_in}
+use Rattle.sq_homes.specs.SpecLaws.TableRows.{Table, red_of, all_tables, tables_step, tables_of, tables_in}
 use Rattle.sq_placed.specs.declared.home.Home.{Home}
 use Rattle.sq_placed.specs.declared.home.Home.TheVariants.{InPlace, Own, Held, Twin}
 use Rattle.sq_placed.specs.declared.home.Homes.{Homes}
@@ -49,9 +49,9 @@ use Rattle.sq_term.specs.Stands.{AreLevel, LocalsOf, AreLeveled, Each, none, mor
 use Rattle.sq_term.proofs.Opened.{built_call, built_map, calls_call, calls_map}
 use Rattle.sq_term.proofs.Chained.{chains_built}
 use Rattle.sq_term.proofs.Same.{level_left, level_right}
-use Rattle.sq_term_laws.specs.Roomy.{AreWhole, joined_rows, reached_step, reached_in, reached_of, RowFits, RowsFit}
-use Rattle.sq_term_laws.specs.Roomy.{AreRoomy}
-use Rattle.sq_plan_laws.specs.Seated.{IsNear}
+use Rattle.sq_program_laws.specs.TermLaws.Roomy.{AreWhole, joined_rows, reached_step, reached_in, reached_of, RowFits, RowsFit}
+use Rattle.sq_program_laws.specs.TermLaws.Roomy.{AreRoomy}
+use Rattle.sq_program_laws.specs.PlanLaws.Seated.{IsNear}
 use Rattle.sq_draft_laws.specs.Scope.{IsSeen, HomesAreNear}
 use Rattle.sq_draft_laws.proofs.Back.{with_both}
 use Rattle.sq_draft_laws.proofs.Every.{Every, every_append, every_left, every_right, every_by, every_all, every_map}
@@ -64,13 +64,13 @@ use Rattle.sq_draft_laws.proofs.Moves.{IsSingle, come_in_up, fill_held_up}
 use Rattle.sq_draft_laws.proofs.Sets.{plain_homes, set_single, set_near, set_level, set_held, set_there}
 use Rattle.sq_draft_laws.proofs.Lanes.{lanes_up}
 use Rattle.sq_spec.specs.declared.statement.LoopKind.TheVariants as loop_kind
-use Rattle.sq_term_laws.specs.Orders.{EachOf, Round, all_rounds, map_rounds, round_step, rounds_in, rounds_of}
-use Rattle.sq_term_laws.specs.Held.{IsHeldRow, AreHeldRows}
-use Rattle.sq_term_laws.specs.Lowers.{lower_in, same_in}
-use Rattle.sq_term_laws.specs.Overlapping.{IsSuited, AskedInMaps, each_in_maps, any_by, is_spread, can_overlap, RowOverlaps}
-use Rattle.sq_term_laws.specs.Overlapping.{overlaps_step, Overlaps, BodyOverlaps}
-use Rattle.sq_term_laws.proofs.Piped.{pipe_none}
-use Rattle.sq_term_laws.proofs.Overlaps.{overlaps_call, overlaps_map, spread_as}
+use Rattle.sq_program_laws.specs.TermLaws.Orders.{EachOf, Round, all_rounds, map_rounds, round_step, rounds_in, rounds_of}
+use Rattle.sq_program_laws.specs.TermLaws.Held.{IsHeldRow, AreHeldRows}
+use Rattle.sq_program_laws.specs.TermLaws.Lowers.{lower_in, same_in}
+use Rattle.sq_program_laws.specs.TermLaws.Overlapping.{IsSuited, AskedInMaps, each_in_maps, any_by, is_spread, can_overlap, RowOverlaps}
+use Rattle.sq_program_laws.specs.TermLaws.Overlapping.{overlaps_step, Overlaps, BodyOverlaps}
+use Rattle.sq_program_laws.proofs.TermLaws.Piped.{pipe_none}
+use Rattle.sq_program_laws.proofs.TermLaws.Overlaps.{overlaps_call, overlaps_map, spread_as}
 use Rattle.sq_draft_laws.proofs.Holding.{Leaves, left_leave, left_there, held_here}
 
 -- ---- lists

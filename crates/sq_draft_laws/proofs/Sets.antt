@@ -8,9 +8,9 @@ use Rattle.sq_placed.specs.declared.home.Home.TheVariants.{InPlace, Own, Held, T
 use Rattle.sq_placed.specs.Trees.{buffer_of, home_in_set, twin_of}
 use Rattle.sq_term.specs.Terms.{buffers_from, set_buffers_from}
 use Rattle.sq_term.specs.Stands.{IsOf}
-use Rattle.sq_plan_laws.specs.Seated.{IsNear}
-use Rattle.sq_term_laws.specs.Orders.{EachOf}
-use Rattle.sq_term_laws.specs.Overlapping.{IsSuited}
+use Rattle.sq_program_laws.specs.PlanLaws.Seated.{IsNear}
+use Rattle.sq_program_laws.specs.TermLaws.Orders.{EachOf}
+use Rattle.sq_program_laws.specs.TermLaws.Overlapping.{IsSuited}
 use Rattle.sq_draft_laws.proofs.Every.{Among, among_left, among_right}
 use Rattle.sq_draft_laws.proofs.Moves.{IsSingle}
 

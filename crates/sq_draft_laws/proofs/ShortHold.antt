@@ -44,9 +44,9 @@ use Rattle.sq_spec.specs.declared.resolved.Resolved.{Resolved}
 use Rattle.sq_spec.specs.declared.statement.CallInstance.{CallInstance}
 use Rattle.sq_spec.specs.Bodies.{no_body, found_body, what_runs}
 use Rattle.sq_spec.specs.Statements.{number_or, tables, elems_of}
-use Rattle.sq_spec_laws.proofs.Sorted.{both, three, four}
-use Rattle.sq_spec_laws.proofs.TableRowsHold.{rows_are_reached}
-use Rattle.sq_plan_laws.specs.LeafLaws.{event_shape}
+use Rattle.sq_homes.proofs.SpecLaws.Sorted.{both, three, four}
+use Rattle.sq_homes.proofs.SpecLaws.TableRowsHold.{rows_are_reached}
+use Rattle.sq_program_laws.specs.PlanLaws.LeafLaws.{event_shape}
 use Rattle.sq_term.specs.Terms.{body_in}
 use Rattle.sq_homes.specs.Drafts as drafts
 use Rattle.sq_draft_laws.specs.Paths.{Nested, nested_of, PathsFit, LeavesAreSmall}

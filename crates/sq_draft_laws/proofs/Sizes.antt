@@ -10,10 +10,10 @@ use Rattle.sq_rect.specs.Extents.{product, rows_of}
 use Rattle.sq_leaf.specs.declared.shape.Shape.{Shape}
 use Rattle.sq_forms.specs.Decls.{most_elements}
 use Rattle.sq_ir.proofs.Counting.{small}
-use Rattle.sq_plan_laws.specs.Seated.{HasDims}
-use Rattle.sq_spec_laws.specs.Needs.{rounded, size_of}
-use Rattle.sq_term_laws.specs.Fits.{HaveRows}
-use Rattle.sq_term_laws.specs.Roomy.{IsWhole, IsShaped, AreDims, AreWhole}
+use Rattle.sq_program_laws.specs.PlanLaws.Seated.{HasDims}
+use Rattle.sq_homes.specs.SpecLaws.Needs.{rounded, size_of}
+use Rattle.sq_program_laws.specs.TermLaws.Fits.{HaveRows}
+use Rattle.sq_program_laws.specs.TermLaws.Roomy.{IsWhole, IsShaped, AreDims, AreWhole}
 use Rattle.sq_program_laws.specs.Sizes.{IsSized}
 
 pub elements_small : (n : ℕ) → n ≤ most_elements → n ≤ 67108864

@@ -12,8 +12,8 @@ use Rattle.sq_placed.specs.declared.home.Home.{Home}
 use Rattle.sq_placed.specs.declared.home.Home.TheVariants.{InPlace, Own, Held, Twin}
 use Rattle.sq_placed.specs.declared.home.Homes.{Homes}
 use Rattle.sq_term.specs.Terms.{homes_in}
-use Rattle.sq_term_laws.specs.Fits.{TabledBody, IsThere, AreThere, LocalsThere, HaveRows}
-use Rattle.sq_term_laws.proofs.Programs.{programs_are_tabled}
+use Rattle.sq_program_laws.specs.TermLaws.Fits.{TabledBody, IsThere, AreThere, LocalsThere, HaveRows}
+use Rattle.sq_program_laws.proofs.TermLaws.Programs.{programs_are_tabled}
 use Rattle.sq_homes.specs.declared.choice.Choice.{Choice}
 use Rattle.sq_homes.specs.Drafts.{bodies_of, homes_of, buffers_of, buffer_at, choice_in}
 use Rattle.sq_homes.specs.Numbering.{standing, home_of, local_base, locals_count, IsHomeIn, IsNumberIn}

@@ -19,7 +19,7 @@ use Rattle.sq_blocks.specs.Constants.{Bad, Worth, Turn, then_by, turns, unary, b
 use Rattle.sq_blocks.proofs.Opened.{turn_out, worth_number, worth_name, worth_element, worth_unary, worth_chain}
 use Rattle.sq_blocks.proofs.Opened.{worth_least, worth_most}
 use Rattle.sq_form_laws.proofs.Shapes.{KeptIn}
-use Rattle.sq_spec_laws.proofs.Sorted.{both}
+use Rattle.sq_homes.proofs.SpecLaws.Sorted.{both}
 
 -- each name that is known as a number stands for one, and none is known as a list
 pub record Tells (known : Known) (numbers : Numbers) : Type 0 where

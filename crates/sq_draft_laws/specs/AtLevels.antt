@@ -10,8 +10,8 @@ use Rattle.sq_ir.specs.Written.{Setting, at_root, scoped, written}
 use Rattle.sq_placed.specs.declared.home.Homes.{Homes}
 use Rattle.sq_term.specs.Terms.{entry_term, entry_row, buffer_or}
 use Rattle.sq_term.specs.Stands.{AreLeveled}
-use Rattle.sq_term_laws.specs.Fits.{Bounds, AreBounds, IsMachine, AreTabled, NodeAt}
-use Rattle.sq_term_laws.specs.Roomy.{RowFits, AreRoomy}
+use Rattle.sq_program_laws.specs.TermLaws.Fits.{Bounds, AreBounds, IsMachine, AreTabled, NodeAt}
+use Rattle.sq_program_laws.specs.TermLaws.Roomy.{RowFits, AreRoomy}
 use Rattle.sq_draft_laws.specs.Scope.{HomesAreNear}
 
 -- a form that is a leaf, with the number of its code and at a node of its level

@@ -11,8 +11,8 @@ use Rattle.sq_spec.specs.declared.resolved.Resolved.{Resolved}
 use Rattle.sq_spec.specs.Walked.{IsWalked}
 use Rattle.sq_placed.specs.Pipes.{NonePiped, PipesStand}
 use Rattle.sq_term.specs.Terms.{body_in, homes_in}
-use Rattle.sq_term_laws.specs.Leaves.{Left, left_of, BodyLeaves}
-use Rattle.sq_term_laws.specs.Overlapping.{BodyOverlaps, OverlapsStand}
+use Rattle.sq_program_laws.specs.TermLaws.Leaves.{Left, left_of, BodyLeaves}
+use Rattle.sq_program_laws.specs.TermLaws.Overlapping.{BodyOverlaps, OverlapsStand}
 use Rattle.sq_homes.specs.declared.choice.Choice.{Choice}
 use Rattle.sq_homes.specs.Numbering.{left_by}
 use Rattle.sq_homes.specs.Drafts.{bodies_of, homes_of, buffers_of, choice_in}

@@ -5,8 +5,8 @@ use Rattle.sq_ir.specs.declared.plan.PlanNode.{PlanNode}
 use Rattle.sq_ir.specs.Written.{Setting}
 use Rattle.sq_spec.specs.declared.resolved.Resolved.{Resolved}
 use Rattle.sq_term.specs.Terms.{body_in, homes_in, entry_row}
-use Rattle.sq_term_laws.specs.Fits.{Bounds, AreTabled}
-use Rattle.sq_term_laws.specs.Roomy.{AreRoomy, EntryFits, RowFits}
+use Rattle.sq_program_laws.specs.TermLaws.Fits.{Bounds, AreTabled}
+use Rattle.sq_program_laws.specs.TermLaws.Roomy.{AreRoomy, EntryFits, RowFits}
 use Rattle.sq_homes.specs.declared.choice.Choice.{Choice}
 use Rattle.sq_homes.specs.Drafts.{bodies_of, homes_of, args_of}
 use Rattle.sq_draft_laws.specs.Given.{level_at}

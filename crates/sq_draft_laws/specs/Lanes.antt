@@ -6,8 +6,8 @@ use Rattle.sq_ir.specs.Plans.{node_at, placed}
 use Rattle.sq_ir.specs.declared.plan.Buffer.{Buffer}
 use Rattle.sq_ir.specs.declared.plan.PlanNode.{PlanNode}
 use Rattle.sq_spec.specs.declared.resolved.Resolved.{Resolved}
-use Rattle.sq_term_laws.specs.Fits.{AreBounds, IsMachine, NodeAt}
-use Rattle.sq_plan_laws.specs.Buffers.{HaveLanes}
+use Rattle.sq_program_laws.specs.TermLaws.Fits.{AreBounds, IsMachine, NodeAt}
+use Rattle.sq_program_laws.specs.PlanLaws.Buffers.{HaveLanes}
 use Rattle.sq_homes.specs.declared.choice.Choice.{Choice}
 use Rattle.sq_draft_laws.specs.Choosing.{Walked, MayBeChosen, AreMemories, setting_of}
 use Rattle.sq_draft_laws.specs.Drafts.{limits}

@@ -15,12 +15,12 @@ use Rattle.sq_cells.specs.Tree.{Cause}
 use Rattle.sq_cells.specs.Alike.{MayRun}
 use Rattle.sq_term.specs.Terms.{entry_term, entry_row, buffer_or}
 use Rattle.sq_term.specs.Stands.{AreLeveled}
-use Rattle.sq_term_laws.specs.Fits.{Bounds, AreBounds, IsMachine, TabledBody, AreTabled, NodeAt}
-use Rattle.sq_term_laws.specs.Roomy.{RowFits, AreRoomy, EntryFits}
-use Rattle.sq_plan_laws.specs.Entry.{plan_tree, IsPlan}
-use Rattle.sq_plan_laws.specs.Room.{IsRoomy}
-use Rattle.sq_term_laws.specs.Held.{AreHeldInside}
-use Rattle.sq_term_laws.specs.Overlapping.{OverlapsStand}
+use Rattle.sq_program_laws.specs.TermLaws.Fits.{Bounds, AreBounds, IsMachine, TabledBody, AreTabled, NodeAt}
+use Rattle.sq_program_laws.specs.TermLaws.Roomy.{RowFits, AreRoomy, EntryFits}
+use Rattle.sq_program_laws.specs.PlanLaws.Entry.{plan_tree, IsPlan}
+use Rattle.sq_program_laws.specs.PlanLaws.Room.{IsRoomy}
+use Rattle.sq_program_laws.specs.TermLaws.Held.{AreHeldInside}
+use Rattle.sq_program_laws.specs.TermLaws.Overlapping.{OverlapsStand}
 use Rattle.sq_program_laws.specs.Rows.{FormsFit}
 use Rattle.sq_program_laws.specs.Entry.{entry_shapes}
 use Rattle.sq_draft_laws.specs.Scope.{InScope, HomesAreNear}

@@ -16,3 +16,8 @@ pub mod Scope
 pub mod Paths
 pub mod Laws
 pub mod AtLevels
+-- Definitions of crates below, passed on.
+pub use Rattle.sq_program_laws.specs.PlanLaws
+pub use Rattle.sq_program_laws.specs as ProgramLaws
+pub use Rattle.sq_term.specs as Term
+pub use Rattle.sq_program_laws.specs.TermLaws

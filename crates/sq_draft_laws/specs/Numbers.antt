@@ -2,7 +2,7 @@
 use Rattle.std.specs.Prelude.{List}
 use Rattle.sq_spec.specs.declared.resolved.Resolved.{Resolved}
 use Rattle.sq_term.specs.Terms.{body_in, homes_in}
-use Rattle.sq_term_laws.specs.Callers.{Numbering, AreNumbered}
+use Rattle.sq_program_laws.specs.TermLaws.Callers.{Numbering, AreNumbered}
 use Rattle.sq_homes.specs.declared.choice.Choice.{Choice}
 use Rattle.sq_homes.specs.Drafts.{bodies_of, homes_of, buffers_of}
 use Rattle.sq_draft_laws.specs.Choosing.{Walked, MayBeChosen}

@@ -6,8 +6,8 @@ use Rattle.sq_spec.specs.declared.resolved.Resolved.{Resolved}
 use Rattle.sq_placed.specs.Placed.{Placed}
 use Rattle.sq_placed.specs.Tables.{entry_placed}
 use Rattle.sq_term.specs.Terms.{body_in, homes_in}
-use Rattle.sq_plan_laws.specs.Buffers.{Owns}
-use Rattle.sq_plan_laws.specs.Rooms.{EntryOwns}
+use Rattle.sq_program_laws.specs.PlanLaws.Buffers.{Owns}
+use Rattle.sq_program_laws.specs.PlanLaws.Rooms.{EntryOwns}
 use Rattle.sq_program_laws.specs.Entry.{entry_shapes}
 use Rattle.sq_homes.specs.declared.choice.Choice.{Choice}
 use Rattle.sq_homes.specs.Drafts.{bodies_of, homes_of, args_of, entry_of}

@@ -7,7 +7,7 @@ use Rattle.sq_term.specs.Terms.{body_in, homes_in}
 use Rattle.sq_nests.specs.Nests.{named_in}
 use Rattle.sq_nests.specs.Stacks.{of_level, HaveBefore}
 use Rattle.sq_nests.specs.Drafts.{whole, IsPlaceable}
-use Rattle.sq_term_laws.specs.Callers.{before}
+use Rattle.sq_program_laws.specs.TermLaws.Callers.{before}
 use Rattle.sq_homes.specs.declared.choice.Choice.{Choice}
 use Rattle.sq_homes.specs.Drafts.{bodies_of, homes_of, IsDraftOf}
 use Rattle.sq_draft_laws.specs.Choosing.{Walked, MayBeChosen, AreMemories}

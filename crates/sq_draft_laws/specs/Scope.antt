@@ -9,13 +9,13 @@ use Rattle.sq_spec.specs.declared.statement.CallInstance.{CallInstance}
 use Rattle.sq_spec.specs.declared.statement.Statement.{Statement}
 use Rattle.sq_spec.specs.declared.body.Body.TheVariants as body
 use Rattle.sq_spec.specs.declared.body.FormBody.{FormBody}
-use Rattle.sq_spec_laws.specs.TableRows.{Table, tables_in}
+use Rattle.sq_homes.specs.SpecLaws.TableRows.{Table, tables_in}
 use Rattle.sq_placed.specs.declared.home.Home.TheVariants.{InPlace}
 use Rattle.sq_placed.specs.Pipes.{PipesStand}
 use Rattle.sq_placed.specs.declared.home.Homes.{Homes}
-use Rattle.sq_plan_laws.specs.Seated.{IsNear}
-use Rattle.sq_term_laws.specs.Held.{AreHeldInside}
-use Rattle.sq_term_laws.specs.Overlapping.{OverlapsStand}
+use Rattle.sq_program_laws.specs.PlanLaws.Seated.{IsNear}
+use Rattle.sq_program_laws.specs.TermLaws.Held.{AreHeldInside}
+use Rattle.sq_program_laws.specs.TermLaws.Overlapping.{OverlapsStand}
 
 -- the view's buffer is in scope, and of the level of the node in force
 pub record IsSeen (s : Setting) (env : Env) (buffers : List ℕ) (v : LeafView) : Type 0 where

@@ -16,6 +16,9 @@ ghost use Rattle.sq_draft_laws.specs.Placeable.{DraftsArePlaceable, DraftsAreSta
 
 pub mod laws;
 
+pub use sq_program_laws;
+pub use sq_program_laws::sq_plan_laws;
+
 /// Each form has a home for each of its parameters, in place only where it was found so, and a buffer for each local.
 pub fn homes_fit_forms()
     ensures { HomesFitForms }

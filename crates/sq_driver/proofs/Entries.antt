@@ -11,7 +11,7 @@ use Rattle.sq_mapfile.specs.declared.mapping.SizeSet.{SizeSet}
 use Rattle.sq_spec.specs.Entry.{IsEntry}
 use Rattle.sq_text.specs.declared.fault.Fault.{Fault}
 use Rattle.sq_forms.specs.Faults.{Value, and_then}
-use Rattle.sq_form_laws.specs.Reached.{AsManyForms}
+use Rattle.sq_spec.specs.FormLaws.Reached.{AsManyForms}
 use Rattle.sq_forms.specs.Resolving.{Resolving, resolution, param_dims, entry_extents, before}
 use Rattle.sq_forms.specs.Decls.{most_extent, most_elements, dims_from, dims_of}
 use Rattle.sq_spec.specs.declared.resolved.Resolved.{Resolved}

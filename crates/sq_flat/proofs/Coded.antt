@@ -8,18 +8,18 @@ use Rattle.std.proofs.Math.Path.{fun_ext}
 use Rattle.std.specs.Coded.{coded_list, coded_ℕ}
 use base.Stored.{Coded-set}
 use Rattle.sq_ast.specs.declared.program.Variant.{Variant}
-use Rattle.sq_mapfile.specs.declared.mapping.Instance.{Instance}
-use Rattle.sq_mapfile.specs.declared.mapping.Mapping.{Mapping}
+use Rattle.sq_spec.specs.Mapfile.declared.mapping.Instance.{Instance}
+use Rattle.sq_spec.specs.Mapfile.declared.mapping.Mapping.{Mapping}
 use Rattle.sq_leaf.specs.Source.{Arrays}
 use Rattle.sq_spec.specs.declared.statement.CallInstance.{CallInstance}
 use Rattle.sq_spec.specs.declared.body.FormBody.{FormBody}
-use Rattle.sq_forms.specs.declared.form.Found.{Found}
-use Rattle.sq_forms.specs.Steps.{Forms, Key}
+use Rattle.sq_spec.specs.Forms.declared.form.Found.{Found}
+use Rattle.sq_spec.specs.Forms.Steps.{Forms, Key}
 use Rattle.sq_spec.specs.Bodies.{body_of, found_body, numbered_work}
 use Rattle.sq_spec.specs.Numbered.{called_entry, entry_call, TablesMeanProgram}
-use Rattle.sq_form_laws.specs.Reached.{AsManyForms, FormsAreFound}
+use Rattle.sq_spec.specs.FormLaws.Reached.{AsManyForms, FormsAreFound}
 use Rattle.sq_spec.specs.Walked.{IsWalked}
-use Rattle.sq_forms.specs.declared.form.Form.{Form}
+use Rattle.sq_spec.specs.Forms.declared.form.Form.{Form}
 use Rattle.sq_spec.specs.declared.resolved.Resolved.{Resolved}
 use Rattle.sq_spec.specs.Works.{entry_arguments, flat, whole, work_of}
 use Rattle.sq_blocks.specs.Spans.{with_front, wholes}

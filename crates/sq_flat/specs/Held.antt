@@ -5,15 +5,15 @@ use Rattle.sq_rect.specs.declared.view.View.{View}
 use Rattle.sq_rect.specs.Placing.{IsIn}
 use Rattle.sq_ast.specs.declared.program.Param.{Param}
 use Rattle.sq_ast.specs.declared.program.Variant.{Variant}
-use Rattle.sq_mapfile.specs.declared.mapping.Mapping.{Mapping}
+use Rattle.sq_spec.specs.Mapfile.declared.mapping.Mapping.{Mapping}
 use Rattle.sq_leaf.specs.declared.shape.Shape.{Shape}
 use Rattle.sq_leaf.specs.Source.{Arrays}
 use Rattle.sq_leaf.specs.Spots.{put_at}
 use Rattle.sq_leaf.specs.Views.{shape_of}
 use Rattle.sq_blocks.specs.declared.argument.Argument.{Argument}
-use Rattle.sq_forms.specs.declared.form.Found.{Found}
-use Rattle.sq_forms.specs.Steps.{Forms, Key}
-use Rattle.sq_forms.specs.Resolving.{entry_params}
+use Rattle.sq_spec.specs.Forms.declared.form.Found.{Found}
+use Rattle.sq_spec.specs.Forms.Steps.{Forms, Key}
+use Rattle.sq_spec.specs.Forms.Resolving.{entry_params}
 use Rattle.sq_spec.specs.Works.{param_shapes, entry_arguments}
 use Rattle.sq_flat.specs.Blocks.{element}
 use Rattle.sq_flat.specs.Memory.{size_of, total, zeros}

@@ -1,7 +1,7 @@
 -- The work of forms by their codes, and what it is to follow its meaning.
 use Rattle.std.specs.Prelude.{◌≡◌, ℕ, List, map, length, slice_get, Option, Some, None, Result, Ok, Err, reverse}
 use Rattle.sq_ast.specs.declared.program.Variant.{Variant}
-use Rattle.sq_mapfile.specs.declared.mapping.Instance.{Instance}
+use Rattle.sq_spec.specs.Mapfile.declared.mapping.Instance.{Instance}
 use Rattle.sq_rect.specs.declared.view.View.{View}
 use Rattle.sq_leaf.specs.Source.{Arrays}
 use Rattle.sq_leaf.specs.Views.{Shows, shape_of}
@@ -9,7 +9,7 @@ use Rattle.sq_spec.specs.declared.statement.Statement.{Statement}
 use Rattle.sq_spec.specs.declared.statement.LoopKind.{LoopKind}
 use Rattle.sq_spec.specs.declared.statement.LoopKind.TheVariants as loop_kind
 use Rattle.sq_spec.specs.declared.body.FormBody.{FormBody}
-use Rattle.sq_forms.specs.Steps.{Forms}
+use Rattle.sq_spec.specs.Forms.Steps.{Forms}
 use Rattle.sq_spec.specs.StatementsWork.{all_work, statement_work}
 use Rattle.sq_spec.specs.Bodies.{no_body, body_of, numbered_work}
 use Rattle.sq_work.specs.InTurn.{gathering}

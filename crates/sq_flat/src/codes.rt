@@ -5,10 +5,10 @@ ghost use Rattle.sq_flat.specs.Memory as memory;
 ghost use Rattle.sq_flat.specs.Works as spec;
 
 use crate::form::FormCode;
-use sq_form_laws::laws::forms_are_those_found;
 use sq_leaf::Shape;
 use sq_num::width;
 use sq_rect::{View, Views};
+use sq_spec::sq_form_laws::laws::forms_are_those_found;
 use sq_spec::{FormBody, Resolved};
 use sqlite_items::Items;
 use std::alloc::{AllocError, Global};

@@ -6,9 +6,9 @@ ghost use Rattle.sq_flat.specs.Held as spec;
 
 use sq_ast::Param;
 use sq_blocks::{Argument, whole};
-use sq_form_laws::laws::forms_are_those_found;
 use sq_leaf::Shape;
 use sq_rect::Dims;
+use sq_spec::sq_form_laws::laws::forms_are_those_found;
 use sq_spec::{CallInstance, Resolved};
 use sqlite_items::{Items, at};
 use std::alloc::{AllocError, Global};

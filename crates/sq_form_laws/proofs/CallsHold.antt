@@ -4,8 +4,8 @@ use Rattle.std.specs.Prelude.{slice_get, ◌==◌, not, ◌&&◌, ◌||◌}
 use Rattle.std.specs.List.{list_any}
 use Rattle.std.proofs.lemmas.Bool.Decides.{nat_tests}
 use Rattle.sq_text.specs.declared.place.Span.{Span}
-use Rattle.sq_rect.specs.Blocks.{Covers, overlaps}
-use Rattle.sq_rect.proofs.Coordinates.{of_share}
+use Rattle.sq_blocks.specs.Rect.Blocks.{Covers, overlaps}
+use Rattle.sq_blocks.proofs.Rect.Coordinates.{of_share}
 use Rattle.sq_blocks.specs.declared.argument.Argument.{Argument}
 use Rattle.sq_forms.specs.Calls.{shares, meets, clashes, alias_from, is_apart, flags_from}
 use Rattle.sq_ast.specs.Modes.{is_written}

@@ -3,9 +3,9 @@ use Rattle.std.proofs.Common.{◌≡◌, ℕ, zero, suc, ◌+◌, ◌<◌, Bool,
 use Rattle.std.specs.Prelude.{slice_get, ◌==◌, not, ◌&&◌, ◌||◌, if◌then◌else◌}
 use Rattle.std.specs.List.{list_any}
 use Rattle.std.proofs.lemmas.Bool.Decides.{nat_tests}
-use Rattle.sq_rect.specs.Blocks.{overlaps}
-use Rattle.sq_rect.specs.Spans.{AreProper}
-use Rattle.sq_rect.proofs.Coordinates.{shares as share_by}
+use Rattle.sq_blocks.specs.Rect.Blocks.{overlaps}
+use Rattle.sq_blocks.specs.Rect.Spans.{AreProper}
+use Rattle.sq_blocks.proofs.Rect.Coordinates.{shares as share_by}
 use Rattle.sq_blocks.specs.declared.argument.Argument.{Argument}
 use Rattle.sq_forms.specs.Calls.{shares, meets, clashes, alias_from, is_apart, flags, flags_from}
 use Rattle.sq_ast.specs.Modes.{is_written}

@@ -20,18 +20,18 @@ use Rattle.sq_ast.specs.declared.program.Param.{Param}
 use Rattle.sq_ast.specs.declared.program.VariantKind.{VariantKind}
 use Rattle.sq_ast.specs.declared.program.Variant.{Variant}
 use Rattle.sq_ast.specs.declared.program.Program.{Program}
-use Rattle.sq_machfile.specs.declared.level.Level.{Level}
-use Rattle.sq_mapfile.specs.declared.mapping.Instance.{Instance}
-use Rattle.sq_mapfile.specs.declared.mapping.SizeSet.{SizeSet}
-use Rattle.sq_mapfile.specs.declared.mapping.Mapping.{Mapping}
-use Rattle.sq_mapfile.specs.Sound.{Sound}
-use Rattle.sq_mapfile.proofs.Once.{same}
-use Rattle.sq_types.specs.Known.{Known}
-use Rattle.sq_types.specs.Sites.{params_of as params_of_task, params_known, decls_known, ranges_known, is_seen, key_of, with_seen, VariantKey}
-use Rattle.sq_types.specs.Table.{count_of}
-use Rattle.sq_types.specs.Sound as typed
-use Rattle.sq_types.proofs.SoundStmts.{tested_call, tested_map}
-use Rattle.sq_types.proofs.OpenedStmt.{map_map}
+use Rattle.sq_forms.specs.Machfile.declared.level.Level.{Level}
+use Rattle.sq_forms.specs.Mapfile.declared.mapping.Instance.{Instance}
+use Rattle.sq_forms.specs.Mapfile.declared.mapping.SizeSet.{SizeSet}
+use Rattle.sq_forms.specs.Mapfile.declared.mapping.Mapping.{Mapping}
+use Rattle.sq_forms.specs.Mapfile.Sound.{Sound}
+use Rattle.sq_forms.proofs.Mapfile.Once.{same}
+use Rattle.sq_forms.specs.Types.Known.{Known}
+use Rattle.sq_forms.specs.Types.Sites.{params_of as params_of_task, params_known, decls_known, ranges_known, is_seen, key_of, with_seen, VariantKey}
+use Rattle.sq_forms.specs.Types.Table.{count_of}
+use Rattle.sq_forms.specs.Types.Sound as typed
+use Rattle.sq_forms.proofs.Types.SoundStmts.{tested_call, tested_map}
+use Rattle.sq_forms.proofs.Types.OpenedStmt.{map_map}
 use Rattle.sq_blocks.specs.declared.argument.Argument.{Argument}
 use Rattle.sq_forms.specs.declared.form.Found.{Found}
 use Rattle.sq_forms.specs.Faults.{Value, and_then}

@@ -10,13 +10,13 @@ use Rattle.sq_text.specs.declared.code.Code.TheVariants as code
 use Rattle.sq_text.specs.declared.place.Place.{Place}
 use Rattle.sq_text.specs.declared.place.Span.{Span}
 use Rattle.sq_text.specs.Names.{Bytes, same_name}
-use Rattle.sq_num.specs.declared.Elem.{Elem}
+use Rattle.sq_ast.specs.Num.declared.Elem.{Elem}
 use Rattle.sq_ast.specs.declared.expr.Expr.{Expr}
 use Rattle.sq_ast.specs.declared.expr.ArgUse.{ArgUse, out-ArgUse}
 use Rattle.sq_ast.specs.declared.program.Decl.{Decl}
 use Rattle.sq_ast.specs.declared.program.Decl.TheVariants as decl
 use Rattle.sq_ast.specs.declared.program.Param.{Param}
-use Rattle.sq_mapfile.specs.declared.mapping.Tuning.{Tuning}
+use Rattle.sq_forms.specs.Mapfile.declared.mapping.Tuning.{Tuning}
 use Rattle.sq_blocks.specs.Names.{Numbers, Lists, list_of, with_number, with_list}
 use Rattle.sq_blocks.specs.Spans as spans
 use Rattle.sq_blocks.specs.Blocks as blocks

@@ -15,3 +15,5 @@ pub mod InsideHold
 pub mod ServedHold
 pub mod FitHold
 pub mod AnswerHold
+-- Lemmas of crates below, passed on.
+pub use Rattle.sq_forms.proofs as Forms

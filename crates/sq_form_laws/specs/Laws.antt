@@ -1,8 +1,8 @@
 -- What follows from the definitions of the walk.
 use Rattle.std.specs.Prelude.{◌≡◌, ◌↔◌, ℕ, pos, ◌+◌, ◌<◌, ◌≤◌, Bool, true, false, length, slice_get, List, [], ◌∷◌, ◌++◌, Option, Some, None, Ok, Err}
 use Rattle.sq_text.specs.declared.fault.Fault.{Fault}
-use Rattle.sq_rect.specs.Blocks.{Share}
-use Rattle.sq_rect.specs.Spans.{AreProper}
+use Rattle.sq_blocks.specs.Rect.Blocks.{Share}
+use Rattle.sq_blocks.specs.Rect.Spans.{AreProper}
 use Rattle.sq_text.specs.Names.{Bytes}
 use Rattle.sq_ast.specs.declared.program.Extent.{Extent}
 use Rattle.sq_ast.specs.declared.program.Extent.TheVariants as extent
@@ -11,8 +11,8 @@ use Rattle.sq_text.specs.declared.place.Place.{Place}
 use Rattle.sq_text.specs.declared.code.Code.TheVariants as code
 use Rattle.sq_forms.specs.Faults.{fault_at}
 use Rattle.sq_ast.specs.declared.program.Variant.{Variant}
-use Rattle.sq_mapfile.specs.declared.mapping.Instance.{Instance}
-use Rattle.sq_mapfile.specs.declared.mapping.Mapping.{Mapping}
+use Rattle.sq_forms.specs.Mapfile.declared.mapping.Instance.{Instance}
+use Rattle.sq_forms.specs.Mapfile.declared.mapping.Mapping.{Mapping}
 use Rattle.sq_forms.specs.declared.form.Caller.{Caller}
 use Rattle.sq_forms.specs.declared.form.Found.{Found}
 use Rattle.sq_forms.specs.Resolving.{Outcome, Resolving, with_locals, walk_of, resolution}

@@ -4,11 +4,11 @@ use Rattle.std.specs.Prelude.{◌≡◌, ◌⊎◌, ℕ, suc, true, List, length
 use Rattle.sq_ast.specs.declared.stmt.Call.{Call}
 use Rattle.sq_ast.specs.declared.program.Program.{Program}
 use Rattle.sq_ast.specs.declared.program.Variant.{Variant}
-use Rattle.sq_machfile.specs.declared.level.Level.{Level}
-use Rattle.sq_mapfile.specs.declared.mapping.Instance.{Instance}
-use Rattle.sq_mapfile.specs.declared.mapping.Mapping.{Mapping}
-use Rattle.sq_mapfile.specs.Sound.{Sound}
-use Rattle.sq_types.specs.Sound.{is_sound}
+use Rattle.sq_forms.specs.Machfile.declared.level.Level.{Level}
+use Rattle.sq_forms.specs.Mapfile.declared.mapping.Instance.{Instance}
+use Rattle.sq_forms.specs.Mapfile.declared.mapping.Mapping.{Mapping}
+use Rattle.sq_forms.specs.Mapfile.Sound.{Sound}
+use Rattle.sq_forms.specs.Types.Sound.{is_sound}
 use Rattle.sq_forms.specs.declared.form.Found.{Found}
 use Rattle.sq_forms.specs.Steps.{Key}
 use Rattle.sq_forms.specs.Tables.{variant_of}

@@ -2,3 +2,7 @@
 #![tactic(auto)]
 
 pub mod laws;
+
+pub use sq_blocks;
+pub use sq_forms;
+pub use sq_forms::{sq_machfile, sq_mapfile};

@@ -7,3 +7,6 @@ pub mod Statements
 pub mod Scopes
 pub mod AllForms
 pub mod Tallies
+-- Lemmas of crates below, passed on.
+pub use Rattle.sq_mapfile.proofs as Mapfile
+pub use Rattle.sq_mapfile.proofs.Types

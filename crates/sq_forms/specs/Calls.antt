@@ -15,7 +15,7 @@ use Rattle.sq_ast.specs.declared.program.Extent.TheVariants as extent
 use Rattle.sq_ast.specs.declared.program.Param.{Param}
 use Rattle.sq_text.specs.Names.{Bytes, same_name}
 use Rattle.sq_blocks.specs.Names.{Numbers, with_number}
-use Rattle.sq_rect.specs.Blocks.{overlaps}
+use Rattle.sq_blocks.specs.Rect.Blocks.{overlaps}
 use Rattle.sq_blocks.specs.declared.argument.Argument.{Argument}
 use Rattle.sq_ast.specs.Modes.{is_written}
 use Rattle.sq_blocks.specs.Arguments.{lengths}

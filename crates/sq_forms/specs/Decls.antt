@@ -4,7 +4,7 @@ use Rattle.std.specs.Option.{option_and_then}
 use Rattle.std.specs.Map.{lookup}
 use Rattle.sq_text.specs.declared.place.Place.{Place}
 use Rattle.sq_text.specs.declared.code.Code.TheVariants as code
-use Rattle.sq_num.specs.declared.Elem.{Elem}
+use Rattle.sq_ast.specs.Num.declared.Elem.{Elem}
 use Rattle.sq_ast.specs.declared.program.Decl.{Decl}
 use Rattle.sq_ast.specs.declared.program.Decl.TheVariants as decl
 use Rattle.sq_ast.specs.declared.program.Param.{Param}

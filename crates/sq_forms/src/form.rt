@@ -8,8 +8,8 @@ ghost use Rattle.std.specs.Cmp.Rules.{hashing};
 ghost use Rattle.std.proofs.Common.{rules};
 
 use sq_ast::Mode;
-use sq_num::Elem;
-use sq_rect::{Dims, Rect};
+use sq_ast::sq_num::Elem;
+use sq_blocks::sq_rect::{Dims, Rect};
 use sqlite_items::Items;
 use std::hash::{Hash, Hasher};
 use std::marker::Model;

@@ -3,7 +3,7 @@ use Rattle.std.proofs.Common.{◌≡◌, ℕ, suc, ◌==◌, nat_eq, Bool, true,
 use Rattle.std.proofs.Common.{is_some, Bor, refl, sym, ap, ap₂, ◌∙◌, arith, if◌then◌else◌}
 use Rattle.std.proofs.lemmas.Bool.Decides.{nat_tests}
 use Rattle.std.specs.Option.{option_copied}
-use Rattle.sq_forms.specs.declared.form.Form.{Form}
+use Rattle.sq_spec.specs.Forms.declared.form.Form.{Form}
 use Rattle.sq_homes.specs.declared.choice.Choice.{Choice}
 use Rattle.sq_hoist.specs.declared.sites.Site.{Site}
 use Rattle.sq_hoist.specs.Choices.{find_leaves, choice_of, choices_from, or_else, AreLeaves}

@@ -5,3 +5,5 @@ pub mod Walks
 pub mod Chosen
 mod ExampleLoops
 mod ExampleProduct
+-- Lemmas of crates below, passed on.
+pub use Rattle.sq_homes.proofs.Tables

@@ -1,7 +1,7 @@
 -- What hoisting chooses: the arguments that a form has in place stay there, as without hoisting; and each argument of
 -- a call in plain loops leaves those that it may leave. No loop overlaps its transfers.
 use Rattle.std.specs.Prelude.{◌≡◌, ℕ, suc, ◌==◌, false, List, [], ◌∷◌, ◌++◌, Option, Some, None, if◌then◌else◌}
-use Rattle.sq_forms.specs.declared.form.Form.{Form}
+use Rattle.sq_spec.specs.Forms.declared.form.Form.{Form}
 use Rattle.sq_spec.specs.declared.body.Body.{Body}
 use Rattle.sq_spec.specs.declared.body.Body.TheVariants as body
 use Rattle.sq_spec.specs.declared.body.FormBody.{FormBody}

@@ -17,7 +17,7 @@ use Rattle.std.specs.List.{list_all}
 use Rattle.sq_text.specs.declared.place.Place.{Place}
 use Rattle.sq_text.specs.declared.place.Span.{Span}
 use Rattle.sq_blocks.specs.declared.argument.Argument.{Argument}
-use Rattle.sq_forms.specs.Calls.{is_apart}
+use Rattle.sq_spec.specs.Forms.Calls.{is_apart}
 use Rattle.sq_spec.specs.declared.statement.LoopKind.{LoopKind}
 use Rattle.sq_spec.specs.declared.statement.LoopKind.TheVariants as loop_kind
 use Rattle.sq_spec.specs.declared.statement.CallInstance.{CallInstance}

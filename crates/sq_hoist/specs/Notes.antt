@@ -7,7 +7,7 @@ use Rattle.sq_text.specs.Names.{Bytes}
 use Rattle.sq_ast.specs.declared.program.Param.{Param}
 use Rattle.sq_ir.specs.declared.plan.Note.{Note}
 use Rattle.sq_ir.specs.declared.plan.Note.TheVariants.{Hoist}
-use Rattle.sq_forms.specs.Resolving.{entry_params}
+use Rattle.sq_spec.specs.Forms.Resolving.{entry_params}
 use Rattle.sq_spec.specs.declared.resolved.Resolved.{Resolved}
 use Rattle.sq_homes.specs.Drafts.{instance_at, name_by}
 use Rattle.sq_hoist.specs.declared.sites.Site.{Site}

@@ -2,13 +2,13 @@
 
 ghost use Rattle.std.specs.Prelude.{◌≡◌, take, drop};
 ghost use Rattle.std.specs.List.{list_all};
-ghost use Rattle.sq_forms.specs.Calls as calls;
+ghost use Rattle.sq_spec.specs.Forms.Calls as calls;
 ghost use Rattle.sq_hoist.specs.Loops as spec;
 
 use sq_blocks::Argument;
-use sq_forms::call::is_written;
-use sq_rect::overlap;
+use sq_blocks::sq_rect::overlap;
 use sq_spec::CallInstance;
+use sq_spec::sq_forms::call::is_written;
 use sq_text::Span;
 
 /// Whether two blocks of one array share an element.

@@ -14,3 +14,5 @@ pub use choices::choices_of;
 pub use hoisting::{hoist, sites_of};
 pub use notes::push_site;
 pub use sites::Site;
+pub use sq_homes;
+pub use sq_homes::sq_tables;

@@ -2,15 +2,15 @@
 
 ghost use Rattle.std.specs.Prelude.{◌≡◌, IfOk};
 ghost use Rattle.std.specs.Option.{option_copied};
-ghost use Rattle.sq_forms.specs.Resolving.{entry_params};
+ghost use Rattle.sq_spec.specs.Forms.Resolving.{entry_params};
 ghost use Rattle.sq_homes.specs.Drafts as drafts;
-ghost use Rattle.sq_forms.specs.Tables as tables;
+ghost use Rattle.sq_spec.specs.Forms.Tables as tables;
 ghost use Rattle.sq_hoist.specs.Notes as spec;
 
 use sq_ast::{Param, Variant};
 use sq_homes::instance_at;
-use sq_mapfile::Instance;
 use sq_spec::Resolved;
+use sq_spec::sq_mapfile::Instance;
 use sq_text::Name;
 use sqlite_items::at;
 use std::alloc::{AllocError, Global};

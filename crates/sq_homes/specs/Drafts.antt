@@ -6,24 +6,24 @@ use Rattle.sq_text.specs.Names.{Bytes}
 use Rattle.sq_text.specs.declared.spread.SpreadRule.{SpreadRule}
 use Rattle.sq_text.specs.declared.spread.SpreadRule.TheVariants.{Cyclic}
 use Rattle.sq_ast.specs.declared.program.Variant.{Variant}
-use Rattle.sq_mapfile.specs.declared.mapping.Instance.{Instance}
-use Rattle.sq_leaf.specs.Leaf.{arrays_of}
+use Rattle.sq_spec_laws.specs.Mapfile.declared.mapping.Instance.{Instance}
+use Rattle.sq_ir.specs.Leaf.Leaf.{arrays_of}
 use Rattle.sq_ir.specs.declared.term.Term.{Term}
 use Rattle.sq_ir.specs.declared.plan.Buffer.{Buffer}
 use Rattle.sq_ir.specs.declared.plan.Leaf.{Leaf}
 use Rattle.sq_ir.specs.declared.plan.Draft.{Draft}
-use Rattle.sq_blocks.specs.declared.argument.Argument.{Argument}
-use Rattle.sq_forms.specs.declared.form.Form.{Form}
-use Rattle.sq_forms.specs.Resolving.{entry_params}
-use Rattle.sq_spec.specs.declared.body.Body.{Body}
-use Rattle.sq_spec.specs.declared.body.Body.TheVariants as body
-use Rattle.sq_spec.specs.declared.body.FormBody.{FormBody}
-use Rattle.sq_spec.specs.declared.resolved.Resolved.{Resolved}
-use Rattle.sq_spec.specs.Bodies.{body_of}
-use Rattle.sq_spec.specs.Works.{entry_arguments}
+use Rattle.sq_ir.specs.Blocks.declared.argument.Argument.{Argument}
+use Rattle.sq_spec_laws.specs.Forms.declared.form.Form.{Form}
+use Rattle.sq_spec_laws.specs.Forms.Resolving.{entry_params}
+use Rattle.sq_spec_laws.specs.Spec.declared.body.Body.{Body}
+use Rattle.sq_spec_laws.specs.Spec.declared.body.Body.TheVariants as body
+use Rattle.sq_spec_laws.specs.Spec.declared.body.FormBody.{FormBody}
+use Rattle.sq_spec_laws.specs.Spec.declared.resolved.Resolved.{Resolved}
+use Rattle.sq_spec_laws.specs.Spec.Bodies.{body_of}
+use Rattle.sq_spec_laws.specs.Spec.Works.{entry_arguments}
 use Rattle.sq_spec_laws.specs.Needs.{variant_for}
-use Rattle.sq_placed.specs.declared.home.Homes.{Homes}
-use Rattle.sq_term.specs.Terms.{entry_term, body_in, homes_in, buffer_or}
+use Rattle.sq_draft.specs.Placed.declared.home.Homes.{Homes}
+use Rattle.sq_draft.specs.Term.Terms.{entry_term, body_in, homes_in, buffer_or}
 use Rattle.sq_homes.specs.declared.choice.Choice.{Choice}
 use Rattle.sq_homes.specs.Numbering.{standing, array_size, form_homes}
 

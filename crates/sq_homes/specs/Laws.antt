@@ -1,6 +1,6 @@
 -- What is true of the numbers of buffers.
 use Rattle.std.specs.Prelude.{ℕ, ◌+◌, ◌<◌, length}
-use Rattle.sq_spec.specs.declared.body.FormBody.{FormBody}
+use Rattle.sq_spec_laws.specs.Spec.declared.body.FormBody.{FormBody}
 use Rattle.sq_homes.specs.declared.choice.Choice.{Choice}
 use Rattle.sq_homes.specs.Numbering.{standing, home_of, locals_count, local_base, IsHomeIn, IsNumberIn}
 

@@ -4,13 +4,13 @@ use Rattle.std.specs.Prelude.{ℕ, zero, suc, ◌+◌, ◌-◌, ◌==◌, ◌≤
 use Rattle.std.specs.Prelude.{◌++◌, map, length, get_or, if◌then◌else◌}
 use Rattle.std.specs.List.{filter, range_with_len}
 use Rattle.sq_text.specs.declared.spread.SpreadRule.{SpreadRule}
-use Rattle.sq_leaf.specs.declared.shape.Shape.{Shape}
-use Rattle.sq_spec.specs.declared.body.FormBody.{FormBody}
+use Rattle.sq_ir.specs.Leaf.declared.shape.Shape.{Shape}
+use Rattle.sq_spec_laws.specs.Spec.declared.body.FormBody.{FormBody}
 use Rattle.sq_spec_laws.specs.Needs.{size_of}
-use Rattle.sq_placed.specs.declared.home.Home.{Home}
-use Rattle.sq_placed.specs.declared.home.Home.TheVariants.{InPlace, Own, Held, Twin}
-use Rattle.sq_placed.specs.declared.home.Homes.{Homes}
-use Rattle.sq_placed.specs.Tables.{no_shape}
+use Rattle.sq_draft.specs.Placed.declared.home.Home.{Home}
+use Rattle.sq_draft.specs.Placed.declared.home.Home.TheVariants.{InPlace, Own, Held, Twin}
+use Rattle.sq_draft.specs.Placed.declared.home.Homes.{Homes}
+use Rattle.sq_draft.specs.Placed.Tables.{no_shape}
 use Rattle.sq_homes.specs.declared.choice.Choice.{Choice}
 
 -- ---- the arrays of a form that have buffers

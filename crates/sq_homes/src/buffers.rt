@@ -1,9 +1,9 @@
 //! The buffers of a draft.
 
 ghost use Rattle.std.specs.Prelude.{◌≡◌, ◌++◌, get_or, [], ◌∷◌, map, slice_get, length, IfOk, OnOk};
-ghost use Rattle.sq_rect.specs.Extents.{product};
+ghost use Rattle.sq_ir.specs.Rect.Extents.{product};
 ghost use Rattle.sq_spec_laws.specs.Needs as needs;
-ghost use Rattle.sq_placed.specs.Tables.{no_shape};
+ghost use Rattle.sq_draft.specs.Placed.Tables.{no_shape};
 ghost use Rattle.sq_homes.specs.Numbering as numbering;
 ghost use Rattle.sq_homes.specs.Drafts as spec;
 
@@ -11,12 +11,12 @@ use crate::choice::Choice;
 use crate::homes::{behind, form_homes};
 use crate::names::{array_at, level_at, name_at, rule_at};
 use crate::order::{params_of, standing};
+use sq_ast::sq_num::{Elem, width};
+use sq_draft::sq_placed::Homes;
+use sq_ir::sq_leaf::Shape;
+use sq_ir::sq_rect::Dims;
 use sq_ir::{Buffer, Buffers};
-use sq_leaf::Shape;
-use sq_num::{Elem, width};
-use sq_placed::Homes;
-use sq_rect::Dims;
-use sq_spec::{Body, FormBody, Resolved};
+use sq_spec_laws::sq_spec::{Body, FormBody, Resolved};
 use sqlite_items::{Items, at};
 use std::alloc::{AllocError, Global};
 

@@ -1,18 +1,18 @@
 //! The draft of a program.
 
 ghost use Rattle.std.specs.Prelude.{◌≡◌, ◌++◌, suc, [], map, IfOk, OnOk};
-ghost use Rattle.sq_term.specs.Terms as terms;
+ghost use Rattle.sq_draft.specs.Term.Terms as terms;
 ghost use Rattle.sq_homes.specs.Drafts as spec;
 
 use crate::buffers::{buffers_of, homes_of};
 use crate::choice::Choice;
 use crate::entry::args_of;
 use crate::names::{form_number, name_at};
-use sq_blocks::Argument;
 use sq_draft::draft_term;
+use sq_draft::sq_placed::{Home, Homes};
+use sq_ir::sq_blocks::Argument;
 use sq_ir::{BufferIds, Buffers, Draft, Leaf, Leaves, Term};
-use sq_placed::{Home, Homes};
-use sq_spec::{Body, FormBody, Resolved};
+use sq_spec_laws::sq_spec::{Body, FormBody, Resolved};
 use sqlite_items::{Boxed as Box, Items, at};
 use std::alloc::{AllocError, Global};
 

@@ -1,13 +1,13 @@
 //! The arguments of the entry: all of its arrays.
 
 ghost use Rattle.std.specs.Prelude.{◌≡◌, false, IfOk};
-ghost use Rattle.sq_spec.specs.Works.{entry_arguments, whole as all_of};
+ghost use Rattle.sq_spec_laws.specs.Spec.Works.{entry_arguments, whole as all_of};
 ghost use Rattle.sq_homes.specs.Drafts as spec;
 
 use sq_ast::Param;
-use sq_blocks::{Argument, whole};
-use sq_rect::Dims;
-use sq_spec::Resolved;
+use sq_ir::sq_blocks::{Argument, whole};
+use sq_ir::sq_rect::Dims;
+use sq_spec_laws::sq_spec::Resolved;
 use sqlite_items::{Items, at};
 use std::alloc::{AllocError, Global};
 

@@ -3,14 +3,14 @@
 ghost use Rattle.std.specs.Prelude.{◌≡◌, Some, get_or, slice_get, IfOk, IfSome, List, ℕ, []};
 ghost use Rattle.std.specs.Option.{option_copied};
 ghost use Rattle.sq_ast.specs.declared.program.Variant.{Variant as SpecVariant};
-ghost use Rattle.sq_mapfile.specs.declared.mapping.Instance.{Instance as SpecInstance};
-ghost use Rattle.sq_leaf.specs.Leaf.{arrays_of, local_names};
+ghost use Rattle.sq_spec_laws.specs.Mapfile.declared.mapping.Instance.{Instance as SpecInstance};
+ghost use Rattle.sq_ir.specs.Leaf.Leaf.{arrays_of, local_names};
 ghost use Rattle.sq_spec_laws.specs.Needs.{variant_for};
 ghost use Rattle.sq_homes.specs.Drafts as spec;
 
 use sq_ast::{Decl, Variant};
-use sq_mapfile::Instance;
-use sq_spec::Resolved;
+use sq_spec_laws::sq_mapfile::Instance;
+use sq_spec_laws::sq_spec::Resolved;
 use sq_text::{Name, SpreadRule};
 use sqlite_items::at;
 use std::alloc::{AllocError, Global};

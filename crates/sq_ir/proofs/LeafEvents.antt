@@ -9,8 +9,8 @@ use Rattle.std.proofs.lemmas.Bool.Decides.{nat_tests}
 use Rattle.std.proofs.Math.Nat.{mul-le-mul_left}
 use Rattle.sq_num.specs.Elements.{width, value, cell}
 use Rattle.sq_num.proofs.Cutting.{cell-value}
-use Rattle.sq_rect.specs.declared.view.View.{View}
-use Rattle.sq_rect.specs.Placing.{IsIn, offset, place_of}
+use Rattle.sq_leaf.specs.Rect.declared.view.View.{View}
+use Rattle.sq_leaf.specs.Rect.Placing.{IsIn, offset, place_of}
 use Rattle.sq_leaf.specs.declared.trap.Trap.{Trap}
 use Rattle.sq_leaf.specs.Source.{Arrays}
 use Rattle.sq_leaf.specs.Places.{reach}

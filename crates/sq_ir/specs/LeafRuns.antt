@@ -1,7 +1,7 @@
 -- A run of a leaf's code over the bytes of a node, and the leaf's event.
 use Rattle.std.specs.Prelude.{◌≡◌, ℕ, ◌^◌, ◌<◌, ◌≤◌, false, List, length, map, get_or, Option, Some, None, Result, Ok, Err}
 use Rattle.std.specs.List.{All}
-use Rattle.sq_rect.specs.declared.view.View.{View}
+use Rattle.sq_leaf.specs.Rect.declared.view.View.{View}
 use Rattle.sq_leaf.specs.declared.trap.Trap.{Trap}
 use Rattle.sq_leaf.specs.Source.{Arrays}
 use Rattle.sq_leaf.specs.Views as views

@@ -25,3 +25,5 @@ pub mod Texts
 pub mod Unbroken
 pub mod Walks
 pub mod Whole
+-- Lemmas of crates below, passed on.
+pub use Rattle.sq_types.proofs as Types

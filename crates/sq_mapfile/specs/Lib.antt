@@ -14,3 +14,6 @@ pub mod Notes
 pub mod Given
 pub mod Scopes
 pub mod Walk
+-- Definitions of crates below, passed on.
+pub use Rattle.sq_machfile.specs as Machfile
+pub use Rattle.sq_types.specs as Types

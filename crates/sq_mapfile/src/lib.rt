@@ -28,3 +28,4 @@ pub use mapping::{
     Tunings,
 };
 pub use reader::read_mapping;
+pub use sq_machfile;

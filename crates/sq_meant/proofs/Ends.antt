@@ -4,7 +4,7 @@ use Rattle.std.proofs.Common.{subst}
 use Rattle.sq_leaf.specs.declared.shape.Shape.{Shape}
 use Rattle.sq_leaf.specs.declared.trap.Trap.{Trap}
 use Rattle.sq_leaf.specs.Source.{Arrays}
-use Rattle.sq_work.specs.Meaning.{Outcome}
+use Rattle.sq_spec.specs.Work.Meaning.{Outcome}
 use Rattle.sq_ir.specs.Runs as runs
 use Rattle.sq_ir.specs.Runs.{State, End, exec}
 use Rattle.sq_ir.specs.Orders.{HasEnded}

@@ -21,13 +21,13 @@ use Rattle.sq_tree.specs.Runs.{TellsFirst}
 use Rattle.sq_root.specs.Places.{Fits}
 use Rattle.sq_plan_laws.specs.Codes as codes
 use Rattle.sq_plan_laws.specs.Entry.{EndsSo}
-use Rattle.sq_homes.specs.Drafts.{args_of, bodies_of, buffers_of, entry_of, IsDraftOf}
-use Rattle.sq_term.specs.Terms.{body_in}
-use Rattle.sq_homes.specs.declared.choice.Choice.{Choice}
-use Rattle.sq_draft_laws.specs.Choosing.{MayBeChosen}
-use Rattle.sq_draft_laws.specs.Homes.{EntriesAreWhole}
-use Rattle.sq_draft_laws.specs.Owned.{DraftsOwn}
-use Rattle.sq_draft_laws.specs.Opened.{WalkedIsThere}
+use Rattle.sq_plan_good.specs.Homes.Drafts.{args_of, bodies_of, buffers_of, entry_of, IsDraftOf}
+use Rattle.sq_plan_good.specs.Term.Terms.{body_in}
+use Rattle.sq_plan_good.specs.Homes.declared.choice.Choice.{Choice}
+use Rattle.sq_plan_good.specs.DraftLaws.Choosing.{MayBeChosen}
+use Rattle.sq_plan_good.specs.DraftLaws.Homes.{EntriesAreWhole}
+use Rattle.sq_plan_good.specs.DraftLaws.Owned.{DraftsOwn}
+use Rattle.sq_plan_good.specs.DraftLaws.Opened.{WalkedIsThere}
 use Rattle.sq_plan_good.specs.Good.{shapes_in, IsInput}
 use Rattle.sq_plan_good.specs.Planned.{IsGoodPlan}
 use Rattle.sq_meant.specs.Places.{shapes_of, places_of}

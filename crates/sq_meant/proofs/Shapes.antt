@@ -2,19 +2,19 @@
 use Rattle.std.proofs.Common.{◌≡◌, ℕ, suc, ◌+◌, List, [], ◌∷◌, ◌++◌, length, take, Option, refl, sym, ap, ◌∙◌}
 use Rattle.std.proofs.lemmas.List.{take_at}
 use Rattle.sq_ast.specs.declared.program.Param.{Param}
-use Rattle.sq_forms.specs.declared.form.Found.{Found}
-use Rattle.sq_forms.specs.Steps.{Key}
-use Rattle.sq_form_laws.specs.Served.{FormRuns}
+use Rattle.sq_spec.specs.Forms.declared.form.Found.{Found}
+use Rattle.sq_spec.specs.Forms.Steps.{Key}
+use Rattle.sq_spec.specs.FormLaws.Served.{FormRuns}
 use Rattle.sq_spec.specs.declared.body.FormBody.{FormBody}
 use Rattle.sq_spec.specs.declared.resolved.Resolved.{Resolved}
 use Rattle.sq_spec.specs.Works.{param_shapes, local_shapes}
 use Rattle.sq_flat.specs.Held.{extents_in}
-use Rattle.sq_program_laws.specs.Homes.{params_at}
-use Rattle.sq_program_laws.proofs.RowsHold.{arrays_are, params_are}
-use Rattle.sq_homes.specs.Drafts.{args_of}
-use Rattle.sq_draft_laws.specs.Choosing.{Walked}
-use Rattle.sq_draft_laws.proofs.Entry.{entry, extents, form, params, args_many}
-use Rattle.sq_draft_laws.proofs.Forms.{tasks, instances, resolving, run_of, bodies_are}
+use Rattle.sq_plan_good.specs.ProgramLaws.Homes.{params_at}
+use Rattle.sq_plan_good.proofs.ProgramLaws.RowsHold.{arrays_are, params_are}
+use Rattle.sq_plan_good.specs.Homes.Drafts.{args_of}
+use Rattle.sq_plan_good.specs.DraftLaws.Choosing.{Walked}
+use Rattle.sq_plan_good.proofs.DraftLaws.Entry.{entry, extents, form, params, args_many}
+use Rattle.sq_plan_good.proofs.DraftLaws.Forms.{tasks, instances, resolving, run_of, bodies_are}
 use Rattle.sq_plan_good.specs.Good.{shapes_in}
 use Rattle.sq_meant.specs.Places.{shapes_of}
 

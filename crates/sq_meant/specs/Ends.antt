@@ -1,7 +1,7 @@
 -- How a run of a plan on a bank ends, in words of the program.
 use Rattle.std.specs.Prelude.{◌≡◌, List, Result, Ok, Err}
 use Rattle.sq_leaf.specs.declared.shape.Shape.{Shape}
-use Rattle.sq_work.specs.Meaning.{Outcome}
+use Rattle.sq_spec.specs.Work.Meaning.{Outcome}
 use Rattle.sq_flat.specs.Held.{Stored}
 use Rattle.sq_flat.specs.Ends.{HoldsEnd}
 use Rattle.sq_ir.specs.declared.plan.Plan.{Plan}

@@ -4,10 +4,10 @@
 ghost use Rattle.sq_meant.specs.Laws.{PlacesFit, BanksHavePlaces, InputsAreHeld, RunsEndAsMeant};
 ghost use Rattle.sq_meant.specs.Traffic.{RunsCarryTheTraffic};
 
-use sq_draft_laws::laws::resolved_programs_were_walked;
-use sq_draft_laws::{drafts_own_their_buffers, entries_are_whole};
 use sq_ir::laws::good_plans_have_one_result;
 use sq_leaf::Trap;
+use sq_plan_good::sq_draft_laws::laws::resolved_programs_were_walked;
+use sq_plan_good::sq_draft_laws::{drafts_own_their_buffers, entries_are_whole};
 use sq_tree::laws::runs_carry_what_the_plan_does;
 
 /// The plan of a program has a place in the root for each of the entry's arrays, and no two share a byte.

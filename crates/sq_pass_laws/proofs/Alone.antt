@@ -10,11 +10,11 @@ use Rattle.sq_spec.specs.declared.statement.Statement.TheVariants as b
 use Rattle.sq_spec_laws.specs.TableRows.{Table, tables_of}
 use Rattle.sq_spec_laws.proofs.TableRowsHold.{tables_call, tables_map}
 use Rattle.sq_placed.specs.Tables.{Chain, one_more, first_of}
-use Rattle.sq_term_laws.specs.Orders.{EachOf, Round, rounds_in}
-use Rattle.sq_program_laws.specs.Held.{Begun, begun}
-use Rattle.sq_program_laws.proofs.Rounds.{rounds_call, rounds_map}
-use Rattle.sq_program_laws.proofs.Loops.{begun_call, begun_map, each_map}
-use Rattle.sq_hoist.specs.Loops.{Nest, looped}
+use Rattle.sq_draft_laws.specs.TermLaws.Orders.{EachOf, Round, rounds_in}
+use Rattle.sq_draft_laws.specs.ProgramLaws.Held.{Begun, begun}
+use Rattle.sq_draft_laws.proofs.ProgramLaws.Rounds.{rounds_call, rounds_map}
+use Rattle.sq_draft_laws.proofs.ProgramLaws.Loops.{begun_call, begun_map, each_map}
+use Rattle.sq_pipe.specs.Hoist.Loops.{Nest, looped}
 use Rattle.sq_pass_laws.proofs.Nests.{nest_of, IsCall, Climbs, climb, longer, same_number}
 use Rattle.sq_pass_laws.proofs.HoistLists.{all_each}
 

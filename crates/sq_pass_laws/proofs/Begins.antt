@@ -12,11 +12,11 @@ use Rattle.sq_spec.specs.declared.statement.Statement.TheVariants as b
 use Rattle.sq_spec.specs.declared.statement.Statement.TheOpen.{Statement-F}
 use Rattle.sq_spec.specs.declared.statement.Statement.TheFolds.{map-Statement, rec-roll-Statement}
 use Rattle.sq_spec.specs.Statements.{over, starts_from}
-use Rattle.sq_term_laws.specs.Fits.{AskedOfStatement, all_parts}
-use Rattle.sq_hoist.specs.Counts.{total}
-use Rattle.sq_hoist.specs.Loops.{Nest, joined, in_times, looped}
-use Rattle.sq_program_laws.specs.Held.{Begun, row_list, begun}
-use Rattle.sq_program_laws.proofs.Loops.{nothing_more, begun_call, begun_map}
+use Rattle.sq_draft_laws.specs.TermLaws.Fits.{AskedOfStatement, all_parts}
+use Rattle.sq_pipe.specs.Hoist.Counts.{total}
+use Rattle.sq_pipe.specs.Hoist.Loops.{Nest, joined, in_times, looped}
+use Rattle.sq_draft_laws.specs.ProgramLaws.Held.{Begun, row_list, begun}
+use Rattle.sq_draft_laws.proofs.ProgramLaws.Loops.{nothing_more, begun_call, begun_map}
 use Rattle.sq_pass_laws.specs.Times.{AreCounts, times_step, IsBegun}
 use Rattle.sq_pass_laws.proofs.Nests.{nest_of, IsCall, Climbs, climb, both}
 

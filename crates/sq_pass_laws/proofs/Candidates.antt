@@ -15,12 +15,12 @@ use Rattle.sq_spec_laws.specs.TableRows.{Table, red_of, all_tables, tables_of}
 use Rattle.sq_spec_laws.proofs.TableRowsHold.{tables_call, tables_map}
 use Rattle.sq_placed.specs.Pipes.{CallLoops, loop_round, call_loops}
 use Rattle.sq_placed.proofs.Pipes as pipes
-use Rattle.sq_term_laws.specs.Orders.{EachOf}
-use Rattle.sq_program_laws.proofs.Loops.{each_both, each_left, each_map, each_right}
+use Rattle.sq_draft_laws.specs.TermLaws.Orders.{EachOf}
+use Rattle.sq_draft_laws.proofs.ProgramLaws.Loops.{each_both, each_left, each_map, each_right}
 use Rattle.sq_pass_laws.proofs.HoistLists.{all_each}
 use Rattle.sq_pass_laws.proofs.Nests.{same_number}
 use Rattle.sq_pass_laws.proofs.Sites.{IsWithin, LowersSo}
-use Rattle.sq_tables.specs.Loops.{any_of, lower_in, same_in}
+use Rattle.sq_pipe.specs.Tables.Loops.{any_of, lower_in, same_in}
 use Rattle.sq_pipe.specs.declared.candidate.Candidate.{Candidate}
 use Rattle.sq_pipe.specs.Candidates.{may_overlap, have_one_form, first_form, is_spread, Seen, all_loops, only_call}
 use Rattle.sq_pipe.specs.Candidates.{own_loop, seen, call_in}

@@ -12,15 +12,15 @@ use Rattle.sq_placed.specs.declared.home.Home.{Home}
 use Rattle.sq_placed.specs.declared.home.Home.TheVariants.{InPlace, Own, Held, Twin}
 use Rattle.sq_placed.specs.declared.home.Homes.{Homes}
 use Rattle.sq_cells.specs.Work.{Buffer}
-use Rattle.sq_plan_laws.specs.Calling.{place_of}
-use Rattle.sq_term.specs.Terms.{no_homes, homes_in}
-use Rattle.sq_program_laws.specs.Piped.{IsDoubled}
-use Rattle.sq_homes.specs.declared.choice.Choice.{Choice}
-use Rattle.sq_homes.specs.Numbering.{left_by, home_of, hoisted as left_first, others, position, form_homes}
-use Rattle.sq_homes.specs.Drafts.{bodies_of, homes_of, choice_in, no_choice, instance_at, rule_by}
+use Rattle.sq_draft_laws.specs.PlanLaws.Calling.{place_of}
+use Rattle.sq_draft_laws.specs.Term.Terms.{no_homes, homes_in}
+use Rattle.sq_draft_laws.specs.ProgramLaws.Piped.{IsDoubled}
+use Rattle.sq_pipe.specs.Homes.declared.choice.Choice.{Choice}
+use Rattle.sq_pipe.specs.Homes.Numbering.{left_by, home_of, hoisted as left_first, others, position, form_homes}
+use Rattle.sq_pipe.specs.Homes.Drafts.{bodies_of, homes_of, choice_in, no_choice, instance_at, rule_by}
 use Rattle.sq_draft_laws.proofs.Hoisting.{no_homes_at, overlaps_are}
 use Rattle.sq_draft_laws.proofs.Standing.{forms_stand}
-use Rattle.sq_hoist.specs.Choices.{hoisted}
+use Rattle.sq_pipe.specs.Hoist.Choices.{hoisted}
 use Rattle.sq_pass_laws.proofs.Nests.{same_number}
 use Rattle.sq_pipe.specs.Candidates.{is_held}
 use Rattle.sq_pipe.specs.Greedy.{have_room, rooms_of, none_taken, taken_of, candidates_of, overlaps_from, overlapped}

@@ -19,24 +19,24 @@ use Rattle.sq_placed.specs.declared.home.Home.{Home}
 use Rattle.sq_placed.specs.declared.home.Home.TheVariants.{InPlace, Own, Held, Twin}
 use Rattle.sq_placed.specs.declared.home.Homes.{Homes}
 use Rattle.sq_placed.specs.Tables.{Chain, call_chain, chain_of, one_more, first_of}
-use Rattle.sq_term_laws.specs.Fits.{AskedOfStatement, all_parts}
-use Rattle.sq_term_laws.specs.Leaves as term
-use Rattle.sq_term_laws.specs.Leaves.{AskedInLoops, RowLeaves, each_in, loops_in, loops_left, left_of}
-use Rattle.sq_term_laws.proofs.Chains.{leaves_call, leaves_map}
-use Rattle.sq_term_laws.specs.Orders.{EachOf, Round, all_rounds, map_rounds, rounds_in, params_of}
-use Rattle.sq_term_laws.specs.Held.{IsHeldRow, AreHeldRows}
-use Rattle.sq_program_laws.specs.Held.{Begun, loop_list, chains, all_calls, all_loops, begun, LoopHolds}
-use Rattle.sq_program_laws.proofs.Loops.{begun_call, begun_map, all_turns, each_at, each_both, each_left, each_map}
-use Rattle.sq_program_laws.proofs.Loops.{each_right}
-use Rattle.sq_hoist.specs.Counts.{total}
-use Rattle.sq_hoist.specs.Loops.{Nest, seen, sites_by, sites_in, all_sites}
-use Rattle.sq_hoist.specs.Choices.{find_leaves, leaves_or}
-use Rattle.sq_hoist.proofs.Opened.{inner_call, inner_map}
+use Rattle.sq_draft_laws.specs.TermLaws.Fits.{AskedOfStatement, all_parts}
+use Rattle.sq_draft_laws.specs.TermLaws.Leaves as term
+use Rattle.sq_draft_laws.specs.TermLaws.Leaves.{AskedInLoops, RowLeaves, each_in, loops_in, loops_left, left_of}
+use Rattle.sq_draft_laws.proofs.TermLaws.Chains.{leaves_call, leaves_map}
+use Rattle.sq_draft_laws.specs.TermLaws.Orders.{EachOf, Round, all_rounds, map_rounds, rounds_in, params_of}
+use Rattle.sq_draft_laws.specs.TermLaws.Held.{IsHeldRow, AreHeldRows}
+use Rattle.sq_draft_laws.specs.ProgramLaws.Held.{Begun, loop_list, chains, all_calls, all_loops, begun, LoopHolds}
+use Rattle.sq_draft_laws.proofs.ProgramLaws.Loops.{begun_call, begun_map, all_turns, each_at, each_both, each_left, each_map}
+use Rattle.sq_draft_laws.proofs.ProgramLaws.Loops.{each_right}
+use Rattle.sq_pipe.specs.Hoist.Counts.{total}
+use Rattle.sq_pipe.specs.Hoist.Loops.{Nest, seen, sites_by, sites_in, all_sites}
+use Rattle.sq_pipe.specs.Hoist.Choices.{find_leaves, leaves_or}
+use Rattle.sq_pipe.proofs.Hoist.Opened.{inner_call, inner_map}
 use Rattle.sq_pass_laws.specs.Times.{AreCounts, IsBegun}
 use Rattle.sq_pass_laws.proofs.Nests.{itself, if_true, nest_of, climb, IsBound, bounds_climb, follows_all}
 use Rattle.sq_pass_laws.proofs.Begins.{times_map}
 use Rattle.sq_pass_laws.proofs.Staying.{words, AreAlike}
-use Rattle.sq_program_laws.proofs.Rounds.{rounds_call, rounds_map}
+use Rattle.sq_draft_laws.proofs.ProgramLaws.Rounds.{rounds_call, rounds_map}
 use Rattle.sq_pass_laws.proofs.Alone.{IsAlone, is_alone}
 use Rattle.sq_pass_laws.proofs.Sites.{Leaves, from_left, from_right, HasNumber, Numbered, sites_of_one, AreLocal}
 use Rattle.sq_pass_laws.proofs.Sites.{first_local, others_local}

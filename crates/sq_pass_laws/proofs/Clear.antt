@@ -8,7 +8,7 @@ use Rattle.sq_forms.specs.Calls.{shares}
 use Rattle.sq_spec.specs.declared.statement.CallInstance.{CallInstance}
 use Rattle.sq_spec.specs.Statements.{starts_from}
 use Rattle.sq_placed.specs.Pipes.{AreHeads, no_heads, more_heads}
-use Rattle.sq_hoist.specs.Loops.{cut}
+use Rattle.sq_pipe.specs.Hoist.Loops.{cut}
 use Rattle.sq_pass_laws.proofs.Nests.{both}
 use Rattle.sq_pass_laws.proofs.Staying.{word}
 use Rattle.sq_pipe.specs.Candidates.{is_held, is_clear_of, are_clear_of, is_clear, is_ahead, are_ahead}

@@ -12,7 +12,7 @@ use Rattle.sq_forms.specs.Faults.{Value, and_then}
 use Rattle.sq_forms.specs.Args.{Names}
 use Rattle.sq_forms.specs.Args.{block, mode_of, is_reduced}
 use Rattle.sq_form_laws.specs.Reached.{AreExamined}
-use Rattle.sq_program_laws.proofs.RowsHold.{array_of, array_by}
+use Rattle.sq_draft_laws.proofs.ProgramLaws.RowsHold.{array_of, array_by}
 use Rattle.sq_pass_laws.proofs.Staying.{word}
 
 abbrev found_argument : Argument → Value Argument

@@ -1,7 +1,7 @@
 -- What holds of each item of a list.
 use Rattle.std.proofs.Common.{◌≡◌, Bool, true, List, [], ◌∷◌}
 use Rattle.std.specs.List.{list_all}
-use Rattle.sq_term_laws.specs.Orders.{EachOf}
+use Rattle.sq_draft_laws.specs.TermLaws.Orders.{EachOf}
 use Rattle.sq_pass_laws.proofs.Nests.{both}
 
 pub each_two : {A : Type 0} (P Q R : A → Type 0) (xs : List A) → ((x : A) → P x → Q x → R x) → EachOf P xs

@@ -21,24 +21,24 @@ use Rattle.sq_placed.specs.declared.home.Home.TheVariants.{InPlace, Own, Held, T
 use Rattle.sq_placed.specs.declared.home.Homes.{Homes}
 use Rattle.sq_placed.specs.Pipes.{NonePiped}
 use Rattle.sq_placed.proofs.Pipes.{none_stand}
-use Rattle.sq_term.specs.Terms.{no_homes, body_in, homes_in}
-use Rattle.sq_term_laws.specs.Leaves.{loops_left, left_of, BodyLeaves}
-use Rattle.sq_term_laws.specs.Orders.{EachOf, rounds_of}
-use Rattle.sq_term_laws.specs.Held.{AreHeldRows}
-use Rattle.sq_term_laws.specs.Overlapping.{IsSuited, OverlapsStand}
-use Rattle.sq_term_laws.proofs.Overlaps.{none_overlap}
-use Rattle.sq_program_laws.specs.Held.{loops_of, LoopHolds, HoldsFit}
-use Rattle.sq_homes.specs.declared.choice.Choice.{Choice}
-use Rattle.sq_homes.specs.Numbering.{left_by, home_of, hoisted as left_first, others, position, form_homes}
-use Rattle.sq_homes.specs.Drafts.{bodies_of, homes_of, choice_in, no_choice, instance_at, rule_by}
+use Rattle.sq_draft_laws.specs.Term.Terms.{no_homes, body_in, homes_in}
+use Rattle.sq_draft_laws.specs.TermLaws.Leaves.{loops_left, left_of, BodyLeaves}
+use Rattle.sq_draft_laws.specs.TermLaws.Orders.{EachOf, rounds_of}
+use Rattle.sq_draft_laws.specs.TermLaws.Held.{AreHeldRows}
+use Rattle.sq_draft_laws.specs.TermLaws.Overlapping.{IsSuited, OverlapsStand}
+use Rattle.sq_draft_laws.proofs.TermLaws.Overlaps.{none_overlap}
+use Rattle.sq_draft_laws.specs.ProgramLaws.Held.{loops_of, LoopHolds, HoldsFit}
+use Rattle.sq_pipe.specs.Homes.declared.choice.Choice.{Choice}
+use Rattle.sq_pipe.specs.Homes.Numbering.{left_by, home_of, hoisted as left_first, others, position, form_homes}
+use Rattle.sq_pipe.specs.Homes.Drafts.{bodies_of, homes_of, choice_in, no_choice, instance_at, rule_by}
 use Rattle.sq_draft_laws.specs.Choosing.{Walked, IsChosenFor, left_in, MayBeChosen, NoneOverlaps}
 use Rattle.sq_draft_laws.proofs.Hoisting.{no_item, no_homes_at, left_within, none_pipes}
 use Rattle.sq_draft_laws.proofs.Programs.{bodies_are_tables}
 use Rattle.sq_draft_laws.proofs.Standing.{forms_stand}
-use Rattle.sq_hoist.specs.declared.sites.Site.{Site}
-use Rattle.sq_hoist.specs.Loops.{sites}
-use Rattle.sq_hoist.specs.Choices.{body_sites, sites_from, sites_of, find_leaves, leaves_or, choice_of, choices_from}
-use Rattle.sq_hoist.specs.Choices.{hoisted}
+use Rattle.sq_pipe.specs.Hoist.declared.sites.Site.{Site}
+use Rattle.sq_pipe.specs.Hoist.Loops.{sites}
+use Rattle.sq_pipe.specs.Hoist.Choices.{body_sites, sites_from, sites_of, find_leaves, leaves_or, choice_of, choices_from}
+use Rattle.sq_pipe.specs.Hoist.Choices.{hoisted}
 use Rattle.sq_pass_laws.specs.HoistLaws.{HoistedOverlapNothing}
 use Rattle.sq_pass_laws.specs.Times.{BodyIsBegun}
 use Rattle.sq_pass_laws.proofs.Staying.{AreAlike}
@@ -47,7 +47,7 @@ use Rattle.sq_pass_laws.proofs.Sites.{found_back, not_found, found_so, all_have,
 use Rattle.sq_pass_laws.proofs.Holding.{HeldAt}
 use Rattle.sq_pass_laws.proofs.Chosen.{chosen, AreChosen, IsFine, list_leaves, list_rounds, list_loops, list_fine}
 use Rattle.sq_pass_laws.proofs.Tables.{caller_of, number_of, IsFlat, RowIs, ListIs, BodyIs, bodies_are}
-use Rattle.sq_program_laws.proofs.Loops.{each_both, each_from, each_map}
+use Rattle.sq_draft_laws.proofs.ProgramLaws.Loops.{each_both, each_from, each_map}
 use Rattle.sq_pass_laws.proofs.HoistLists.{each_two}
 
 -- ---- lists

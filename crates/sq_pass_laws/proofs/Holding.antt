@@ -17,16 +17,16 @@ use Rattle.sq_spec_laws.proofs.TableRowsHold.{tables_call, tables_map}
 use Rattle.sq_placed.specs.declared.home.Home.TheVariants.{InPlace, Held}
 use Rattle.sq_placed.specs.declared.home.Homes.{Homes}
 use Rattle.sq_placed.specs.Tables.{Chain, one_more, first_of}
-use Rattle.sq_term_laws.specs.Fits.{AskedOfStatement, all_parts}
-use Rattle.sq_term_laws.specs.Leaves as term
-use Rattle.sq_term_laws.specs.Leaves.{Left, HasTurns, AskedInLoops, RowLeaves}
-use Rattle.sq_term_laws.proofs.Chains.{leaves_call, leaves_map}
-use Rattle.sq_term_laws.specs.Orders.{EachOf, params_of}
-use Rattle.sq_program_laws.specs.Held.{Begun, BegunLoop, row_list, loop_list, begun_step, begun, Stays}
-use Rattle.sq_program_laws.specs.Held.{LoopHolds}
-use Rattle.sq_program_laws.proofs.Loops.{begun_call, begun_map, all_turns, each_at, each_both, each_map}
-use Rattle.sq_hoist.specs.Counts.{total}
-use Rattle.sq_hoist.specs.Loops.{Nest, looped, stays}
+use Rattle.sq_draft_laws.specs.TermLaws.Fits.{AskedOfStatement, all_parts}
+use Rattle.sq_draft_laws.specs.TermLaws.Leaves as term
+use Rattle.sq_draft_laws.specs.TermLaws.Leaves.{Left, HasTurns, AskedInLoops, RowLeaves}
+use Rattle.sq_draft_laws.proofs.TermLaws.Chains.{leaves_call, leaves_map}
+use Rattle.sq_draft_laws.specs.TermLaws.Orders.{EachOf, params_of}
+use Rattle.sq_draft_laws.specs.ProgramLaws.Held.{Begun, BegunLoop, row_list, loop_list, begun_step, begun, Stays}
+use Rattle.sq_draft_laws.specs.ProgramLaws.Held.{LoopHolds}
+use Rattle.sq_draft_laws.proofs.ProgramLaws.Loops.{begun_call, begun_map, all_turns, each_at, each_both, each_map}
+use Rattle.sq_pipe.specs.Hoist.Counts.{total}
+use Rattle.sq_pipe.specs.Hoist.Loops.{Nest, looped, stays}
 use Rattle.sq_pass_laws.specs.Times.{AreCounts, IsBegun}
 use Rattle.sq_pass_laws.proofs.Nests.{nest_of, IsCall, Climbs, climb, both, IsBound, bounds_climb, Follows}
 use Rattle.sq_pass_laws.proofs.Nests.{follows_inside, stays_at, same_number, longer, loop_whole}

@@ -16,16 +16,16 @@ use Rattle.sq_placed.specs.declared.home.Home.TheVariants.{InPlace, Held}
 use Rattle.sq_placed.specs.declared.home.Homes.{Homes}
 use Rattle.sq_placed.specs.Pipes.{NonePiped}
 use Rattle.sq_placed.proofs.Pipes.{none_stand}
-use Rattle.sq_term.specs.Terms.{body_in, homes_in}
-use Rattle.sq_term_laws.specs.Leaves.{Left, loops_left, RowLeaves, AskedInLoops, each_in, Leaves, BodyLeaves}
-use Rattle.sq_term_laws.proofs.Chains.{leaves_call, leaves_map}
-use Rattle.sq_term_laws.specs.Overlapping.{OverlapsStand}
-use Rattle.sq_term_laws.proofs.Overlaps.{none_overlap}
-use Rattle.sq_program_laws.specs.Held.{HoldsFit, UnheldFits}
-use Rattle.sq_program_laws.specs.Piped.{PipesFit, UnpipedFits}
-use Rattle.sq_homes.specs.declared.choice.Choice.{Choice}
-use Rattle.sq_homes.specs.Numbering.{left_by}
-use Rattle.sq_homes.specs.Drafts.{bodies_of, homes_of, choice_in}
+use Rattle.sq_draft_laws.specs.Term.Terms.{body_in, homes_in}
+use Rattle.sq_draft_laws.specs.TermLaws.Leaves.{Left, loops_left, RowLeaves, AskedInLoops, each_in, Leaves, BodyLeaves}
+use Rattle.sq_draft_laws.proofs.TermLaws.Chains.{leaves_call, leaves_map}
+use Rattle.sq_draft_laws.specs.TermLaws.Overlapping.{OverlapsStand}
+use Rattle.sq_draft_laws.proofs.TermLaws.Overlaps.{none_overlap}
+use Rattle.sq_draft_laws.specs.ProgramLaws.Held.{HoldsFit, UnheldFits}
+use Rattle.sq_draft_laws.specs.ProgramLaws.Piped.{PipesFit, UnpipedFits}
+use Rattle.sq_pipe.specs.Homes.declared.choice.Choice.{Choice}
+use Rattle.sq_pipe.specs.Homes.Numbering.{left_by}
+use Rattle.sq_pipe.specs.Homes.Drafts.{bodies_of, homes_of, choice_in}
 use Rattle.sq_draft_laws.specs.Choosing.{left_in, MayBeChosen, NoneOverlaps}
 use Rattle.sq_draft_laws.proofs.Hoisting.{no_homes_at, left_within, none_pipes}
 use Rattle.sq_pass_laws.proofs.HoistPrograms.{held_chosen, params_suited}

@@ -22,7 +22,7 @@ use Rattle.sq_spec.specs.Statements.{loop_kind_of, StatementTable, calls_of, all
 use Rattle.sq_spec.proofs.OpenedStatement.{table_of_call, table_of_map}
 use Rattle.sq_spec_laws.specs.TableRows.{Table, red_of, all_tables, tables_of, tables_in}
 use Rattle.sq_spec_laws.proofs.TableRowsHold.{tables_call, tables_map}
-use Rattle.sq_term_laws.specs.Orders.{EachOf}
+use Rattle.sq_draft_laws.specs.TermLaws.Orders.{EachOf}
 use Rattle.sq_pass_laws.proofs.Sites.{From, from_both}
 use Rattle.sq_pass_laws.proofs.TimesHold.{append_length}
 

@@ -23,25 +23,25 @@ use Rattle.sq_placed.specs.Pipes.{CallLoop, CallLoops, AreHeads, call_loops}
 use Rattle.sq_placed.specs.Pipes as loops_of
 use Rattle.sq_placed.proofs.Pipes as pipes
 use Rattle.sq_cells.specs.Work.{Buffer}
-use Rattle.sq_plan_laws.specs.Calling.{place_of}
-use Rattle.sq_term_laws.specs.Fits.{AskedOfStatement, all_parts}
-use Rattle.sq_term_laws.specs.Lowers as rooms
-use Rattle.sq_term_laws.specs.Orders.{EachOf}
-use Rattle.sq_term_laws.specs.Overlapping as overlapping
-use Rattle.sq_term_laws.specs.Overlapping.{AskedInMaps, each_in_maps, any_by, can_overlap, RowOverlaps, Overlaps}
-use Rattle.sq_term_laws.proofs.Overlaps.{overlaps_call, overlaps_map}
-use Rattle.sq_program_laws.specs.Piped.{IsDoubled, IsClear, IsClearBy, LoopOverlaps}
-use Rattle.sq_program_laws.proofs.Loops.{each_at, each_both, each_left, each_map, each_right}
+use Rattle.sq_draft_laws.specs.PlanLaws.Calling.{place_of}
+use Rattle.sq_draft_laws.specs.TermLaws.Fits.{AskedOfStatement, all_parts}
+use Rattle.sq_draft_laws.specs.TermLaws.Lowers as rooms
+use Rattle.sq_draft_laws.specs.TermLaws.Orders.{EachOf}
+use Rattle.sq_draft_laws.specs.TermLaws.Overlapping as overlapping
+use Rattle.sq_draft_laws.specs.TermLaws.Overlapping.{AskedInMaps, each_in_maps, any_by, can_overlap, RowOverlaps, Overlaps}
+use Rattle.sq_draft_laws.proofs.TermLaws.Overlaps.{overlaps_call, overlaps_map}
+use Rattle.sq_draft_laws.specs.ProgramLaws.Piped.{IsDoubled, IsClear, IsClearBy, LoopOverlaps}
+use Rattle.sq_draft_laws.proofs.ProgramLaws.Loops.{each_at, each_both, each_left, each_map, each_right}
 use Rattle.sq_draft_laws.proofs.Hoisting.{at_index}
-use Rattle.sq_hoist.specs.Counts.{total}
-use Rattle.sq_hoist.specs.Loops.{cut}
+use Rattle.sq_pipe.specs.Hoist.Counts.{total}
+use Rattle.sq_pipe.specs.Hoist.Loops.{cut}
 use Rattle.sq_pass_laws.specs.Times.{AreCounts, IsBegun}
 use Rattle.sq_pass_laws.proofs.Begins.{times_call, times_map}
 use Rattle.sq_pass_laws.proofs.Holding.{body_below}
 use Rattle.sq_pass_laws.proofs.HoistLists.{each_two}
 use Rattle.sq_pass_laws.proofs.Sites.{HasNumber, IsWithin, Numbered, from_left, from_right, lowers}
 use Rattle.sq_pass_laws.proofs.Staying.{words, AreAlike, shares_is}
-use Rattle.sq_tables.specs.Loops.{any_of, lower_in, same_in}
+use Rattle.sq_pipe.specs.Tables.Loops.{any_of, lower_in, same_in}
 use Rattle.sq_pipe.specs.declared.candidate.Candidate.{Candidate}
 use Rattle.sq_pipe.specs.Candidates.{is_held, are_ahead, is_clear, may_overlap, have_one_form, first_form, is_spread}
 use Rattle.sq_pipe.specs.Candidates.{Seen, all_loops, only_call, own_loop, seen, call_in}

@@ -13,9 +13,9 @@ use Rattle.sq_spec.specs.declared.statement.Statement.{Statement, roll-Statement
 use Rattle.sq_spec.specs.declared.statement.Statement.TheVariants as b
 use Rattle.sq_spec.specs.declared.statement.Statement.TheOpen.{Statement-F}
 use Rattle.sq_spec.specs.declared.statement.Statement.TheFolds.{ind-Statement, map-Statement}
-use Rattle.sq_hoist.specs.Loops.{Nest, seen, nests, stays, in_times, leaving, looped, looped_by, looped_alone}
-use Rattle.sq_hoist.specs.Loops.{call_nest, loop_nest}
-use Rattle.sq_hoist.proofs.Opened.{nest_call, nest_map}
+use Rattle.sq_pipe.specs.Hoist.Loops.{Nest, seen, nests, stays, in_times, leaving, looped, looped_by, looped_alone}
+use Rattle.sq_pipe.specs.Hoist.Loops.{call_nest, loop_nest}
+use Rattle.sq_pipe.proofs.Hoist.Opened.{nest_call, nest_map}
 
 pub both : (x y : Bool) → (x && y) ≡ true → (x ≡ true) × (y ≡ true)
 both true y e = (refl, e)

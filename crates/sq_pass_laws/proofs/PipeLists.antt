@@ -3,7 +3,7 @@ use Rattle.std.proofs.Common.{◌≡◌, ℕ, zero, suc, ◌+◌, ◌<◌, Bool,
 use Rattle.std.proofs.Common.{slice_get, refl, sym, ap, ◌∙◌, arith}
 use Rattle.std.specs.List.{list_all}
 use Rattle.sq_spec.specs.Statements.{starts_from}
-use Rattle.sq_hoist.specs.Loops.{cut}
+use Rattle.sq_pipe.specs.Hoist.Loops.{cut}
 use Rattle.sq_pass_laws.proofs.Nests.{both}
 
 take_at : {A : Type 0} (n : ℕ) (xs : List A) (t : ℕ) → t < n → slice_get (take n xs) t ≡ slice_get xs t

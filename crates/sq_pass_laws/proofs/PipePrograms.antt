@@ -14,18 +14,18 @@ use Rattle.sq_spec.specs.Bodies.{no_body}
 use Rattle.sq_spec_laws.specs.TableRows.{Table, tables_in}
 use Rattle.sq_placed.specs.declared.home.Home.TheVariants.{InPlace}
 use Rattle.sq_placed.specs.Pipes.{CallLoop, call_loops_of, LoopsStand}
-use Rattle.sq_term_laws.specs.Orders.{EachOf}
-use Rattle.sq_term_laws.specs.Overlapping.{BodyOverlaps}
-use Rattle.sq_program_laws.specs.Held.{HoldsFit}
-use Rattle.sq_program_laws.specs.Piped.{IsDoubled, MayOverlap, PipesFit}
-use Rattle.sq_program_laws.proofs.Loops.{each_both, each_from, each_map}
-use Rattle.sq_program_laws.proofs.Unpiped.{pipes_fit_stand}
-use Rattle.sq_homes.specs.declared.choice.Choice.{Choice}
-use Rattle.sq_homes.specs.Drafts.{bodies_of, choice_in}
+use Rattle.sq_draft_laws.specs.TermLaws.Orders.{EachOf}
+use Rattle.sq_draft_laws.specs.TermLaws.Overlapping.{BodyOverlaps}
+use Rattle.sq_draft_laws.specs.ProgramLaws.Held.{HoldsFit}
+use Rattle.sq_draft_laws.specs.ProgramLaws.Piped.{IsDoubled, MayOverlap, PipesFit}
+use Rattle.sq_draft_laws.proofs.ProgramLaws.Loops.{each_both, each_from, each_map}
+use Rattle.sq_draft_laws.proofs.ProgramLaws.Unpiped.{pipes_fit_stand}
+use Rattle.sq_pipe.specs.Homes.declared.choice.Choice.{Choice}
+use Rattle.sq_pipe.specs.Homes.Drafts.{bodies_of, choice_in}
 use Rattle.sq_draft_laws.specs.Choosing.{Walked, IsChosenFor, MayBeChosen}
 use Rattle.sq_draft_laws.proofs.Hoisting.{at_index, bodies_many, no_item}
 use Rattle.sq_draft_laws.proofs.Programs.{bodies_are_tables}
-use Rattle.sq_hoist.specs.Choices.{hoisted}
+use Rattle.sq_pipe.specs.Hoist.Choices.{hoisted}
 use Rattle.sq_pass_laws.proofs.HoistLists.{each_two}
 use Rattle.sq_pass_laws.proofs.HoistPrograms.{bodies, choice_is, no_choice_is, body_at, its, list_numbered, all_own}
 use Rattle.sq_pass_laws.proofs.HoistPrograms.{bodies_so, entry_stays, loops_may_be_left, they_hold, choices_are_hoisted}

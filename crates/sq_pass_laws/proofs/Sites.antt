@@ -11,14 +11,14 @@ use Rattle.sq_spec.specs.declared.statement.Statement.TheOpen.{Statement-F}
 use Rattle.sq_spec.specs.declared.statement.Statement.TheFolds.{ind-Statement, map-Statement}
 use Rattle.sq_spec_laws.specs.TableRows.{Table, red_of, all_tables, tables_of}
 use Rattle.sq_spec_laws.proofs.TableRowsHold.{tables_map}
-use Rattle.sq_term_laws.specs.Orders.{EachOf}
-use Rattle.sq_hoist.specs.declared.sites.Site.{Site}
-use Rattle.sq_hoist.specs.Loops.{Nest, seen, sites_by, sites_in, all_sites}
-use Rattle.sq_hoist.specs.Choices.{find_leaves}
-use Rattle.sq_hoist.proofs.Opened.{inner_call, inner_map}
+use Rattle.sq_draft_laws.specs.TermLaws.Orders.{EachOf}
+use Rattle.sq_pipe.specs.Hoist.declared.sites.Site.{Site}
+use Rattle.sq_pipe.specs.Hoist.Loops.{Nest, seen, sites_by, sites_in, all_sites}
+use Rattle.sq_pipe.specs.Hoist.Choices.{find_leaves}
+use Rattle.sq_pipe.proofs.Hoist.Opened.{inner_call, inner_map}
 use Rattle.sq_pass_laws.proofs.Nests.{nest_of, same_number}
 use Rattle.sq_pass_laws.proofs.Alone.{is_alone}
-use Rattle.sq_program_laws.proofs.Loops.{each_both, each_left, each_map, each_right}
+use Rattle.sq_draft_laws.proofs.ProgramLaws.Loops.{each_both, each_left, each_map, each_right}
 use Rattle.sq_pass_laws.proofs.HoistLists.{each_two}
 
 -- ---- what is found among sites

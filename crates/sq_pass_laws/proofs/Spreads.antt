@@ -5,13 +5,13 @@ use Rattle.sq_spec.specs.declared.statement.Statement.{Statement, roll-Statement
 use Rattle.sq_spec.specs.declared.statement.Statement.TheVariants as b
 use Rattle.sq_spec.specs.declared.statement.Statement.TheOpen.{Statement-F}
 use Rattle.sq_spec.specs.declared.statement.Statement.TheFolds.{ind-Statement, map-Statement}
-use Rattle.sq_term_laws.specs.Lowers as rooms
-use Rattle.sq_term_laws.specs.Overlapping as rooms_spread
-use Rattle.sq_term_laws.specs.Overlapping.{any_by}
-use Rattle.sq_term_laws.proofs.LowersOpened as rooms_lower
-use Rattle.sq_term_laws.proofs.Overlaps as rooms_same
-use Rattle.sq_tables.specs.Loops.{any_of, lower_in, same_in}
-use Rattle.sq_tables.proofs.InStatements.{lower_call, lower_map, same_call, same_map}
+use Rattle.sq_draft_laws.specs.TermLaws.Lowers as rooms
+use Rattle.sq_draft_laws.specs.TermLaws.Overlapping as rooms_spread
+use Rattle.sq_draft_laws.specs.TermLaws.Overlapping.{any_by}
+use Rattle.sq_draft_laws.proofs.TermLaws.LowersOpened as rooms_lower
+use Rattle.sq_draft_laws.proofs.TermLaws.Overlaps as rooms_same
+use Rattle.sq_pipe.specs.Tables.Loops.{any_of, lower_in, same_in}
+use Rattle.sq_pipe.proofs.Tables.InStatements.{lower_call, lower_map, same_call, same_map}
 use Rattle.sq_pipe.specs.Candidates.{is_spread}
 
 record IsAs (x : Statement) : Type 0 where

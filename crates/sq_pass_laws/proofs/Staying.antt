@@ -11,9 +11,9 @@ use Rattle.sq_forms.specs.Calls.{shares, meets, is_apart}
 use Rattle.sq_form_laws.specs.Laws.{SharesElement}
 use Rattle.sq_spec.specs.declared.statement.CallInstance.{CallInstance}
 use Rattle.sq_placed.specs.Tables.{with_rect, row_rect}
-use Rattle.sq_term_laws.specs.Orders.{EachOf}
-use Rattle.sq_program_laws.specs.Held.{StandsApart, Stays}
-use Rattle.sq_hoist.specs.Loops.{same_spans, is_block, stays_in, stays_by, stays}
+use Rattle.sq_draft_laws.specs.TermLaws.Orders.{EachOf}
+use Rattle.sq_draft_laws.specs.ProgramLaws.Held.{StandsApart, Stays}
+use Rattle.sq_pipe.specs.Hoist.Loops.{same_spans, is_block, stays_in, stays_by, stays}
 use Rattle.sq_pass_laws.proofs.Nests.{both, same_number}
 use Rattle.sq_pass_laws.proofs.HoistLists.{all_each, each_two}
 

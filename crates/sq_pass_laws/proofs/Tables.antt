@@ -8,7 +8,7 @@ use Rattle.sq_ast.specs.declared.stmt.Stmt.{Stmt}
 use Rattle.sq_ast.specs.declared.program.Body.{Body as Text}
 use Rattle.sq_ast.specs.declared.program.Body.TheVariants as text
 use Rattle.sq_ast.specs.declared.program.Variant.{Variant}
-use Rattle.sq_mapfile.specs.declared.mapping.Instance.{Instance}
+use Rattle.sq_forms.specs.Mapfile.declared.mapping.Instance.{Instance}
 use Rattle.sq_blocks.specs.declared.argument.Argument.{Argument}
 use Rattle.sq_forms.specs.declared.form.Form.{Form}
 use Rattle.sq_forms.specs.declared.form.Found.{Found}
@@ -36,15 +36,15 @@ use Rattle.sq_spec.specs.Works.{shapes_of}
 use Rattle.sq_spec.proofs.EntryHolds.{entry_is_first}
 use Rattle.sq_spec_laws.specs.TableRows.{Table, tables_in, RowIsReached}
 use Rattle.sq_spec_laws.proofs.TableRowsHold.{rows_are_reached}
-use Rattle.sq_term_laws.specs.Fits.{all_parts}
-use Rattle.sq_term_laws.specs.Orders.{EachOf}
+use Rattle.sq_draft_laws.specs.TermLaws.Fits.{all_parts}
+use Rattle.sq_draft_laws.specs.TermLaws.Orders.{EachOf}
 use Rattle.sq_pass_laws.specs.Times.{IsBegun}
 use Rattle.sq_pass_laws.proofs.Staying.{word, words, AreAlike}
 use Rattle.sq_pass_laws.proofs.Sites.{From}
 use Rattle.sq_pass_laws.proofs.TimesHold.{tables_have_times}
 use Rattle.sq_pass_laws.proofs.Keyed.{IsKeyed, tables_are_keyed}
 use Rattle.sq_pass_laws.proofs.Heads.{words_of, words_are}
-use Rattle.sq_program_laws.proofs.Loops.{each_at, each_from}
+use Rattle.sq_draft_laws.proofs.ProgramLaws.Loops.{each_at, each_from}
 
 -- ---- forms by their keys
 

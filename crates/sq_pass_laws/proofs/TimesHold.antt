@@ -25,9 +25,9 @@ use Rattle.sq_form_laws.proofs.EachCall.{AllIn, all_front, all_back, text_call, 
 use Rattle.sq_spec.proofs.OpenedStatement.{table_of_call, table_of_map}
 use Rattle.sq_spec.proofs.Rows.{singles}
 use Rattle.sq_spec.proofs.TablesMean.{turn, iteration_points_deeper}
-use Rattle.sq_term_laws.specs.Fits.{AskedOfStatement, all_parts}
+use Rattle.sq_draft_laws.specs.TermLaws.Fits.{AskedOfStatement, all_parts}
 use Rattle.sq_draft_laws.proofs.Standing.{map_length}
-use Rattle.sq_hoist.specs.Counts.{total}
+use Rattle.sq_pipe.specs.Hoist.Counts.{total}
 use Rattle.sq_pass_laws.specs.Times.{AreCounts, IsBegun}
 use Rattle.sq_pass_laws.proofs.Begins.{times_call, times_map}
 

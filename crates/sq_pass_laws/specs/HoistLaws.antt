@@ -1,11 +1,11 @@
 -- What is chosen by hoisting may be chosen: what leaves loops may leave these.
 use Rattle.sq_spec.specs.declared.resolved.Resolved.{Resolved}
 use Rattle.sq_spec.specs.Bodies.{body_of}
-use Rattle.sq_term.specs.Terms.{homes_in}
-use Rattle.sq_program_laws.specs.Held.{HoldsFit}
-use Rattle.sq_homes.specs.Drafts.{homes_of}
+use Rattle.sq_draft_laws.specs.Term.Terms.{homes_in}
+use Rattle.sq_draft_laws.specs.ProgramLaws.Held.{HoldsFit}
+use Rattle.sq_pipe.specs.Homes.Drafts.{homes_of}
 use Rattle.sq_draft_laws.specs.Choosing.{Walked, MayBeChosen, NoneOverlaps}
-use Rattle.sq_hoist.specs.Choices.{hoisted}
+use Rattle.sq_pipe.specs.Hoist.Choices.{hoisted}
 use Rattle.sq_pass_laws.specs.Times.{BodyIsBegun}
 use Rattle.std.specs.Prelude.{ℕ}
 

@@ -1,10 +1,10 @@
 -- The loops that were taken may overlap their transfers, room left aside.
 use Rattle.sq_spec.specs.declared.resolved.Resolved.{Resolved}
 use Rattle.sq_spec.specs.Bodies.{body_of}
-use Rattle.sq_term.specs.Terms.{homes_in}
-use Rattle.sq_program_laws.specs.Held.{HoldsFit}
-use Rattle.sq_program_laws.specs.Piped.{PipesFit}
-use Rattle.sq_homes.specs.Drafts.{homes_of}
+use Rattle.sq_draft_laws.specs.Term.Terms.{homes_in}
+use Rattle.sq_draft_laws.specs.ProgramLaws.Held.{HoldsFit}
+use Rattle.sq_draft_laws.specs.ProgramLaws.Piped.{PipesFit}
+use Rattle.sq_pipe.specs.Homes.Drafts.{homes_of}
 use Rattle.sq_draft_laws.specs.Choosing.{Walked, MayBeChosen}
 use Rattle.sq_pipe.specs.Greedy.{overlapped}
 

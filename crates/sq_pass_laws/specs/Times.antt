@@ -6,8 +6,8 @@ use Rattle.sq_spec.specs.declared.statement.Statement.TheFolds.{rec-Statement}
 use Rattle.sq_spec.specs.declared.body.Body.{Body}
 use Rattle.sq_spec.specs.declared.body.Body.TheVariants as body
 use Rattle.sq_spec.specs.Statements.{starts_from}
-use Rattle.sq_term_laws.specs.Fits.{AskedOfStatement, all_parts}
-use Rattle.sq_hoist.specs.Counts.{total}
+use Rattle.sq_draft_laws.specs.TermLaws.Fits.{AskedOfStatement, all_parts}
+use Rattle.sq_pipe.specs.Hoist.Counts.{total}
 
 -- one for each time, or none where there is no iteration at any time
 abbrev pub AreCounts : List ℕ → (times : ℕ) → Type 0

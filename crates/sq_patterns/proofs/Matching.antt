@@ -4,7 +4,7 @@ use Rattle.std.specs.Str.{bytes_eq}
 use Rattle.std.proofs.lemmas.Bool.{eqb-true}
 use Rattle.std.proofs.lemmas.Slice.Eq.{bytes_eq-Decides}
 use denote.Enum.Bare.{same_true}
-use Rattle.sq_text.specs.declared.place.Place.{Place}
+use Rattle.sq_lexer.specs.Text.declared.place.Place.{Place}
 use Rattle.sq_lexer.specs.contracts.token.Sign as sign
 use Rattle.sq_lexer.specs.declared.token.Token.{Token}
 use Rattle.sq_lexer.specs.declared.token.Kind.{Kind}

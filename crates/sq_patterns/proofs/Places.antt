@@ -2,9 +2,9 @@
 use Rattle.std.proofs.Common.{◌≡◌, ℕ, zero, suc, ◌-◌, ◌≤◌, List, [], ◌∷◌, ◌++◌, length, take, drop, Option, Some, None, Ok, Err, refl, sym, ◌∙◌, ap, subst, arith, inl, inr, append_assoc, append-nil, length-append, take-append-drop}
 use Rattle.std.proofs.lemmas.Bool.Decides.{leb_tells}
 use Rattle.std.specs.List.{slice_get}
-use Rattle.sq_text.specs.declared.code.Phase.{Phase}
-use Rattle.sq_text.specs.declared.code.Code.TheVariants as code
-use Rattle.sq_text.specs.declared.fault.Fault.{Fault}
+use Rattle.sq_lexer.specs.Text.declared.code.Phase.{Phase}
+use Rattle.sq_lexer.specs.Text.declared.code.Code.TheVariants as code
+use Rattle.sq_lexer.specs.Text.declared.fault.Fault.{Fault}
 use Rattle.sq_lexer.specs.declared.token.Token.{Token}
 use Rattle.sq_lexer.specs.declared.token.Kind.TheVariants as k
 use Rattle.sq_lexer.specs.Tokens.{HasEnd}

@@ -1,6 +1,6 @@
 -- What a reader gives, how many tokens are left after it, and that the machine goes on after it as the reader does.
 use Rattle.std.proofs.Common.{◌≡◌, ℕ, zero, suc, ◌+◌, ◌≤◌, Bool, true, false, if◌then◌else◌, List, [], ◌∷◌, ◌++◌, length, Some, None, Ok, Err, refl, sym, ◌∙◌, ap, subst, append_assoc, append-nil, arith}
-use Rattle.sq_text.specs.declared.place.Place.{Place}
+use Rattle.sq_lexer.specs.Text.declared.place.Place.{Place}
 use Rattle.sq_lexer.specs.declared.token.Token.{Token}
 use Rattle.sq_lexer.specs.declared.token.Kind.{Kind}
 use Rattle.sq_lexer.specs.declared.token.Kind.TheVariants as k

@@ -1,15 +1,15 @@
 -- Readers as functions on lists of tokens, and the primitives that they are made of.
 use Rattle.std.specs.Prelude.{◌≡◌, ◌≢◌, ℕ, ℤ, pos, zero, suc, ◌-◌, nat_lt, Bool, false, if◌then◌else◌, List, [], ◌∷◌, ◌++◌, length, take, drop, Option, Some, None, Result, Ok, Err}
 use Rattle.std.specs.Borrow.{Bor}
-use Rattle.sq_text.specs.declared.place.Place.{Place}
+use Rattle.sq_lexer.specs.Text.declared.place.Place.{Place}
 use Rattle.sq_lexer.specs.declared.token.Token.{Token}
 use Rattle.sq_lexer.specs.declared.token.Kind.{Kind}
 use Rattle.sq_lexer.specs.declared.token.Kind.TheVariants as k
 use Rattle.sq_patterns.specs.declared.pattern.Pattern.{Pattern}
 use Rattle.sq_patterns.specs.declared.cursor.ReadError.{ReadError}
 use Rattle.sq_patterns.specs.declared.cursor.ReadError.TheVariants.{NoMemory, Syntax}
-use Rattle.sq_text.specs.declared.word.Word.{Word}
-use Rattle.sq_text.specs.declared.word.Numeral.{Numeral}
+use Rattle.sq_lexer.specs.Text.declared.word.Word.{Word}
+use Rattle.sq_lexer.specs.Text.declared.word.Numeral.{Numeral}
 use Rattle.sq_patterns.specs.Patterns.{fits}
 
 -- ---- readers

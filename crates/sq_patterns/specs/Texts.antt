@@ -1,9 +1,9 @@
 -- Which tokens begin a text, and where a list of tokens ceases to.
 use Rattle.std.specs.Prelude.{◌≡◌, ℕ, suc, List, ◌++◌, take, Some}
 use Rattle.std.specs.List.{slice_get}
-use Rattle.sq_text.specs.declared.code.Phase.{Phase}
-use Rattle.sq_text.specs.declared.code.Code.TheVariants as code
-use Rattle.sq_text.specs.declared.fault.Fault.{Fault}
+use Rattle.sq_lexer.specs.Text.declared.code.Phase.{Phase}
+use Rattle.sq_lexer.specs.Text.declared.code.Code.TheVariants as code
+use Rattle.sq_lexer.specs.Text.declared.fault.Fault.{Fault}
 use Rattle.sq_lexer.specs.declared.token.Token.{Token}
 use Rattle.sq_lexer.specs.Faults.{fault}
 

@@ -6,7 +6,7 @@ ghost use Rattle.sq_patterns.specs.Reading.{place_in};
 
 use crate::contents::place_at;
 use sq_lexer::Token;
-use sq_text::{Code, Fault, Phase};
+use sq_lexer::sq_text::{Code, Fault, Phase};
 use sqlite_items::Items;
 use std::alloc::Global;
 

@@ -4,7 +4,7 @@ use Rattle.std.proofs.Common.{Some, None, ◌+◌, ◌<◌, drop, ◌&&◌, true
 use Rattle.std.proofs.Common.{◌∙◌, arith}
 use Rattle.std.proofs.lemmas.List.{length-append}
 use Rattle.sq_forms.specs.declared.form.Form.{Form}
-use Rattle.sq_spec_laws.specs.Needs.{Ended, callers_end}
+use Rattle.sq_hoist.specs.SpecLaws.Needs.{Ended, callers_end}
 use Rattle.sq_pipe.specs.declared.room.Room.{Room}
 use Rattle.sq_pipe.specs.Greedy.{have_room, bytes_of}
 use Rattle.sq_pipe.specs.Sums.{ended_by}

@@ -5,3 +5,6 @@ pub mod Marked
 pub mod Standing
 pub mod Ends
 pub mod Gets
+-- Lemmas of crates below, passed on.
+pub use Rattle.sq_hoist.proofs as Hoist
+pub use Rattle.sq_hoist.proofs.Tables

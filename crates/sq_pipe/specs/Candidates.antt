@@ -12,8 +12,8 @@ use Rattle.std.specs.Prelude.{ℕ, suc, ◌==◌, nat_le, nat_lt, Bool, true, fa
 use Rattle.std.specs.Prelude.{map, get_or, Option, Some, None, if◌then◌else◌}
 use Rattle.std.specs.List.{list_all}
 use Rattle.sq_text.specs.declared.place.Place.{Place}
-use Rattle.sq_ast.specs.Modes.{is_written}
-use Rattle.sq_blocks.specs.declared.argument.Argument.{Argument}
+use Rattle.sq_ir.specs.Ast.Modes.{is_written}
+use Rattle.sq_ir.specs.Blocks.declared.argument.Argument.{Argument}
 use Rattle.sq_forms.specs.Calls.{shares}
 use Rattle.sq_spec.specs.declared.statement.LoopKind.{LoopKind}
 use Rattle.sq_spec.specs.declared.statement.LoopKind.TheVariants as loop_kind
@@ -21,8 +21,8 @@ use Rattle.sq_spec.specs.declared.statement.CallInstance.{CallInstance}
 use Rattle.sq_spec.specs.declared.statement.Statement.{Statement}
 use Rattle.sq_spec.specs.declared.statement.Statement.TheOpen.{Statement-F}
 use Rattle.sq_spec.specs.declared.statement.Statement.TheFolds.{fold-Statement}
-use Rattle.sq_placed.specs.Tables.{is_beside}
-use Rattle.sq_tables.specs.Loops.{any_of}
+use Rattle.sq_hoist.specs.Placed.Tables.{is_beside}
+use Rattle.sq_hoist.specs.Tables.Loops.{any_of}
 use Rattle.sq_hoist.specs.Loops.{cut}
 use Rattle.sq_pipe.specs.declared.candidate.Candidate.{Candidate}
 

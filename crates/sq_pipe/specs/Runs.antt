@@ -10,7 +10,7 @@ use Rattle.std.specs.Prelude.{◌∷◌, ◌++◌, map, length, get_or, replicat
 use Rattle.std.specs.Prelude.{if◌then◌else◌, ⊤, ◌≡◌}
 use Rattle.sq_text.specs.declared.spread.SpreadRule.{SpreadRule}
 use Rattle.sq_text.specs.Spreading.{child_of}
-use Rattle.sq_machfile.specs.declared.node.Node.{Node}
+use Rattle.sq_forms.specs.Machfile.declared.node.Node.{Node}
 use Rattle.sq_forms.specs.declared.form.Caller.{Caller}
 use Rattle.sq_forms.specs.declared.form.Form.{Form}
 use Rattle.sq_spec.specs.declared.statement.LoopKind.{LoopKind}
@@ -21,8 +21,8 @@ use Rattle.sq_spec.specs.declared.statement.Statement.TheFolds.{fold-Statement}
 use Rattle.sq_spec.specs.declared.body.Body.{Body}
 use Rattle.sq_spec.specs.declared.body.Body.TheVariants as body
 use Rattle.sq_spec.specs.declared.resolved.Resolved.{Resolved}
-use Rattle.sq_tables.specs.Loops.{any_of}
-use Rattle.sq_homes.specs.Drafts.{instance_at, level_by, rule_by}
+use Rattle.sq_hoist.specs.Tables.Loops.{any_of}
+use Rattle.sq_hoist.specs.Homes.Drafts.{instance_at, level_by, rule_by}
 use Rattle.sq_hoist.specs.Choices.{body_at}
 use Rattle.sq_pipe.specs.Candidates.{is_spread}
 use Rattle.sq_pipe.specs.declared.marks.Flags.{Flags}

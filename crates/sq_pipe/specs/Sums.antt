@@ -4,9 +4,9 @@ use Rattle.std.specs.Prelude.{ℕ, ◌||◌, nat_lt, Bool, false, not, List, [],
 use Rattle.std.specs.List.{filter, range_with_len}
 use Rattle.sq_forms.specs.declared.form.Form.{Form}
 use Rattle.sq_spec.specs.declared.body.FormBody.{FormBody}
-use Rattle.sq_spec_laws.specs.Needs.{Ended}
-use Rattle.sq_homes.specs.declared.choice.Choice.{Choice}
-use Rattle.sq_homes.specs.Numbering.{left_by}
+use Rattle.sq_hoist.specs.SpecLaws.Needs.{Ended}
+use Rattle.sq_hoist.specs.Homes.declared.choice.Choice.{Choice}
+use Rattle.sq_hoist.specs.Homes.Numbering.{left_by}
 use Rattle.sq_pipe.specs.Greedy.{sizes_of}
 
 -- an array that isn't in place, or leaves a loop

@@ -5,9 +5,9 @@ ghost use Rattle.std.specs.List.{list_all};
 ghost use Rattle.sq_hoist.specs.Loops.{cut};
 ghost use Rattle.sq_pipe.specs.Candidates as spec;
 
-use sq_blocks::Argument;
 use sq_forms::call::is_written;
 use sq_hoist::{behind, front, shares};
+use sq_ir::sq_blocks::Argument;
 use sq_spec::CallInstance;
 
 fn is_held(leaves: &[u32], i: usize) -> bool

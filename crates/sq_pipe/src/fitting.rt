@@ -1,7 +1,7 @@
 //! Which loops are taken: in order, each for which all nodes still have room.
 
 ghost use Rattle.std.specs.Prelude.{◌≡◌, ◌+◌, [], slice_get, IfOk};
-ghost use Rattle.sq_spec_laws.specs.Needs as needs;
+ghost use Rattle.sq_hoist.specs.SpecLaws.Needs as needs;
 ghost use Rattle.sq_pipe.specs.Sums as sums;
 ghost use Rattle.sq_pipe.specs.Greedy as spec;
 
@@ -10,7 +10,7 @@ use crate::reach::set_flag;
 use crate::room::Room;
 use crate::sizes::plus;
 use sq_forms::{Caller, Form};
-use sq_homes::flag_at;
+use sq_hoist::sq_homes::flag_at;
 use sqlite_items::{Items, at};
 use std::alloc::{AllocError, Global};
 

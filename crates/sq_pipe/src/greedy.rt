@@ -1,7 +1,7 @@
 //! Which loops overlap their transfers.
 
 ghost use Rattle.std.specs.Prelude.{◌≡◌, ◌^◌, ◌∷◌, [], ◌++◌, get_or, IfOk, OnOk};
-ghost use Rattle.sq_homes.specs.Drafts as drafts;
+ghost use Rattle.sq_hoist.specs.Homes.Drafts as drafts;
 ghost use Rattle.sq_hoist.specs.Choices as hoist;
 ghost use Rattle.sq_pipe.specs.Runs as runs;
 ghost use Rattle.sq_pipe.specs.Greedy as spec;
@@ -12,7 +12,7 @@ use crate::loops::{Caller, push_all};
 use crate::marks::{least_room, marks_of, most_children};
 use crate::room::Room;
 use crate::sizes::{moved_bytes, own_bytes};
-use sq_homes::{Choice, choice_at, form_number};
+use sq_hoist::sq_homes::{Choice, choice_at, form_number};
 use sq_spec::{Body, FormBody, Resolved};
 use sqlite_items::{Items, at};
 use std::alloc::{AllocError, Global};

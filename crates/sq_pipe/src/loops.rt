@@ -3,16 +3,16 @@
 ghost use Rattle.std.specs.Prelude.{◌≡◌, ◌||◌, ◌++◌, nat_le, nat_lt, map, OnOk};
 ghost use Rattle.std.specs.List.{list_all};
 ghost use Rattle.std.specs.Option.{option_copied};
-ghost use Rattle.sq_homes.specs.Drafts.{choice_in};
-ghost use Rattle.sq_placed.specs.Tables.{is_beside};
-ghost use Rattle.sq_tables.specs.Loops as statements;
+ghost use Rattle.sq_hoist.specs.Homes.Drafts.{choice_in};
+ghost use Rattle.sq_hoist.specs.Placed.Tables.{is_beside};
+ghost use Rattle.sq_hoist.specs.Tables.Loops as statements;
 ghost use Rattle.sq_pipe.specs.Candidates as spec;
 
 use crate::ahead::are_all_ahead;
 use crate::candidate::Candidate;
-use sq_homes::Choice;
+use sq_hoist::sq_homes::Choice;
+use sq_hoist::sq_tables::{any_lower, any_same};
 use sq_spec::{CallInstance, LoopKind, Statement};
-use sq_tables::{any_lower, any_same};
 use sq_text::Place;
 use sqlite_items::{Items, at};
 use std::alloc::AllocError;

@@ -2,13 +2,13 @@
 
 ghost use Rattle.std.specs.Prelude.{◌≡◌, ◌∷◌, [], ◌++◌, get_or, take, drop, IfOk, OnOk};
 ghost use Rattle.sq_ir.specs.declared.plan.Note.TheVariants as note;
-ghost use Rattle.sq_homes.specs.Drafts as drafts;
+ghost use Rattle.sq_hoist.specs.Homes.Drafts as drafts;
 ghost use Rattle.sq_hoist.specs.Notes as hoist;
 ghost use Rattle.sq_pipe.specs.Notes as spec;
 
 use crate::candidate::Candidate;
+use sq_hoist::sq_homes::{flag_at, name_at};
 use sq_hoist::{Site, push_site};
-use sq_homes::{flag_at, name_at};
 use sq_ir::{Note, Notes};
 use sq_spec::Resolved;
 use sq_text::Place;

@@ -1,7 +1,7 @@
 //! Loops whose transfers overlap.
 
 ghost use Rattle.std.specs.Prelude.{◌≡◌, IfOk};
-ghost use Rattle.sq_homes.specs.Drafts.{IsDraftOf};
+ghost use Rattle.sq_hoist.specs.Homes.Drafts.{IsDraftOf};
 ghost use Rattle.sq_hoist.specs.Choices as hoist;
 ghost use Rattle.sq_pipe.specs.Greedy as spec;
 ghost use Rattle.sq_pipe.specs.Notes as notes;
@@ -9,8 +9,8 @@ ghost use Rattle.sq_pipe.specs.Notes as notes;
 use crate::choices::overlaps_of;
 use crate::greedy::taken_of;
 use crate::notes::merged;
+use sq_hoist::sq_homes::{Choice, draft_of};
 use sq_hoist::{Site, choices_of, sites_of};
-use sq_homes::{Choice, draft_of};
 use sq_ir::{Draft, Notes};
 use sq_spec::Resolved;
 use sqlite_items::Items;

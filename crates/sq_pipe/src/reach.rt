@@ -2,7 +2,7 @@
 
 ghost use Rattle.std.specs.Prelude.{◌≡◌, ◌+◌, ◌*◌, ◌<◌, ◌≤◌, true, false, slice_get, slice_set, get_or, replicate};
 ghost use Rattle.std.specs.Prelude.{map, IfOk, OnOk};
-ghost use Rattle.sq_tables.specs.Loops as statements;
+ghost use Rattle.sq_hoist.specs.Tables.Loops as statements;
 ghost use Rattle.sq_pipe.specs.Runs as spec;
 
 use crate::loops::{either, is_spread};

@@ -3,11 +3,11 @@ use Rattle.std.proofs.Common.{◌≡◌, ℕ, zero, suc, pos, true, false, [], �
 use Rattle.std.specs.Prelude.{◌+◌, ◌*◌}
 use Rattle.sq_num.specs.declared.Elem.TheVariants.{Int}
 use Rattle.sq_text.specs.declared.spread.SpreadRule.TheVariants.{Cyclic}
-use Rattle.sq_rect.specs.declared.view.View.{View}
-use Rattle.sq_ast.specs.declared.program.Mode.{Mode}
-use Rattle.sq_ast.specs.declared.program.Mode.TheVariants.{Input, Output}
-use Rattle.sq_leaf.specs.declared.shape.Shape.{Shape}
-use Rattle.sq_leaf.specs.Leaf.{Leaf as LeafSource}
+use Rattle.sq_ir.specs.Rect.declared.view.View.{View}
+use Rattle.sq_ir.specs.Ast.declared.program.Mode.{Mode}
+use Rattle.sq_ir.specs.Ast.declared.program.Mode.TheVariants.{Input, Output}
+use Rattle.sq_ir.specs.Leaf.declared.shape.Shape.{Shape}
+use Rattle.sq_ir.specs.Leaf.Leaf.{Leaf as LeafSource}
 use Rattle.sq_ir.specs.Tree.{Act, Seq, Par, Within}
 use Rattle.sq_ir.specs.Events.{Spot, Copy, Fill, Leaf as LeafEvent}
 use Rattle.sq_ir.specs.Written.{Setting, PlanTree, seq_of, par_of, scoped}

@@ -4,8 +4,8 @@ use Rattle.std.proofs.Common.{get_or, slice_get, Option, Some, None, refl, sym, 
 use Rattle.sq_num.specs.declared.RedOp.{RedOp}
 use Rattle.sq_text.specs.declared.place.Place.{Place}
 use Rattle.sq_text.specs.declared.spread.SpreadRule.{SpreadRule}
-use Rattle.sq_leaf.specs.declared.shape.Shape.{Shape}
-use Rattle.sq_blocks.specs.declared.argument.Argument.{Argument}
+use Rattle.sq_ir.specs.Leaf.declared.shape.Shape.{Shape}
+use Rattle.sq_ir.specs.Blocks.declared.argument.Argument.{Argument}
 use Rattle.sq_spec.specs.declared.statement.LoopKind.{LoopKind}
 use Rattle.sq_spec.specs.declared.statement.LoopKind.TheVariants as loop_kind
 use Rattle.sq_spec.specs.declared.statement.CallInstance.{CallInstance}
@@ -16,8 +16,8 @@ use Rattle.sq_spec.specs.declared.statement.Statement.TheFolds.{ind-Statement, m
 use Rattle.sq_spec.specs.declared.body.Body.{Body}
 use Rattle.sq_spec.specs.declared.body.Body.TheVariants as body
 use Rattle.sq_spec.specs.declared.body.FormBody.{FormBody}
-use Rattle.sq_work.specs.Work as work
-use Rattle.sq_work.specs.Work.{Work}
+use Rattle.sq_spec.specs.Work.Work as work
+use Rattle.sq_spec.specs.Work.Work.{Work}
 use Rattle.sq_spec.specs.Works.{map_work}
 use Rattle.sq_spec.specs.StatementsWork.{row_work, all_work, statement_work}
 use Rattle.sq_spec.specs.Bodies.{running, numbered_work}

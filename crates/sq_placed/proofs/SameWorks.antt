@@ -3,16 +3,16 @@ use Rattle.std.proofs.Common.{◌≡◌, ℕ, zero, suc, ◌<◌, Bool, true, �
 use Rattle.std.specs.Prelude.{nat_eq, ◌&&◌, Result, Ok}
 use Rattle.std.specs.List.{list_any}
 use mathlib.Core.Path.{fun_ext}
-use Rattle.sq_leaf.specs.declared.trap.Trap.{Trap}
-use Rattle.sq_leaf.specs.Source.{Arrays}
-use Rattle.sq_ast.specs.Modes.{is_written}
-use Rattle.sq_blocks.specs.declared.argument.Argument.{Argument}
-use Rattle.sq_work.specs.declared.reduction.Reduction.{Reduction}
-use Rattle.sq_work.specs.Work.{Work, Nothing, Then, Each, AtOnce, Gathers, Call, Leaf}
-use Rattle.sq_work.specs.Meaning.{Outcome, and_then, at_entry, at_return, has, any_below, accesses, writes}
-use Rattle.sq_work.specs.Meaning.{in_turn, with_turn, apart, with_writes, with_reduced, with_identity, leaf_outcome}
-use Rattle.sq_work.specs.Meaning.{meaning}
-use Rattle.sq_work.specs.InTurn.{AreApart, none_aside, its_array}
+use Rattle.sq_ir.specs.Leaf.declared.trap.Trap.{Trap}
+use Rattle.sq_ir.specs.Leaf.Source.{Arrays}
+use Rattle.sq_ir.specs.Ast.Modes.{is_written}
+use Rattle.sq_ir.specs.Blocks.declared.argument.Argument.{Argument}
+use Rattle.sq_spec.specs.Work.declared.reduction.Reduction.{Reduction}
+use Rattle.sq_spec.specs.Work.Work.{Work, Nothing, Then, Each, AtOnce, Gathers, Call, Leaf}
+use Rattle.sq_spec.specs.Work.Meaning.{Outcome, and_then, at_entry, at_return, has, any_below, accesses, writes}
+use Rattle.sq_spec.specs.Work.Meaning.{in_turn, with_turn, apart, with_writes, with_reduced, with_identity, leaf_outcome}
+use Rattle.sq_spec.specs.Work.Meaning.{meaning}
+use Rattle.sq_spec.specs.Work.InTurn.{AreApart, none_aside, its_array}
 use Rattle.sq_placed.specs.SameWorks.{IsSameWork, SameWorksMean, SameWorksRace}
 
 -- ---- what they access

@@ -1,9 +1,9 @@
 -- What the placed source means.
 use Rattle.std.specs.Prelude.{ℕ, false, List}
-use Rattle.sq_blocks.specs.declared.argument.Argument.{Argument}
+use Rattle.sq_ir.specs.Blocks.declared.argument.Argument.{Argument}
 use Rattle.sq_spec.specs.declared.body.FormBody.{FormBody}
 use Rattle.sq_spec.specs.Bodies.{numbered_work}
-use Rattle.sq_work.specs.Work as work
+use Rattle.sq_spec.specs.Work.Work as work
 use Rattle.sq_placed.specs.declared.home.Homes.{Homes}
 use Rattle.sq_placed.specs.Placed.{plain}
 use Rattle.sq_placed.specs.Tables.{entry_placed}

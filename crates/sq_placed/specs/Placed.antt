@@ -4,12 +4,12 @@ use Rattle.std.specs.Prelude.{ℕ, Bool, List, map, Option, Some, None}
 use Rattle.sq_num.specs.declared.RedOp.{RedOp}
 use Rattle.sq_text.specs.declared.place.Place.{Place}
 use Rattle.sq_text.specs.declared.spread.SpreadRule.{SpreadRule}
-use Rattle.sq_leaf.specs.declared.shape.Shape.{Shape}
-use Rattle.sq_leaf.specs.Leaf.{Leaf as LeafSource, leaf_value}
-use Rattle.sq_blocks.specs.declared.argument.Argument.{Argument}
-use Rattle.sq_work.specs.declared.reduction.Reduction.{Reduction}
-use Rattle.sq_work.specs.Work as work
-use Rattle.sq_work.specs.Work.{Work}
+use Rattle.sq_ir.specs.Leaf.declared.shape.Shape.{Shape}
+use Rattle.sq_ir.specs.Leaf.Leaf.{Leaf as LeafSource, leaf_value}
+use Rattle.sq_ir.specs.Blocks.declared.argument.Argument.{Argument}
+use Rattle.sq_spec.specs.Work.declared.reduction.Reduction.{Reduction}
+use Rattle.sq_spec.specs.Work.Work as work
+use Rattle.sq_spec.specs.Work.Work.{Work}
 use Rattle.sq_placed.specs.declared.home.Home.{Home}
 
 -- A parameter at one call: the argument, by which operator its array is reduced into if it is, and the shape and the

@@ -1,9 +1,9 @@
 -- Works that are the same in all iterations that there are.
 use Rattle.std.specs.Prelude.{◌≡◌, ℕ, ◌<◌}
-use Rattle.sq_leaf.specs.Source.{Arrays}
-use Rattle.sq_work.specs.Work.{Work, Nothing, Then, Each, AtOnce, Gathers, Call, Leaf}
-use Rattle.sq_work.specs.Meaning.{meaning}
-use Rattle.sq_work.specs.InTurn.{IsRaceFree}
+use Rattle.sq_ir.specs.Leaf.Source.{Arrays}
+use Rattle.sq_spec.specs.Work.Work.{Work, Nothing, Then, Each, AtOnce, Gathers, Call, Leaf}
+use Rattle.sq_spec.specs.Work.Meaning.{meaning}
+use Rattle.sq_spec.specs.Work.InTurn.{IsRaceFree}
 
 -- behind its count a map's iterations may differ
 abbrev pub IsSameWork : Work → Work → Type 0

@@ -2,10 +2,10 @@
 use Rattle.std.specs.Prelude.{ℕ, ◌*◌, ◌/◌, ◌%◌, List, [], ◌∷◌, map, slice_get, Option, Some, None}
 use Rattle.sq_num.specs.Elements.{width}
 use Rattle.sq_text.specs.declared.place.Span.{Span}
-use Rattle.sq_rect.specs.declared.view.View.{View}
-use Rattle.sq_rect.specs.Extents.{last_of, row_major}
-use Rattle.sq_rect.specs.Placing.{place_of}
-use Rattle.sq_leaf.specs.declared.shape.Shape.{Shape}
+use Rattle.sq_ir.specs.Rect.declared.view.View.{View}
+use Rattle.sq_ir.specs.Rect.Extents.{last_of, row_major}
+use Rattle.sq_ir.specs.Rect.Placing.{place_of}
+use Rattle.sq_ir.specs.Leaf.declared.shape.Shape.{Shape}
 use Rattle.sq_ir.specs.Events.{Spot}
 use Rattle.sq_ir.specs.Written.{Setting}
 use Rattle.sq_placed.specs.declared.home.Home.{Home}

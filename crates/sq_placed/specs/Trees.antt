@@ -6,9 +6,9 @@ use Rattle.sq_num.specs.Reductions.{identity}
 use Rattle.sq_text.specs.declared.place.Place.{Place}
 use Rattle.sq_text.specs.declared.spread.SpreadRule.{SpreadRule}
 use Rattle.sq_text.specs.Spreading.{child_of, iterations_at}
-use Rattle.sq_rect.specs.Extents.{last_of, rows_of}
-use Rattle.sq_ast.specs.declared.program.Mode.{Mode}
-use Rattle.sq_ast.specs.declared.program.Mode.TheVariants.{Input, Output, Both}
+use Rattle.sq_ir.specs.Rect.Extents.{last_of, rows_of}
+use Rattle.sq_ir.specs.Ast.declared.program.Mode.{Mode}
+use Rattle.sq_ir.specs.Ast.declared.program.Mode.TheVariants.{Input, Output, Both}
 use Rattle.sq_ir.specs.Tree.{Skip, Act, seq, par}
 use Rattle.sq_ir.specs.Events.{Copy, Fill, Accumulate, Leaf as LeafEvent}
 use Rattle.sq_ir.specs.Written.{Setting, PlanTree, seq_of, par_of, scoped}

@@ -5,3 +5,4 @@ mod home;
 pub mod laws;
 
 pub use home::{Home, Homes};
+pub use sq_spec;

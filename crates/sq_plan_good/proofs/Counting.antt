@@ -22,11 +22,11 @@ use Rattle.sq_placed.specs.Tables.{row_form}
 use Rattle.sq_placed.specs.Pipes.{CallLoop, CallLoops, all_loops, loop_round, call_loops, call_loops_of}
 use Rattle.sq_placed.proofs.Pipes.{loops_call, loops_map}
 use Rattle.sq_term.specs.Terms.{body_in, homes_in}
-use Rattle.sq_term_laws.specs.Fits.{Bounds, AskedOfStatement, HaveCounts, all_parts, Tabled, TabledBody}
-use Rattle.sq_term_laws.proofs.Chains.{tabled_map}
-use Rattle.sq_homes.specs.declared.choice.Choice.{Choice}
-use Rattle.sq_homes.specs.Drafts.{bodies_of, homes_of}
-use Rattle.sq_homes.specs.Begun.{is_spread}
+use Rattle.sq_draft_laws.specs.TermLaws.Fits.{Bounds, AskedOfStatement, HaveCounts, all_parts, Tabled, TabledBody}
+use Rattle.sq_draft_laws.proofs.TermLaws.Chains.{tabled_map}
+use Rattle.sq_pipe.specs.Homes.declared.choice.Choice.{Choice}
+use Rattle.sq_pipe.specs.Homes.Drafts.{bodies_of, homes_of}
+use Rattle.sq_pipe.specs.Homes.Begun.{is_spread}
 use Rattle.sq_draft_laws.specs.Choosing.{Walked, MayBeChosen}
 use Rattle.sq_draft_laws.specs.Given.{level_at}
 use Rattle.sq_draft_laws.specs.Drafts.{limits}

@@ -18,15 +18,15 @@ use Rattle.sq_placed.specs.declared.home.Home.TheVariants.{InPlace, Held}
 use Rattle.sq_placed.specs.declared.home.Homes.{Homes}
 use Rattle.sq_placed.specs.Tables.{locals_of}
 use Rattle.sq_placed.specs.Trees.{local_buffers}
-use Rattle.sq_term_laws.specs.Orders.{EachOf}
-use Rattle.sq_term_laws.specs.Overlapping.{IsSuited}
+use Rattle.sq_draft_laws.specs.TermLaws.Orders.{EachOf}
+use Rattle.sq_draft_laws.specs.TermLaws.Overlapping.{IsSuited}
 use Rattle.sq_term.specs.Terms.{buffers_from, body_in, homes_in, term_of, entry_term, entry_context, entry_row}
 use Rattle.sq_term.proofs.Whole.{heads_refl}
-use Rattle.sq_term_laws.specs.Fits.{Bounds}
-use Rattle.sq_term_laws.specs.Leaves.{loops_left}
-use Rattle.sq_homes.specs.declared.choice.Choice.{Choice}
-use Rattle.sq_homes.specs.Numbering.{left_by}
-use Rattle.sq_homes.specs.Drafts.{bodies_of, homes_of, entry_of, args_of, choice_in}
+use Rattle.sq_draft_laws.specs.TermLaws.Fits.{Bounds}
+use Rattle.sq_draft_laws.specs.TermLaws.Leaves.{loops_left}
+use Rattle.sq_pipe.specs.Homes.declared.choice.Choice.{Choice}
+use Rattle.sq_pipe.specs.Homes.Numbering.{left_by}
+use Rattle.sq_pipe.specs.Homes.Drafts.{bodies_of, homes_of, entry_of, args_of, choice_in}
 use Rattle.sq_draft_laws.specs.Given.{level_at}
 use Rattle.sq_draft_laws.specs.Choosing.{Walked, MayBeChosen, setting_of}
 use Rattle.sq_draft_laws.proofs.Hoisting.{no_item, no_homes_at, chosen_stand, none_pipes}

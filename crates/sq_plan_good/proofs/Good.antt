@@ -40,30 +40,30 @@ use Rattle.sq_nests.specs.Drafts.{whole, IsPlaceable, KeepsRoom}
 use Rattle.sq_placed.specs.declared.home.Homes.{Homes}
 use Rattle.sq_placed.specs.Placed.{Placed, PlacedArg, PlacedCall, plain}
 use Rattle.sq_placed.specs.Tables.{placed_args, placed_of, entry_placed, entry_call_placed}
-use Rattle.sq_plan_laws.specs.PlacedEntry.{EntryStowed}
-use Rattle.sq_plan_laws.specs.LeafLaws.{codes_of}
-use Rattle.sq_plan_laws.specs.OnBytes.{work}
+use Rattle.sq_draft_laws.specs.PlanLaws.PlacedEntry.{EntryStowed}
+use Rattle.sq_draft_laws.specs.PlanLaws.LeafLaws.{codes_of}
+use Rattle.sq_draft_laws.specs.PlanLaws.OnBytes.{work}
 use Rattle.sq_term.specs.Terms.{body_in, homes_in, entry_term, buffer_or}
 use Rattle.sq_term.specs.Stands.{AreLeveled}
-use Rattle.sq_term_laws.specs.Fits.{AreTabled}
-use Rattle.sq_plan_laws.specs.Seated.{at_node}
-use Rattle.sq_plan_laws.specs.Entry.{plan_tree, form_at, held_in, IsPlan, EndsSo}
-use Rattle.sq_plan_laws.specs.Room.{IsRoomy, HasRoom}
-use Rattle.sq_term_laws.specs.Held.{AreHeldInside}
-use Rattle.sq_program_laws.specs.Rows.{FormsFit}
-use Rattle.sq_program_laws.proofs.Facts.{passed_at}
-use Rattle.sq_program_laws.specs.Homes as fit
-use Rattle.sq_program_laws.specs.Homes.{mays_of}
-use Rattle.sq_plan_laws.specs.Rooms as rooms
-use Rattle.sq_program_laws.specs.Entry.{EntryFacts, ReadCodes, AreWhole, IsWhole}
-use Rattle.sq_program_laws.specs.Entry.{entry_shapes, anything}
+use Rattle.sq_draft_laws.specs.TermLaws.Fits.{AreTabled}
+use Rattle.sq_draft_laws.specs.PlanLaws.Seated.{at_node}
+use Rattle.sq_draft_laws.specs.PlanLaws.Entry.{plan_tree, form_at, held_in, IsPlan, EndsSo}
+use Rattle.sq_draft_laws.specs.PlanLaws.Room.{IsRoomy, HasRoom}
+use Rattle.sq_draft_laws.specs.TermLaws.Held.{AreHeldInside}
+use Rattle.sq_draft_laws.specs.ProgramLaws.Rows.{FormsFit}
+use Rattle.sq_draft_laws.proofs.ProgramLaws.Facts.{passed_at}
+use Rattle.sq_draft_laws.specs.ProgramLaws.Homes as fit
+use Rattle.sq_draft_laws.specs.ProgramLaws.Homes.{mays_of}
+use Rattle.sq_draft_laws.specs.PlanLaws.Rooms as rooms
+use Rattle.sq_draft_laws.specs.ProgramLaws.Entry.{EntryFacts, ReadCodes, AreWhole, IsWhole}
+use Rattle.sq_draft_laws.specs.ProgramLaws.Entry.{entry_shapes, anything}
 use Rattle.sq_draft_laws.specs.AtLevels.{IsAtLevel}
 use Rattle.sq_draft_laws.specs.Laws.{HasPath}
 use Rattle.sq_draft_laws.specs.Opened.{WalkedIsThere}
 use Rattle.sq_draft_laws.specs.Scope.{HomesAreNear}
 use Rattle.sq_store.specs.Laws.{OffsetsAre, OffsetsAreAsMany}
-use Rattle.sq_homes.specs.declared.choice.Choice.{Choice}
-use Rattle.sq_homes.specs.Drafts.{bodies_of, homes_of, args_of, buffers_of, leaves_of, entry_of, program_term, IsDraftOf}
+use Rattle.sq_pipe.specs.Homes.declared.choice.Choice.{Choice}
+use Rattle.sq_pipe.specs.Homes.Drafts.{bodies_of, homes_of, args_of, buffers_of, leaves_of, entry_of, program_term, IsDraftOf}
 use Rattle.sq_draft_laws.specs.Given.{level_at}
 use Rattle.sq_work.specs.Work.{Work}
 use Rattle.sq_placed.specs.SameWorks.{IsSameWork}

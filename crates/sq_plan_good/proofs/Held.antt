@@ -12,7 +12,7 @@ use Rattle.sq_placed.specs.declared.home.Home.TheVariants.{InPlace, Own, Held, T
 use Rattle.sq_placed.specs.Tables.{leaves_loop, leaving_args}
 use Rattle.sq_placed.specs.Trees.{buffer_of, held_of, twin_of}
 use Rattle.sq_term.specs.Terms.{buffers_from, set_buffers_from, leaving_buffers}
-use Rattle.sq_term_laws.specs.Leaves.{loops_left}
+use Rattle.sq_draft_laws.specs.TermLaws.Leaves.{loops_left}
 use Rattle.sq_plan_good.specs.Loops.{standing, standing_from}
 
 same_number : (m n : ℕ) → (m == n) ≡ true → m ≡ n

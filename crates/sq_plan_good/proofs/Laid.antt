@@ -46,13 +46,13 @@ use Rattle.sq_term.proofs.Numbers.{count_is, counted, constant, const_is}
 use Rattle.sq_term.proofs.Lanes.{lane_many, lane_length}
 use Rattle.sq_term.proofs.Chained.{chains_built}
 use Rattle.sq_term.proofs.Opened.{built_call, built_map}
-use Rattle.sq_term_laws.specs.Fits.{Bounds, AskedOfStatement, tabled_step, HaveCounts, all_parts, Tabled, TabledBody}
-use Rattle.sq_term_laws.specs.Leaves.{Left, left_of, HasTurns, RowLeaves, AskedInLoops, each_in, loops_in}
-use Rattle.sq_term_laws.specs.Leaves.{Leaves, BodyLeaves, joined_calls, by_call, TakeSame, AreSame, BodySame}
-use Rattle.sq_term_laws.proofs.Chains.{tabled_call, tabled_map, leaves_call, leaves_map, by_call_map}
+use Rattle.sq_draft_laws.specs.TermLaws.Fits.{Bounds, AskedOfStatement, tabled_step, HaveCounts, all_parts, Tabled, TabledBody}
+use Rattle.sq_draft_laws.specs.TermLaws.Leaves.{Left, left_of, HasTurns, RowLeaves, AskedInLoops, each_in, loops_in}
+use Rattle.sq_draft_laws.specs.TermLaws.Leaves.{Leaves, BodyLeaves, joined_calls, by_call, TakeSame, AreSame, BodySame}
+use Rattle.sq_draft_laws.proofs.TermLaws.Chains.{tabled_call, tabled_map, leaves_call, leaves_map, by_call_map}
 use Rattle.sq_draft_laws.proofs.Standing.{map_length}
 use Rattle.sq_draft_laws.proofs.Hoisting.{at_index}
-use Rattle.sq_homes.specs.Begun.{is_spread, child_in}
+use Rattle.sq_pipe.specs.Homes.Begun.{is_spread, child_in}
 use Rattle.sq_plan_good.specs.Sums.{greatest, here}
 use Rattle.sq_plan_good.specs.Loops.{Starts, Once, StartsPart, any_lower, any_same, starts_in, once, in_lanes, map_starts}
 use Rattle.sq_plan_good.specs.Loops.{doubled, doubled_in, starts_by, starts_of, standing_from, brought_by, both_sets}

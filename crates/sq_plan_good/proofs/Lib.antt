@@ -23,3 +23,6 @@ pub mod Counting
 pub mod Few
 pub mod Small
 pub mod Good
+-- Lemmas of crates below, passed on.
+pub use Rattle.sq_draft_laws.proofs as DraftLaws
+pub use Rattle.sq_draft_laws.proofs.ProgramLaws

@@ -45,8 +45,8 @@ use Rattle.sq_spec_laws.specs.Needs.{Turn, Reached, Reaching, reached_by, total_
 use Rattle.sq_spec_laws.specs.Needs.{reaching, frame_at}
 use Rattle.sq_spec_laws.proofs.LevelsHold.{reaching_call, reaching_map}
 use Rattle.sq_placed.specs.Tables as placing
-use Rattle.sq_homes.specs.Begun as tables
-use Rattle.sq_homes.specs.Begun.{Begun, BegunPart, row_begun, is_spread}
+use Rattle.sq_pipe.specs.Homes.Begun as tables
+use Rattle.sq_pipe.specs.Homes.Begun.{Begun, BegunPart, row_begun, is_spread}
 use Rattle.sq_plan_good.proofs.Terms.{begun_call, begun_map}
 
 -- ---- small things

@@ -18,8 +18,8 @@ use Rattle.sq_placed.specs.Tables.{Chain, one_more}
 use Rattle.sq_term.specs.declared.context.Context.{Context}
 use Rattle.sq_term.specs.Terms.{TermPart, first_num, statement_term}
 use Rattle.sq_term.proofs.Opened.{built_call, built_map}
-use Rattle.sq_term_laws.specs.Leaves.{Left, RowLeaves, AskedInLoops, Leaves, by_call}
-use Rattle.sq_term_laws.proofs.Chains.{leaves_call, leaves_map, by_call_call, by_call_map}
+use Rattle.sq_draft_laws.specs.TermLaws.Leaves.{Left, RowLeaves, AskedInLoops, Leaves, by_call}
+use Rattle.sq_draft_laws.proofs.TermLaws.Chains.{leaves_call, leaves_map, by_call_call, by_call_map}
 
 -- A lower call with these rows in n plain loops, whose counts are the first n of all, the innermost loop's first.
 pub data InLoops (times : List CallInstance) (all : List (List ℕ)) : ℕ → Statement → Type 0 where

@@ -30,10 +30,10 @@ use Rattle.sq_placed.specs.declared.home.Homes.{Homes}
 use Rattle.sq_placed.specs.Tables.{placed_locals, locals_of}
 use Rattle.sq_placed.specs.Trees.{local_buffers}
 use Rattle.sq_term.specs.Terms.{buffer_or, body_in, homes_in}
-use Rattle.sq_plan_laws.specs.Buffers.{home_buffer}
-use Rattle.sq_homes.specs.declared.choice.Choice.{Choice}
-use Rattle.sq_homes.specs.Numbering.{left_by, standing, shape_size, home_of, local_base, locals_count}
-use Rattle.sq_homes.specs.Drafts.{bodies_of, homes_of, buffers_of, buffer_at, choice_in, entry_of}
+use Rattle.sq_draft_laws.specs.PlanLaws.Buffers.{home_buffer}
+use Rattle.sq_pipe.specs.Homes.declared.choice.Choice.{Choice}
+use Rattle.sq_pipe.specs.Homes.Numbering.{left_by, standing, shape_size, home_of, local_base, locals_count}
+use Rattle.sq_pipe.specs.Homes.Drafts.{bodies_of, homes_of, buffers_of, buffer_at, choice_in, entry_of}
 use Rattle.sq_draft_laws.specs.Choosing.{Walked, setting_of}
 use Rattle.sq_draft_laws.proofs.Entry.{entries_have_buffers}
 use Rattle.sq_draft_laws.proofs.Forms.{body_at, body_there, resolving, run_of}
@@ -41,8 +41,8 @@ use Rattle.sq_draft_laws.proofs.Found.{found_plain}
 use Rattle.sq_draft_laws.proofs.Hoisted.{IsForm, is_form, params_many, param_is, param_or}
 use Rattle.sq_draft_laws.proofs.Numbers.{first_of}
 use Rattle.sq_draft_laws.proofs.ArrayPlaces.{HomeIs, stays, owns, owns_two, leaves, home_by, StandsAt, param_stands, local_stands}
-use Rattle.sq_program_laws.proofs.RowsHold.{arrays_are}
-use Rattle.sq_program_laws.proofs.Shapes.{param_shape}
+use Rattle.sq_draft_laws.proofs.ProgramLaws.RowsHold.{arrays_are}
+use Rattle.sq_draft_laws.proofs.ProgramLaws.Shapes.{param_shape}
 use Rattle.sq_plan_good.specs.Needed.{KeepInPlace}
 use Rattle.sq_plan_good.specs.Sums.{either_buffer, params_from, brought}
 

@@ -28,10 +28,10 @@ use Rattle.sq_spec_laws.specs.Needs.{rounded, size_of, params_size, locals_size,
 use Rattle.sq_spec_laws.specs.Needs.{Ended, end_at, callers_end, end_of, ends_from, ends, EndsAt}
 use Rattle.sq_draft_laws.specs.Choosing.{Walked}
 use Rattle.sq_draft_laws.proofs.Forms.{resolving, run_of}
-use Rattle.sq_program_laws.specs.Sizes.{IsSized}
-use Rattle.sq_program_laws.proofs.RowsHold.{arrays_are}
-use Rattle.sq_program_laws.proofs.Shapes.{param_shape}
-use Rattle.sq_program_laws.proofs.Whole.{arrays_are_sized}
+use Rattle.sq_draft_laws.specs.ProgramLaws.Sizes.{IsSized}
+use Rattle.sq_draft_laws.proofs.ProgramLaws.RowsHold.{arrays_are}
+use Rattle.sq_draft_laws.proofs.ProgramLaws.Shapes.{param_shape}
+use Rattle.sq_draft_laws.proofs.ProgramLaws.Whole.{arrays_are_sized}
 use Rattle.sq_plan_good.specs.Needed.{NeedsAreSmall}
 use Rattle.sq_plan_good.proofs.Few.{few_params, few_locals, params_add}
 

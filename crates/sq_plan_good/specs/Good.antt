@@ -20,21 +20,21 @@ use Rattle.sq_ir.specs.declared.plan.Plan.{Plan}
 use Rattle.sq_ir.specs.declared.plan.PlanNode.{PlanNode}
 use Rattle.sq_cells.specs.Cells.{spot}
 use Rattle.sq_cells.specs.Alike.{Weight, leaf_count}
-use Rattle.sq_plan_laws.specs.Codes.{loaded}
+use Rattle.sq_draft_laws.specs.PlanLaws.Codes.{loaded}
 use Rattle.sq_term.specs.Terms.{body_in, homes_in}
-use Rattle.sq_plan_laws.specs.Entry.{held_in, EndsSo}
-use Rattle.sq_program_laws.specs.Entry.{entry_shapes}
-use Rattle.sq_program_laws.specs.Held.{HoldsFit}
-use Rattle.sq_program_laws.specs.Piped.{PipesFit}
-use Rattle.sq_program_laws.specs.LeafCalls.{form_calls}
+use Rattle.sq_draft_laws.specs.PlanLaws.Entry.{held_in, EndsSo}
+use Rattle.sq_draft_laws.specs.ProgramLaws.Entry.{entry_shapes}
+use Rattle.sq_draft_laws.specs.ProgramLaws.Held.{HoldsFit}
+use Rattle.sq_draft_laws.specs.ProgramLaws.Piped.{PipesFit}
+use Rattle.sq_draft_laws.specs.ProgramLaws.LeafCalls.{form_calls}
 use Rattle.sq_nests.specs.Nests.{named_in}
 use Rattle.sq_nests.specs.Stacks.{capped, total, of_level}
 use Rattle.sq_nests.specs.Drafts.{whole, size_in, IsPlaceable, KeepsRoom}
-use Rattle.sq_term_laws.specs.Callers.{before}
+use Rattle.sq_draft_laws.specs.TermLaws.Callers.{before}
 use Rattle.sq_store.specs.Named.{EachNamed}
 use Rattle.sq_store.specs.Place.{IsPlaced}
-use Rattle.sq_homes.specs.declared.choice.Choice.{Choice}
-use Rattle.sq_homes.specs.Drafts.{bodies_of, homes_of, args_of, IsDraftOf}
+use Rattle.sq_pipe.specs.Homes.declared.choice.Choice.{Choice}
+use Rattle.sq_pipe.specs.Homes.Drafts.{bodies_of, homes_of, args_of, IsDraftOf}
 use Rattle.sq_draft_laws.specs.Given.{level_at}
 use Rattle.sq_draft_laws.specs.Choosing.{MayBeChosen, AreMemories}
 use Rattle.sq_draft_laws.specs.Numbers.{HaveNumbers}

@@ -1,14 +1,14 @@
 -- The laws of which the plan of a program's draft is good.
 use Rattle.sq_work.specs.InTurn.{RaceFreeIsSerial}
 use Rattle.sq_spec.specs.Numbered.{TablesMeanProgram, TablesAreRaceFree}
-use Rattle.sq_plan_laws.specs.Entry.{PlansAreSafe}
-use Rattle.sq_plan_laws.specs.LeafCalls.{PlansCount}
-use Rattle.sq_plan_laws.specs.Room.{PlansInside}
-use Rattle.sq_program_laws.specs.Laws.{ProgramsFit}
-use Rattle.sq_plan_laws.specs.Rooms.{RoomIsStowed}
-use Rattle.sq_program_laws.specs.Entry.{EntriesSit, EntriesArePlans, EntriesFollow}
-use Rattle.sq_program_laws.specs.LeafCalls.{CallsAreOfTables}
-use Rattle.sq_program_laws.specs.Written.{PlansAreWritten}
+use Rattle.sq_draft_laws.specs.PlanLaws.Entry.{PlansAreSafe}
+use Rattle.sq_draft_laws.specs.PlanLaws.LeafCalls.{PlansCount}
+use Rattle.sq_draft_laws.specs.PlanLaws.Room.{PlansInside}
+use Rattle.sq_draft_laws.specs.ProgramLaws.Laws.{ProgramsFit}
+use Rattle.sq_draft_laws.specs.PlanLaws.Rooms.{RoomIsStowed}
+use Rattle.sq_draft_laws.specs.ProgramLaws.Entry.{EntriesSit, EntriesArePlans, EntriesFollow}
+use Rattle.sq_draft_laws.specs.ProgramLaws.LeafCalls.{CallsAreOfTables}
+use Rattle.sq_draft_laws.specs.ProgramLaws.Written.{PlansAreWritten}
 use Rattle.sq_draft_laws.specs.AtLevels.{LeavesAreAtLevels}
 use Rattle.sq_draft_laws.specs.Laws.{FormsAreNear, PathsAreShort, PlansAreWellFormed}
 use Rattle.sq_draft_laws.specs.Given.{HomesAreLeveled}

@@ -9,10 +9,17 @@ ghost use Rattle.sq_plan_good.specs.Needed.{NeedsAreSums, SumsAreNeeds, NeedsAre
 ghost use Rattle.sq_plan_good.specs.Room.{SumsFit, LoopsAreBusy, CallsBring, EndsAreTops};
 ghost use Rattle.sq_plan_good.specs.Sums.{SumsAreOfCalls};
 
+pub use sq_draft_laws;
 use sq_draft_laws::laws::{
     bodies_are_tables, buffers_have_their_levels, chosen_forms_stand, leaves_are_short,
     leaves_of_drafts_stand, placed_is_program, resolved_programs_were_walked,
     terms_are_those_of_entries,
+};
+use sq_draft_laws::sq_plan_laws::{plans_are_safe, plans_count, plans_inside, room_is_stowed};
+pub use sq_draft_laws::sq_program_laws;
+use sq_draft_laws::sq_program_laws::{
+    calls_are_of_tables, entries_are_plans, entries_follow, entries_sit, plans_are_written,
+    programs_fit,
 };
 use sq_draft_laws::{
     drafts_are_roomy, drafts_are_stacked_by_forms, drafts_are_tabled, drafts_begin_at_root,
@@ -21,11 +28,6 @@ use sq_draft_laws::{
     plans_are_well_formed,
 };
 use sq_placed::laws::{same_works_mean, same_works_race};
-use sq_plan_laws::{plans_are_safe, plans_count, plans_inside, room_is_stowed};
-use sq_program_laws::{
-    calls_are_of_tables, entries_are_plans, entries_follow, entries_sit, plans_are_written,
-    programs_fit,
-};
 use sq_spec::meaning::{tables_are_free_of_races, tables_mean_the_program};
 use sq_store::laws::the_walk_lays_buffers;
 use sq_work::laws::race_free_maps_are_serial;

@@ -13,7 +13,7 @@ use Rattle.sq_ast.specs.Modes.{is_written}
 use Rattle.sq_blocks.specs.Arguments.{lengths}
 use Rattle.sq_work.specs.Meaning.{in_block}
 use Rattle.sq_plan_laws.specs.Coordinates.{number}
-use Rattle.sq_form_laws.specs.Laws.{NoAlias}
+use Rattle.sq_placed.specs.FormLaws.Laws.{NoAlias}
 use Rattle.sq_placed.specs.Placed.{PlacedArg, PlacedCall, arguments}
 use Rattle.sq_cells.specs.Machine.{Node}
 use Rattle.sq_cells.specs.Cells.{Spot}

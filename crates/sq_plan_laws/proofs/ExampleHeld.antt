@@ -3,7 +3,7 @@ use Rattle.std.proofs.Common.{◌≡◌, ℕ, Bool, true, false, [], ◌∷◌, 
 use Rattle.std.specs.Prelude.{Some, None, slice_get}
 use Rattle.sq_num.specs.Elements.{width, value}
 use Rattle.sq_leaf.specs.Leaf.{Leaf as LeafSource}
-use Rattle.sq_form_laws.specs.Laws.{Apart}
+use Rattle.sq_placed.specs.FormLaws.Laws.{Apart}
 use Rattle.sq_work.specs.InTurn.{IsRaceFree}
 use Rattle.sq_placed.specs.declared.home.Home.TheVariants.{Held}
 use Rattle.sq_placed.specs.Placed.{Placed, PlacedArg, PlacedCall, arguments, plain, Nothing, Then, Each, Call, Hold}

@@ -14,7 +14,7 @@ use Rattle.sq_ast.specs.declared.program.VariantKind.TheVariants as variant_kind
 use Rattle.sq_leaf.specs.declared.shape.Shape.{Shape}
 use Rattle.sq_leaf.specs.Leaf.{Leaf as LeafSource}
 use Rattle.sq_blocks.specs.declared.argument.Argument.{Argument}
-use Rattle.sq_form_laws.specs.Laws.{NoAlias, Apart}
+use Rattle.sq_placed.specs.FormLaws.Laws.{NoAlias, Apart}
 use Rattle.sq_work.specs.Meaning.{covers}
 use Rattle.sq_work.specs.InTurn.{IsRaceFree}
 use Rattle.sq_placed.specs.declared.home.Home.{Home}

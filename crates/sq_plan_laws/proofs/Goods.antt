@@ -29,7 +29,7 @@ use Rattle.sq_cells.specs.Cells.{Spot, spot}
 use Rattle.sq_cells.specs.Tree.{width_of, head_of}
 use Rattle.sq_cells.specs.Work.{Mode, Local, Reduced, Buffer, InPlace, Held, Array, Work, reads, is_reduced}
 use Rattle.sq_cells.specs.Work as bytes
-use Rattle.sq_form_laws.specs.Laws.{SharesElement}
+use Rattle.sq_placed.specs.FormLaws.Laws.{SharesElement}
 use Rattle.sq_cells.specs.Lowered.{held, stays, Scratch, Layout, node_of, lane_kid, IsIn as IsCell, Needs, Sets}
 use Rattle.sq_cells.specs.Lowered.{GathersOf, CallNeeds, CallSets, SumFits, IsRaceFree, Sound}
 use Rattle.sq_cells.specs.Lowered as low

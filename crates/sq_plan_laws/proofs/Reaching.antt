@@ -7,7 +7,7 @@ use Rattle.sq_rect.specs.Placing.{IsIn}
 use Rattle.sq_leaf.specs.declared.shape.Shape.{Shape}
 use Rattle.sq_blocks.specs.Arguments.{lengths}
 use Rattle.sq_ast.specs.Modes.{is_written}
-use Rattle.sq_form_laws.specs.Laws.{SharesElement}
+use Rattle.sq_placed.specs.FormLaws.Laws.{SharesElement}
 use Rattle.sq_work.specs.Meaning.{covers, in_array}
 use Rattle.sq_placed.specs.Placed.{PlacedArg, PlacedCall}
 use Rattle.sq_cells.specs.Machine.{Node, Form}

@@ -15,7 +15,7 @@ use Rattle.sq_ast.specs.declared.program.Mode.TheVariants as mode
 use Rattle.sq_blocks.specs.declared.argument.Argument.{Argument}
 use Rattle.sq_blocks.specs.Arguments.{lengths}
 use Rattle.sq_ast.specs.Modes.{is_written}
-use Rattle.sq_form_laws.specs.Laws.{NoAlias, SharesElement}
+use Rattle.sq_placed.specs.FormLaws.Laws.{NoAlias, SharesElement}
 use Rattle.sq_work.specs.Meaning.{covers, in_block, has, at_return}
 use Rattle.sq_placed.specs.Placed.{PlacedArg, PlacedCall, arguments}
 use Rattle.sq_cells.specs.Cells.{spot, State}

@@ -6,7 +6,7 @@ use Rattle.sq_leaf.specs.declared.shape.Shape.{Shape}
 use Rattle.sq_leaf.specs.Source.{Arrays}
 use Rattle.sq_leaf.specs.Leaf.{Leaf as LeafSource, leaf_value}
 use Rattle.sq_work.specs.declared.reduction.Reduction.{Reduction}
-use Rattle.sq_form_laws.specs.Laws.{NoAlias}
+use Rattle.sq_placed.specs.FormLaws.Laws.{NoAlias}
 use Rattle.sq_work.specs.Meaning.{leaf_outcome}
 use Rattle.sq_placed.specs.Placed.{Placed, PlacedArg, PlacedCall, arguments, Nothing, Then, Each, AtOnce, Gathers, Call}
 use Rattle.sq_placed.specs.Placed.{Hold, Piped, Leaf}

@@ -5,7 +5,7 @@ use Rattle.sq_leaf.specs.Leaf.{written_of}
 use Rattle.sq_ast.specs.Modes.{is_written}
 use Rattle.sq_text.specs.declared.place.Place as text
 use Rattle.sq_text.specs.declared.spread.SpreadRule.{SpreadRule}
-use Rattle.sq_form_laws.specs.Laws.{Apart, SharesElement}
+use Rattle.sq_placed.specs.FormLaws.Laws.{Apart, SharesElement}
 use Rattle.sq_placed.specs.Placed.{Placed, PlacedArg, PlacedCall, arguments, Nothing, Then, Each, AtOnce, Gathers, Call}
 use Rattle.sq_placed.specs.Placed.{Hold, Piped, Leaf}
 use Rattle.sq_cells.specs.Work.{Buffer, Held}

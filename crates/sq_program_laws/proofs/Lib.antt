@@ -19,3 +19,6 @@ pub mod Unheld
 pub mod Unpiped
 pub mod ExampleHeld
 pub mod ExamplePiped
+-- Lemmas of crates below, passed on.
+pub use Rattle.sq_plan_laws.proofs as PlanLaws
+pub use Rattle.sq_term_laws.proofs as TermLaws

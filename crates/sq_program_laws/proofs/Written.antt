@@ -6,9 +6,9 @@ use Rattle.sq_placed.specs.declared.home.Home.{Home}
 use Rattle.sq_placed.specs.Seats.{Seat, buffer_seat}
 use Rattle.sq_placed.specs.Tables.{entry_placed}
 use Rattle.sq_placed.specs.Trees.{tree}
-use Rattle.sq_term.specs.Terms.{buffer_or}
-use Rattle.sq_term.specs.Laws.{entry_seats}
-use Rattle.sq_term.proofs.Whole.{entry_is_tree}
+use Rattle.sq_term_laws.specs.Term.Terms.{buffer_or}
+use Rattle.sq_term_laws.specs.Term.Laws.{entry_seats}
+use Rattle.sq_term_laws.proofs.Term.Whole.{entry_is_tree}
 use Rattle.sq_plan_laws.specs.Entry.{seats_at}
 use Rattle.sq_program_laws.specs.Written.{PlansAreWritten}
 

@@ -6,8 +6,8 @@ use Rattle.sq_ir.specs.Written.{Setting, at_root, scoped, written}
 use Rattle.sq_placed.specs.declared.home.Homes.{Homes}
 use Rattle.sq_placed.specs.Tables.{entry_placed}
 use Rattle.sq_placed.specs.Pipes.{PipesStand}
-use Rattle.sq_term.specs.Terms.{entry_term, buffer_or}
-use Rattle.sq_term.specs.Stands.{AreLeveled}
+use Rattle.sq_term_laws.specs.Term.Terms.{entry_term, buffer_or}
+use Rattle.sq_term_laws.specs.Term.Stands.{AreLeveled}
 use Rattle.sq_plan_laws.specs.Entry.{plan_tree}
 use Rattle.sq_program_laws.specs.Entry.{entry_shapes}
 

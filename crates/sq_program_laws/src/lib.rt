@@ -11,6 +11,8 @@ ghost use Rattle.sq_program_laws.specs.Entry.{EntriesFollow, EntriesSit, Entries
 ghost use Rattle.sq_program_laws.specs.LeafCalls.{CallsAreOfTables};
 ghost use Rattle.sq_program_laws.specs.Written.{PlansAreWritten};
 
+pub use sq_plan_laws;
+
 /// A row of a call's table fits, where its facts are known.
 pub fn facts_fit()
     ensures { FactsFit }

@@ -8,7 +8,7 @@ use Rattle.sq_ast.specs.declared.program.Param.{Param}
 use Rattle.sq_ast.specs.declared.program.Program.{Program}
 use Rattle.sq_ast.specs.declared.program.Variant.{Variant}
 use Rattle.sq_ast.specs.Forms.{is_formed, is_formed_body}
-use Rattle.sq_machfile.specs.declared.level.Level.{Level}
+use Rattle.sq_mapfile.specs.Machfile.declared.level.Level.{Level}
 use Rattle.sq_mapfile.specs.declared.mapping.Instance.{Instance}
 use Rattle.sq_mapfile.specs.declared.mapping.Mapping.{Mapping}
 use Rattle.sq_mapfile.specs.Sound.{Sound}

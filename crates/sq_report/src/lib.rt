@@ -17,5 +17,6 @@ mod trap;
 pub use answers::{put_fault, put_named, put_trap};
 pub use demo::{DemoInput, demo_elements, demo_fill, demo_texts, put_demo};
 pub use report::put_plan;
+pub use sq_store;
 pub use totals::{Totals, totals_of};
 pub use trap::{Trap, trap_at};

@@ -5,16 +5,16 @@ use Rattle.std.specs.Prelude.{slice_get}
 use Rattle.std.specs.Coded.{Coded-set, coded_result, coded_option, coded_list, coded×, coded_ℕ}
 use Rattle.sq_text.specs.contracts.fault.Fault as fault
 use Rattle.sq_ast.specs.declared.program.Variant.{Variant}
-use Rattle.sq_mapfile.specs.declared.mapping.Mapping.{Mapping}
-use Rattle.sq_forms.specs.contracts.form.Found as found
-use Rattle.sq_forms.specs.declared.form.Form.{Form}
+use Rattle.sq_form_laws.specs.Mapfile.declared.mapping.Mapping.{Mapping}
+use Rattle.sq_form_laws.specs.Forms.contracts.form.Found as found
+use Rattle.sq_form_laws.specs.Forms.declared.form.Form.{Form}
 use Rattle.sq_spec.specs.declared.resolved.Resolved.{Resolved}
-use Rattle.sq_forms.specs.Faults.{Value, value_or, and_then}
-use Rattle.sq_forms.specs.Steps.{most_forms}
-use Rattle.sq_forms.specs.Resolving.{Resolving, resolution, walk_from, with_entry, entry_params, entry_extents, entry_form, with_locals}
+use Rattle.sq_form_laws.specs.Forms.Faults.{Value, value_or, and_then}
+use Rattle.sq_form_laws.specs.Forms.Steps.{most_forms}
+use Rattle.sq_form_laws.specs.Forms.Resolving.{Resolving, resolution, walk_from, with_entry, entry_params, entry_extents, entry_form, with_locals}
 use Rattle.sq_spec.specs.Walked.{IsWalked}
 use Rattle.sq_spec.specs.Entry.{EntryIsFirst}
-use Rattle.sq_forms.proofs.AllForms.{forms_limit}
+use Rattle.sq_form_laws.proofs.Forms.AllForms.{forms_limit}
 use Rattle.sq_form_laws.proofs.FormsHold.{each_walked, went}
 
 -- the first form of a walk that went through

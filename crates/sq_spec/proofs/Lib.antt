@@ -6,3 +6,5 @@ pub mod Numbered
 pub mod NumberedForms
 pub mod WhatRuns
 pub mod EntryHolds
+-- Lemmas of crates below, passed on.
+pub use Rattle.sq_form_laws.proofs as FormLaws

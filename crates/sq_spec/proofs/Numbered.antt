@@ -1,7 +1,7 @@
 -- Where callees are known by their numbers, the statements of a form do the same, one iteration after another.
 use Rattle.std.proofs.Common.{◌≡◌, ℕ, zero, suc, ◌+◌, ◌<◌, nat_eq, Bool, ◌||◌, List, [], ◌∷◌, map, slice_get, Option, Some, None, Ok, refl, sym, ap, ap₂, ◌∙◌, subst, arith}
 use mathlib.Core.Path.{fun_ext}
-use Rattle.sq_num.specs.declared.Elem.{Elem}
+use Rattle.sq_ast.specs.Num.declared.Elem.{Elem}
 use Rattle.sq_text.specs.declared.place.Place.{Place}
 use Rattle.sq_text.specs.Names.{Bytes}
 use Rattle.sq_ast.specs.declared.expr.ArgUse.{ArgUse}
@@ -13,18 +13,18 @@ use Rattle.sq_ast.specs.declared.stmt.Stmt.{Stmt, roll-Stmt}
 use Rattle.sq_ast.specs.declared.stmt.Stmt.TheVariants as s
 use Rattle.sq_ast.specs.declared.stmt.Stmt.TheOpen.{Stmt-F}
 use Rattle.sq_ast.specs.declared.stmt.Stmt.TheFolds.{fold-Stmt, fold-roll-Stmt, ind-Stmt, map-Stmt}
-use Rattle.sq_blocks.specs.Names.{Numbers}
-use Rattle.sq_leaf.specs.Source.{Arrays}
-use Rattle.sq_forms.specs.declared.form.Found.{Found}
+use Rattle.sq_form_laws.specs.Blocks.Names.{Numbers}
+use Rattle.sq_work.specs.Leaf.Source.{Arrays}
+use Rattle.sq_form_laws.specs.Forms.declared.form.Found.{Found}
 use Rattle.sq_spec.specs.declared.statement.LoopKind.{LoopKind}
 use Rattle.sq_spec.specs.declared.statement.LoopKind.TheVariants as loop_kind
-use Rattle.sq_forms.specs.Faults.{value_or}
-use Rattle.sq_forms.specs.Steps.{Step, Part, Called, Forms, Opens, Counts, Tests, Calls, key_number}
-use Rattle.sq_forms.specs.Args.{Names, use_step, arguments, args_steps}
-use Rattle.sq_forms.specs.Worlds.{Frame, Callee, callee_of}
-use Rattle.sq_forms.specs.Calls.{CallSite, call_of, served_steps, reached_steps}
-use Rattle.sq_forms.specs.Stmts.{Portion, portion, calls_of as portion_calls, all_of, after_calls, bounds, times_of, in_iteration, within, each, opens, outermost, iteration_steps, map_steps, stmts_steps}
-use Rattle.sq_forms.specs.Resolving.{start}
+use Rattle.sq_form_laws.specs.Forms.Faults.{value_or}
+use Rattle.sq_form_laws.specs.Forms.Steps.{Step, Part, Called, Forms, Opens, Counts, Tests, Calls, key_number}
+use Rattle.sq_form_laws.specs.Forms.Args.{Names, use_step, arguments, args_steps}
+use Rattle.sq_form_laws.specs.Forms.Worlds.{Frame, Callee, callee_of}
+use Rattle.sq_form_laws.specs.Forms.Calls.{CallSite, call_of, served_steps, reached_steps}
+use Rattle.sq_form_laws.specs.Forms.Stmts.{Portion, portion, calls_of as portion_calls, all_of, after_calls, bounds, times_of, in_iteration, within, each, opens, outermost, iteration_steps, map_steps, stmts_steps}
+use Rattle.sq_form_laws.specs.Forms.Resolving.{start}
 use Rattle.sq_form_laws.specs.Reached.{calls_in}
 use Rattle.sq_spec.specs.Statements.{number_or, loop_kind_of}
 use Rattle.sq_work.specs.Work.{Work, Then}
@@ -32,7 +32,7 @@ use Rattle.sq_work.specs.Meaning.{Outcome, and_then, at_entry, at_return, any_be
 use Rattle.sq_work.specs.InTurn.{AreApart, none_aside, its_array, IsRaceFree, gathering, serial}
 use Rattle.sq_spec.specs.Works as works
 use Rattle.sq_spec.specs.Works.{Share, map_work, call_work, stmts_work}
-use Rattle.sq_forms.proofs.OpenedStmt.{portion_call, portion_map}
+use Rattle.sq_form_laws.proofs.Forms.OpenedStmt.{portion_call, portion_map}
 use Rattle.sq_spec.proofs.Rows.{below_same}
 use Rattle.sq_work.proofs.Serial.{in_turn_same}
 

@@ -5,16 +5,16 @@ use Rattle.std.specs.Coded.{Coded-set, coded_list, coded×, coded_ℕ}
 use Rattle.sq_ast.specs.declared.program.Body.{Body as Text}
 use Rattle.sq_ast.specs.declared.program.Body.TheVariants as text
 use Rattle.sq_ast.specs.declared.program.Variant.{Variant}
-use Rattle.sq_mapfile.specs.declared.mapping.Instance.{Instance}
-use Rattle.sq_mapfile.specs.declared.mapping.Mapping.{Mapping}
-use Rattle.sq_leaf.specs.Source.{Arrays}
-use Rattle.sq_forms.specs.declared.form.Found.{Found}
-use Rattle.sq_forms.specs.Faults.{Value}
-use Rattle.sq_forms.specs.Steps.{Forms, Key, Called, key_number}
-use Rattle.sq_forms.specs.Tables.{variant_of}
-use Rattle.sq_forms.specs.Stmts.{stmts_steps}
-use Rattle.sq_forms.specs.Decls.{Scope, empty_scope, params_from, all_declared}
-use Rattle.sq_forms.specs.Resolving.{Resolving, resolution, frame_in, start, entry_params}
+use Rattle.sq_form_laws.specs.Mapfile.declared.mapping.Instance.{Instance}
+use Rattle.sq_form_laws.specs.Mapfile.declared.mapping.Mapping.{Mapping}
+use Rattle.sq_work.specs.Leaf.Source.{Arrays}
+use Rattle.sq_form_laws.specs.Forms.declared.form.Found.{Found}
+use Rattle.sq_form_laws.specs.Forms.Faults.{Value}
+use Rattle.sq_form_laws.specs.Forms.Steps.{Forms, Key, Called, key_number}
+use Rattle.sq_form_laws.specs.Forms.Tables.{variant_of}
+use Rattle.sq_form_laws.specs.Forms.Stmts.{stmts_steps}
+use Rattle.sq_form_laws.specs.Forms.Decls.{Scope, empty_scope, params_from, all_declared}
+use Rattle.sq_form_laws.specs.Forms.Resolving.{Resolving, resolution, frame_in, start, entry_params}
 use Rattle.sq_form_laws.specs.Reached.{calls_in, form_number, or_zero, CalleeIs, Ran, steps_of}
 use Rattle.sq_spec.specs.Statements.{number_or, elems_of}
 use Rattle.sq_spec.specs.declared.body.FormBody.{FormBody}
@@ -24,7 +24,7 @@ use Rattle.sq_work.specs.InTurn.{IsRaceFree, serial}
 use Rattle.sq_spec.specs.Works as works
 use Rattle.sq_spec.specs.Works.{shapes_of, stmts_work, form_work, declared_work, scope_work, variant_work, instance_work, entry_work, entry_arguments, work_of, found_in, flat}
 use Rattle.sq_spec.specs.declared.resolved.Resolved.{Resolved}
-use Rattle.sq_forms.specs.contracts.form.Found as row
+use Rattle.sq_form_laws.specs.Forms.contracts.form.Found as row
 use Rattle.sq_spec.specs.Walked.{IsWalked}
 use Rattle.sq_spec.specs.Numbered.{called_entry, entry_call, TablesMeanProgram, TablesAreRaceFree}
 use Rattle.sq_form_laws.proofs.RanHold.{forms_ran}
@@ -69,7 +69,7 @@ module _ (variants : List Variant) (mapping : Mapping) (r : Resolving) (through 
         let callees : (i : ℕ) (c : Called) → slice_get (calls_in (stmts_steps list frame scope.names start scope.numbers [])) i ≡ Some c
         → CalleeIs r.found c (form_number r.found c.key) =
         λ i c at. ran.callees i c (subst (λ (z : Scope). slice_get (calls_in (steps_of variants mapping.instances x v k e.1 z)) i ≡ Some c) (sym same)
-        (subst (λ (t : Text). slice_get (calls_in (Rattle.sq_forms.specs.Resolving.body_steps t frame scope)) i ≡ Some c) (sym b) at)) in
+        (subst (λ (t : Text). slice_get (calls_in (Rattle.sq_form_laws.specs.Forms.Resolving.body_steps t frame scope)) i ≡ Some c) (sym b) at)) in
         let served = list_serves r.found (form_work variants mapping.instances r.found n) (numbered_work bodies n) (elems_of v scope) frame f.maps f.depth list
         scope.names scope.numbers
         (suit_each r.found (form_work variants mapping.instances r.found n) (numbered_work bodies n) (stmts_steps list frame scope.names start scope.numbers [])

@@ -8,15 +8,15 @@ use Rattle.sq_ast.specs.declared.stmt.Stmt.{Stmt, roll-Stmt}
 use Rattle.sq_ast.specs.declared.stmt.Stmt.TheVariants as s
 use Rattle.sq_ast.specs.declared.stmt.Stmt.TheOpen.{Stmt-F}
 use Rattle.sq_ast.specs.declared.stmt.Stmt.TheFolds.{fold-roll-Stmt, ind-Stmt, map-Stmt}
-use Rattle.sq_num.specs.declared.Elem.{Elem}
-use Rattle.sq_blocks.specs.Names.{Numbers}
-use Rattle.sq_forms.specs.Steps.{Forms}
-use Rattle.sq_forms.specs.Args.{Names}
-use Rattle.sq_forms.specs.Worlds.{Frame}
-use Rattle.sq_forms.specs.Stmts as portions
-use Rattle.sq_forms.specs.Stmts.{portion}
+use Rattle.sq_ast.specs.Num.declared.Elem.{Elem}
+use Rattle.sq_form_laws.specs.Blocks.Names.{Numbers}
+use Rattle.sq_form_laws.specs.Forms.Steps.{Forms}
+use Rattle.sq_form_laws.specs.Forms.Args.{Names}
+use Rattle.sq_form_laws.specs.Forms.Worlds.{Frame}
+use Rattle.sq_form_laws.specs.Forms.Stmts as portions
+use Rattle.sq_form_laws.specs.Forms.Stmts.{portion}
 use Rattle.sq_spec.specs.Statements.{StatementTable, calls_of, stmt_step, table_of}
-use Rattle.sq_forms.proofs.OpenedStmt.{portion_call, portion_map}
+use Rattle.sq_form_laws.proofs.Forms.OpenedStmt.{portion_call, portion_map}
 
 pub table_of_call : (forms : Forms) (frame : Frame) (names : Names) (elems : List Elem) (numbers : Numbers) (c : Call)
     → table_of forms frame names elems numbers (s.Call c) ≡ stmt_step forms frame names elems numbers (Stmt-F.Call c)

@@ -2,7 +2,7 @@
 use Rattle.std.proofs.Common.{◌≡◌, ℕ, zero, suc, ◌+◌, ◌<◌, nat_eq, Bool, true, false, ◌||◌, List, [], ◌∷◌, ◌++◌, map, length, get_or, slice_get, Some, Ok, refl, sym, ap, ap₂, ◌∙◌, arith, append_assoc, flat_map}
 use mathlib.Core.Path.{fun_ext}
 use Rattle.sq_text.specs.declared.place.Place.{Place}
-use Rattle.sq_leaf.specs.Source.{Arrays}
+use Rattle.sq_work.specs.Leaf.Source.{Arrays}
 use Rattle.sq_work.specs.declared.reduction.Reduction.{Reduction}
 use Rattle.sq_spec.specs.Statements.{over, has_iterations, rows_if, count_rows}
 use Rattle.sq_work.specs.Work.{Work, Then, Each, AtOnce, Gathers}

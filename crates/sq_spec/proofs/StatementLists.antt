@@ -2,18 +2,18 @@
 use Rattle.std.proofs.Common.{◌≡◌, ◌==◌, Option, ℕ, suc, ◌+◌, ◌-◌, ◌<◌, List, [], ◌∷◌, ◌++◌, map, drop, refl, sym, ap, ◌∙◌, arith, append_assoc}
 use Rattle.sq_text.specs.Names.{Bytes}
 use Rattle.sq_ast.specs.declared.expr.ArgUse.{ArgUse}
-use Rattle.sq_blocks.specs.Names.{Numbers}
-use Rattle.sq_blocks.specs.declared.argument.Argument.{Argument}
+use Rattle.sq_form_laws.specs.Blocks.Names.{Numbers}
+use Rattle.sq_form_laws.specs.Blocks.declared.argument.Argument.{Argument}
 use Rattle.sq_spec.specs.declared.statement.CallInstance.{CallInstance}
-use Rattle.sq_forms.specs.Steps.{Forms, key_number}
-use Rattle.sq_forms.specs.Args.{Names, arguments}
-use Rattle.sq_forms.specs.Worlds.{Frame, Callee}
-use Rattle.sq_forms.specs.Calls.{key_of, flags, extents_of}
-use Rattle.sq_num.specs.declared.Elem.{Elem}
+use Rattle.sq_form_laws.specs.Forms.Steps.{Forms, key_number}
+use Rattle.sq_form_laws.specs.Forms.Args.{Names, arguments}
+use Rattle.sq_form_laws.specs.Forms.Worlds.{Frame, Callee}
+use Rattle.sq_form_laws.specs.Forms.Calls.{key_of, flags, extents_of}
+use Rattle.sq_ast.specs.Num.declared.Elem.{Elem}
 use Rattle.sq_ast.specs.declared.stmt.Range.{Range}
 use Rattle.sq_ast.specs.declared.stmt.Stmt.{Stmt}
 use Rattle.sq_spec.specs.declared.statement.Statement.{Statement}
-use Rattle.sq_forms.specs.Stmts.{portion}
+use Rattle.sq_form_laws.specs.Forms.Stmts.{portion}
 use Rattle.sq_spec.specs.Statements.{over, number_or, call_instance, StatementTable, all_of, table_of}
 use Rattle.sq_spec.proofs.OpenedStatement.{same_calls}
 

@@ -1,6 +1,6 @@
 -- The tables of a form's statements mean what the statements mean.
 use Rattle.std.proofs.Common.{◌≡◌, ℕ, zero, suc, arith, ◌+◌, ◌<◌, ◌==◌, List, [], ◌∷◌, ◌++◌, map, get_or, slice_get, Option, Some, None, refl, sym, ap, ap₂, ◌∙◌, subst, append-nil, flat_map, Bool, false}
-use Rattle.sq_num.specs.declared.Elem.{Elem}
+use Rattle.sq_ast.specs.Num.declared.Elem.{Elem}
 use Rattle.sq_text.specs.declared.place.Place.{Place}
 use Rattle.sq_ast.specs.declared.stmt.Call.{Call as CallStmt}
 use Rattle.sq_ast.specs.declared.stmt.Range.{Range}
@@ -9,9 +9,9 @@ use Rattle.sq_ast.specs.declared.stmt.Stmt.{Stmt, roll-Stmt}
 use Rattle.sq_ast.specs.declared.stmt.Stmt.TheVariants as s
 use Rattle.sq_ast.specs.declared.stmt.Stmt.TheOpen.{Stmt-F}
 use Rattle.sq_ast.specs.declared.stmt.Stmt.TheFolds.{fold-Stmt, fold-roll-Stmt, ind-Stmt, map-Stmt}
-use Rattle.sq_blocks.specs.Names.{Numbers, Lists}
-use Rattle.sq_leaf.specs.Source.{Arrays}
-use Rattle.sq_forms.specs.declared.form.Found.{Found}
+use Rattle.sq_form_laws.specs.Blocks.Names.{Numbers, Lists}
+use Rattle.sq_work.specs.Leaf.Source.{Arrays}
+use Rattle.sq_form_laws.specs.Forms.declared.form.Found.{Found}
 use Rattle.sq_spec.specs.declared.statement.LoopKind.{LoopKind}
 use Rattle.sq_spec.specs.declared.statement.LoopKind.TheVariants as loop_kind
 use Rattle.sq_spec.specs.declared.statement.CallInstance.{CallInstance}
@@ -19,13 +19,13 @@ use Rattle.sq_spec.specs.declared.statement.Statement.{Statement}
 use Rattle.sq_spec.specs.declared.statement.Statement.TheVariants as b
 use Rattle.sq_spec.specs.declared.statement.Statement.TheOpen.{Statement-F}
 use Rattle.sq_spec.specs.declared.statement.Statement.TheFolds.{fold-roll-Statement}
-use Rattle.sq_forms.specs.Faults.{value_or}
-use Rattle.sq_forms.specs.Steps.{Forms}
-use Rattle.sq_forms.specs.Args.{Names}
-use Rattle.sq_forms.specs.Worlds.{Frame, Callee, callee_of}
-use Rattle.sq_forms.specs.Calls.{CallSite}
-use Rattle.sq_forms.specs.Stmts.{bounds, in_iteration, within, after_calls, reduced_by}
-use Rattle.sq_forms.specs.Resolving.{start}
+use Rattle.sq_form_laws.specs.Forms.Faults.{value_or}
+use Rattle.sq_form_laws.specs.Forms.Steps.{Forms}
+use Rattle.sq_form_laws.specs.Forms.Args.{Names}
+use Rattle.sq_form_laws.specs.Forms.Worlds.{Frame, Callee, callee_of}
+use Rattle.sq_form_laws.specs.Forms.Calls.{CallSite}
+use Rattle.sq_form_laws.specs.Forms.Stmts.{bounds, in_iteration, within, after_calls, reduced_by}
+use Rattle.sq_form_laws.specs.Forms.Resolving.{start}
 use Rattle.sq_spec.specs.Statements.{starts_from, iteration_points, count_at, count_rows, call_instance, loop_kind_of, StatementTable, calls_of, all_of, call_table, table_of}
 use Rattle.sq_work.specs.Work.{Work, Nothing}
 use Rattle.sq_work.specs.Meaning.{Outcome}

@@ -2,7 +2,7 @@
 use Rattle.std.proofs.Common.{◌≡◌, ℕ, suc, ◌+◌, ◌<◌, true, List, [], ◌∷◌, ◌++◌, length, get_or, drop, drop-cons, arith, Option, Some, None, sym, ◌∙◌, ap, subst}
 use Rattle.std.proofs.lemmas.List.{append_assoc}
 use Rattle.std.specs.Prelude.{slice_get}
-use Rattle.sq_num.specs.declared.Elem.{Elem}
+use Rattle.sq_ast.specs.Num.declared.Elem.{Elem}
 use Rattle.sq_ast.specs.declared.leaf.LeafStmt.{LeafStmt}
 use Rattle.sq_ast.specs.declared.stmt.Stmt.{Stmt}
 use Rattle.sq_ast.specs.declared.program.Body.{Body as Text}
@@ -12,18 +12,18 @@ use Rattle.sq_ast.specs.declared.program.Variant.{Variant}
 use Rattle.sq_ast.specs.declared.program.VariantKind.{VariantKind}
 use Rattle.sq_ast.specs.Grammar.{most_levels}
 use Rattle.sq_text.specs.Names.{Bytes}
-use Rattle.sq_types.specs.Nesting.{HasLoops}
-use Rattle.sq_types.specs.Sound.{is_sound}
-use Rattle.sq_leaf.specs.declared.shape.Shape.{Shape}
-use Rattle.sq_leaf.specs.Leaf.{Leaf, IsLeaf, is_leaf_body}
-use Rattle.sq_forms.specs.declared.form.LocalArray.{LocalArray}
+use Rattle.sq_work.specs.Types.Nesting.{HasLoops}
+use Rattle.sq_work.specs.Types.Sound.{is_sound}
+use Rattle.sq_work.specs.Leaf.declared.shape.Shape.{Shape}
+use Rattle.sq_work.specs.Leaf.Leaf.{Leaf, IsLeaf, is_leaf_body}
+use Rattle.sq_form_laws.specs.Forms.declared.form.LocalArray.{LocalArray}
 use Rattle.sq_spec.specs.Works.{local_shapes}
 use Rattle.sq_spec.specs.declared.statement.Statement.{Statement}
 use Rattle.sq_spec.specs.declared.body.Body.TheVariants as body
-use Rattle.sq_forms.specs.Steps.{Forms}
-use Rattle.sq_forms.specs.Tables.{at_index, first_of_kind, variant_of}
-use Rattle.sq_forms.specs.Worlds.{Frame}
-use Rattle.sq_forms.specs.Decls.{Scope}
+use Rattle.sq_form_laws.specs.Forms.Steps.{Forms}
+use Rattle.sq_form_laws.specs.Forms.Tables.{at_index, first_of_kind, variant_of}
+use Rattle.sq_form_laws.specs.Forms.Worlds.{Frame}
+use Rattle.sq_form_laws.specs.Forms.Decls.{Scope}
 use Rattle.sq_spec.specs.Statements.{elems_of, tables}
 use Rattle.sq_spec.specs.Bodies.{MayCompile, AllCompile, what_runs}
 

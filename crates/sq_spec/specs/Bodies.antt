@@ -3,19 +3,19 @@ use Rattle.std.specs.Prelude.{◌≡◌, ℕ, zero, suc, true, List, [], Option,
 use Rattle.sq_ast.specs.declared.program.Body.{Body as Text}
 use Rattle.sq_ast.specs.declared.program.Body.TheVariants as text
 use Rattle.sq_ast.specs.declared.program.Variant.{Variant}
-use Rattle.sq_mapfile.specs.declared.mapping.Instance.{Instance}
-use Rattle.sq_leaf.specs.declared.shape.Shape.{Shape}
-use Rattle.sq_leaf.specs.Leaf.{IsLeaf, is_leaf_body, leaf_value}
+use Rattle.sq_form_laws.specs.Mapfile.declared.mapping.Instance.{Instance}
+use Rattle.sq_work.specs.Leaf.declared.shape.Shape.{Shape}
+use Rattle.sq_work.specs.Leaf.Leaf.{IsLeaf, is_leaf_body, leaf_value}
 use Rattle.sq_spec.specs.declared.body.Body.{Body}
 use Rattle.sq_spec.specs.declared.body.Body.TheVariants as body
 use Rattle.sq_spec.specs.declared.body.FormBody.{FormBody}
-use Rattle.sq_forms.specs.declared.form.Found.{Found}
-use Rattle.sq_forms.specs.Faults.{Value}
-use Rattle.sq_forms.specs.Steps.{Forms, Key}
-use Rattle.sq_forms.specs.Tables.{variant_of}
-use Rattle.sq_forms.specs.Worlds.{Frame}
-use Rattle.sq_forms.specs.Decls.{Scope, empty_scope, params_from, all_declared}
-use Rattle.sq_forms.specs.Resolving.{frame_in}
+use Rattle.sq_form_laws.specs.Forms.declared.form.Found.{Found}
+use Rattle.sq_form_laws.specs.Forms.Faults.{Value}
+use Rattle.sq_form_laws.specs.Forms.Steps.{Forms, Key}
+use Rattle.sq_form_laws.specs.Forms.Tables.{variant_of}
+use Rattle.sq_form_laws.specs.Forms.Worlds.{Frame}
+use Rattle.sq_form_laws.specs.Forms.Decls.{Scope, empty_scope, params_from, all_declared}
+use Rattle.sq_form_laws.specs.Forms.Resolving.{frame_in}
 use Rattle.sq_spec.specs.Statements.{elems_of, tables}
 use Rattle.sq_work.specs.Work.{Work, Nothing, Leaf}
 use Rattle.sq_spec.specs.Works.{shapes_of}

@@ -1,8 +1,8 @@
 -- The entry, and its place among the forms.
 use Rattle.std.specs.Prelude.{◌≡◌, ℕ, List, [], Some, Ok, slice_get}
-use Rattle.sq_forms.specs.declared.form.Form.{Form}
+use Rattle.sq_form_laws.specs.Forms.declared.form.Form.{Form}
 use Rattle.sq_spec.specs.declared.resolved.Resolved.{Resolved}
-use Rattle.sq_forms.specs.Resolving.{entry_params, entry_extents, entry_form}
+use Rattle.sq_form_laws.specs.Forms.Resolving.{entry_params, entry_extents, entry_form}
 
 -- the first form is the entry's, with the extents that the mapping's sizes give its parameters
 pub record IsEntry (r : Resolved) : Type 0 where

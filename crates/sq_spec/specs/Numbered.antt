@@ -1,12 +1,12 @@
 -- What a program means, by the tables of its forms.
 use Rattle.std.specs.Prelude.{◌≡◌, false, List, length, Option, Some, None, slice_get}
 use Rattle.sq_ast.specs.declared.program.Variant.{Variant}
-use Rattle.sq_mapfile.specs.declared.mapping.Mapping.{Mapping}
-use Rattle.sq_leaf.specs.Source.{Arrays}
-use Rattle.sq_forms.specs.Steps.{Forms, Key}
-use Rattle.sq_forms.specs.declared.form.Found.{Found}
+use Rattle.sq_form_laws.specs.Mapfile.declared.mapping.Mapping.{Mapping}
+use Rattle.sq_work.specs.Leaf.Source.{Arrays}
+use Rattle.sq_form_laws.specs.Forms.Steps.{Forms, Key}
+use Rattle.sq_form_laws.specs.Forms.declared.form.Found.{Found}
 use Rattle.sq_spec.specs.declared.resolved.Resolved.{Resolved}
-use Rattle.sq_forms.specs.Resolving.{entry_params}
+use Rattle.sq_form_laws.specs.Forms.Resolving.{entry_params}
 use Rattle.sq_spec.specs.Bodies.{body_of, numbered_work}
 use Rattle.sq_work.specs.Work.{Work, Nothing, Call}
 use Rattle.sq_spec.specs.Works.{entry_arguments, work_of, flat}

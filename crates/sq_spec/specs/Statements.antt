@@ -1,9 +1,9 @@
 -- The statements of a form, each with a row for every time that it is begun, in the order in which they would run.
 use Rattle.std.specs.Prelude.{ℕ, zero, suc, ◌+◌, ◌==◌, Bool, false, true, List, [], ◌∷◌, ◌++◌, map, Option, Some, None, Ok, Err, slice_get}
 use Rattle.std.specs.Map.{lookup}
-use Rattle.sq_num.specs.declared.Elem.{Elem}
-use Rattle.sq_num.specs.declared.Elem.TheVariants.{Long}
-use Rattle.sq_num.specs.declared.RedOp.{RedOp}
+use Rattle.sq_ast.specs.Num.declared.Elem.{Elem}
+use Rattle.sq_ast.specs.Num.declared.Elem.TheVariants.{Long}
+use Rattle.sq_ast.specs.Num.declared.RedOp.{RedOp}
 use Rattle.sq_text.specs.Names.{Bytes, same_name}
 use Rattle.sq_ast.specs.declared.expr.ArgUse.{ArgUse}
 use Rattle.sq_ast.specs.declared.program.Param.{Param}
@@ -15,22 +15,22 @@ use Rattle.sq_ast.specs.declared.stmt.MapKind.TheVariants.{Par, Seq, Reduce}
 use Rattle.sq_ast.specs.declared.stmt.Stmt.{Stmt}
 use Rattle.sq_ast.specs.declared.stmt.Stmt.TheOpen.{Stmt-F}
 use Rattle.sq_ast.specs.declared.stmt.Stmt.TheFolds.{fold-Stmt}
-use Rattle.sq_blocks.specs.Names.{Numbers, Lists}
+use Rattle.sq_form_laws.specs.Blocks.Names.{Numbers, Lists}
 use Rattle.sq_work.specs.declared.reduction.Reduction.{Reduction}
 use Rattle.sq_spec.specs.declared.statement.LoopKind.{LoopKind}
 use Rattle.sq_spec.specs.declared.statement.LoopKind.TheVariants as loop_kind
 use Rattle.sq_spec.specs.declared.statement.CallInstance.{CallInstance}
 use Rattle.sq_spec.specs.declared.statement.Statement.{Statement}
 use Rattle.sq_spec.specs.declared.statement.Statement.TheVariants as statement
-use Rattle.sq_forms.specs.declared.form.LocalArray.{LocalArray}
-use Rattle.sq_forms.specs.declared.known.Array.{Array}
-use Rattle.sq_forms.specs.Faults.{Value, value_or}
-use Rattle.sq_forms.specs.Steps.{Forms, key_number}
-use Rattle.sq_forms.specs.Args.{Names, arguments}
-use Rattle.sq_forms.specs.Worlds.{Frame, Callee, callee_of}
-use Rattle.sq_forms.specs.Calls.{key_of, flags, extents_of}
-use Rattle.sq_forms.specs.Stmts.{bounds, times_of, in_iteration, reduced_by}
-use Rattle.sq_forms.specs.Decls.{Scope}
+use Rattle.sq_form_laws.specs.Forms.declared.form.LocalArray.{LocalArray}
+use Rattle.sq_form_laws.specs.Forms.declared.known.Array.{Array}
+use Rattle.sq_form_laws.specs.Forms.Faults.{Value, value_or}
+use Rattle.sq_form_laws.specs.Forms.Steps.{Forms, key_number}
+use Rattle.sq_form_laws.specs.Forms.Args.{Names, arguments}
+use Rattle.sq_form_laws.specs.Forms.Worlds.{Frame, Callee, callee_of}
+use Rattle.sq_form_laws.specs.Forms.Calls.{key_of, flags, extents_of}
+use Rattle.sq_form_laws.specs.Forms.Stmts.{bounds, times_of, in_iteration, reduced_by}
+use Rattle.sq_form_laws.specs.Forms.Decls.{Scope}
 
 -- ---- when a statement is begun
 

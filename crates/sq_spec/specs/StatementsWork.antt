@@ -1,17 +1,17 @@
 -- The work that the tables of a form's statements stand for.
 use Rattle.std.specs.Prelude.{◌≡◌, ℕ, ◌+◌, Bool, List, [], ◌∷◌, map, get_or, slice_get, Option, Some, None}
-use Rattle.sq_num.specs.declared.Elem.{Elem}
+use Rattle.sq_ast.specs.Num.declared.Elem.{Elem}
 use Rattle.sq_ast.specs.declared.stmt.Stmt.{Stmt}
-use Rattle.sq_blocks.specs.Names.{Numbers}
-use Rattle.sq_leaf.specs.Source.{Arrays}
+use Rattle.sq_form_laws.specs.Blocks.Names.{Numbers}
+use Rattle.sq_work.specs.Leaf.Source.{Arrays}
 use Rattle.sq_spec.specs.declared.statement.CallInstance.{CallInstance}
 use Rattle.sq_spec.specs.declared.statement.Statement.{Statement}
 use Rattle.sq_spec.specs.declared.statement.Statement.TheOpen.{Statement-F}
 use Rattle.sq_spec.specs.declared.statement.Statement.TheFolds.{fold-Statement}
-use Rattle.sq_forms.specs.Steps.{Forms}
-use Rattle.sq_forms.specs.Args.{Names}
-use Rattle.sq_forms.specs.Worlds.{Frame}
-use Rattle.sq_forms.specs.Resolving.{start}
+use Rattle.sq_form_laws.specs.Forms.Steps.{Forms}
+use Rattle.sq_form_laws.specs.Forms.Args.{Names}
+use Rattle.sq_form_laws.specs.Forms.Worlds.{Frame}
+use Rattle.sq_form_laws.specs.Forms.Resolving.{start}
 use Rattle.sq_spec.specs.Statements.{tables}
 use Rattle.sq_work.specs.Work.{Work, Nothing, Then, Call}
 use Rattle.sq_spec.specs.Works.{map_work, stmts_work}

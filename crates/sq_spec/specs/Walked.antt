@@ -3,15 +3,15 @@ use Rattle.std.specs.Prelude.{◌≡◌, true, List, Ok}
 use Rattle.sq_ast.specs.declared.program.Program.{Program}
 use Rattle.sq_ast.specs.Forms.{is_formed}
 use Rattle.sq_ast.specs.Grammar.{most_levels}
-use Rattle.sq_types.specs.Nesting.{HasLoops}
-use Rattle.sq_types.specs.Sound.{is_sound}
-use Rattle.sq_machfile.specs.declared.level.Level.{Level}
-use Rattle.sq_mapfile.specs.declared.mapping.Mapping.{Mapping}
-use Rattle.sq_mapfile.specs.Sound.{Sound}
-use Rattle.sq_forms.specs.declared.form.Form.{Form}
-use Rattle.sq_forms.specs.declared.form.Use.{Use}
-use Rattle.sq_forms.specs.Steps.{Forms}
-use Rattle.sq_forms.specs.Resolving.{resolution}
+use Rattle.sq_work.specs.Types.Nesting.{HasLoops}
+use Rattle.sq_work.specs.Types.Sound.{is_sound}
+use Rattle.sq_form_laws.specs.Machfile.declared.level.Level.{Level}
+use Rattle.sq_form_laws.specs.Mapfile.declared.mapping.Mapping.{Mapping}
+use Rattle.sq_form_laws.specs.Mapfile.Sound.{Sound}
+use Rattle.sq_form_laws.specs.Forms.declared.form.Form.{Form}
+use Rattle.sq_form_laws.specs.Forms.declared.form.Use.{Use}
+use Rattle.sq_form_laws.specs.Forms.Steps.{Forms}
+use Rattle.sq_form_laws.specs.Forms.Resolving.{resolution}
 
 -- what the walk over the forms of a program gives, under a mapping that was read with it and with a machine of these
 -- levels

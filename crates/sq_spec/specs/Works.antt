@@ -1,6 +1,6 @@
 -- The work of a program under its mapping: the same statements with the same numbers as in the walk of forms.
 use Rattle.std.specs.Prelude.{ℕ, zero, suc, ◌+◌, ◌==◌, false, List, [], ◌∷◌, ◌++◌, map, length, Option, Some, None, Ok, Err, slice_get}
-use Rattle.sq_num.specs.declared.Elem.{Elem}
+use Rattle.sq_ast.specs.Num.declared.Elem.{Elem}
 use Rattle.sq_text.specs.declared.place.Place.{Place}
 use Rattle.sq_text.specs.declared.place.Span.{Span}
 use Rattle.sq_ast.specs.declared.stmt.Call.{Call as CallStmt}
@@ -12,26 +12,26 @@ use Rattle.sq_ast.specs.declared.program.Body.TheVariants as body
 use Rattle.sq_ast.specs.declared.program.Param.{Param}
 use Rattle.sq_ast.specs.declared.program.Program.{Program}
 use Rattle.sq_ast.specs.declared.program.Variant.{Variant}
-use Rattle.sq_mapfile.specs.declared.mapping.Instance.{Instance}
-use Rattle.sq_mapfile.specs.declared.mapping.Mapping.{Mapping}
-use Rattle.sq_blocks.specs.Names.{Numbers}
-use Rattle.sq_leaf.specs.declared.shape.Shape.{Shape}
-use Rattle.sq_leaf.specs.Source.{Arrays}
-use Rattle.sq_leaf.specs.Leaf.{leaf_value}
-use Rattle.sq_blocks.specs.declared.argument.Argument.{Argument}
-use Rattle.sq_forms.specs.declared.form.Found.{Found}
-use Rattle.sq_forms.specs.declared.form.LocalArray.{LocalArray}
+use Rattle.sq_form_laws.specs.Mapfile.declared.mapping.Instance.{Instance}
+use Rattle.sq_form_laws.specs.Mapfile.declared.mapping.Mapping.{Mapping}
+use Rattle.sq_form_laws.specs.Blocks.Names.{Numbers}
+use Rattle.sq_work.specs.Leaf.declared.shape.Shape.{Shape}
+use Rattle.sq_work.specs.Leaf.Source.{Arrays}
+use Rattle.sq_work.specs.Leaf.Leaf.{leaf_value}
+use Rattle.sq_form_laws.specs.Blocks.declared.argument.Argument.{Argument}
+use Rattle.sq_form_laws.specs.Forms.declared.form.Found.{Found}
+use Rattle.sq_form_laws.specs.Forms.declared.form.LocalArray.{LocalArray}
 use Rattle.sq_spec.specs.declared.statement.LoopKind.{LoopKind}
 use Rattle.sq_spec.specs.declared.statement.LoopKind.TheVariants as loop_kind
-use Rattle.sq_forms.specs.Faults.{Value, value_or}
-use Rattle.sq_forms.specs.Steps.{Forms, Called, Key, key_number}
-use Rattle.sq_forms.specs.Tables.{variant_of}
-use Rattle.sq_forms.specs.Args.{Names, arguments}
-use Rattle.sq_forms.specs.Worlds.{Frame, Callee, callee_of}
-use Rattle.sq_forms.specs.Calls.{CallSite, call_of}
-use Rattle.sq_forms.specs.Stmts.{bounds, times_of, in_iteration, within, after_calls}
-use Rattle.sq_forms.specs.Decls.{Scope, empty_scope, params_from, all_declared}
-use Rattle.sq_forms.specs.Resolving.{Resolving, frame_in, start, resolution, entry_params}
+use Rattle.sq_form_laws.specs.Forms.Faults.{Value, value_or}
+use Rattle.sq_form_laws.specs.Forms.Steps.{Forms, Called, Key, key_number}
+use Rattle.sq_form_laws.specs.Forms.Tables.{variant_of}
+use Rattle.sq_form_laws.specs.Forms.Args.{Names, arguments}
+use Rattle.sq_form_laws.specs.Forms.Worlds.{Frame, Callee, callee_of}
+use Rattle.sq_form_laws.specs.Forms.Calls.{CallSite, call_of}
+use Rattle.sq_form_laws.specs.Forms.Stmts.{bounds, times_of, in_iteration, within, after_calls}
+use Rattle.sq_form_laws.specs.Forms.Decls.{Scope, empty_scope, params_from, all_declared}
+use Rattle.sq_form_laws.specs.Forms.Resolving.{Resolving, frame_in, start, resolution, entry_params}
 use Rattle.sq_spec.specs.Statements.{number_or, loop_kind_of, elems_of}
 use Rattle.sq_work.specs.Work.{Work, Nothing, Then, Each, AtOnce, Gathers, Call, Leaf}
 use Rattle.sq_work.specs.Meaning.{Outcome, meaning}

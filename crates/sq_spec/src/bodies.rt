@@ -2,10 +2,10 @@
 
 ghost use Rattle.std.specs.Prelude.{◌≡◌, ◌++◌, ◌∷◌, [], Ok, slice_get, IfOk, OnOk};
 ghost use Rattle.std.specs.Option.{option_copied};
-ghost use Rattle.sq_forms.specs.Faults.{Makes};
-ghost use Rattle.sq_forms.specs.Args as argued;
-ghost use Rattle.sq_forms.specs.Worlds as worlds;
-ghost use Rattle.sq_forms.specs.Decls as decls;
+ghost use Rattle.sq_form_laws.specs.Forms.Faults.{Makes};
+ghost use Rattle.sq_form_laws.specs.Forms.Args as argued;
+ghost use Rattle.sq_form_laws.specs.Forms.Worlds as worlds;
+ghost use Rattle.sq_form_laws.specs.Forms.Decls as decls;
 ghost use Rattle.sq_spec.specs.Statements as tables;
 ghost use Rattle.sq_spec.specs.Works as works;
 ghost use Rattle.sq_spec.specs.Bodies as spec;
@@ -13,15 +13,17 @@ ghost use Rattle.sq_spec.specs.Bodies as spec;
 use crate::body::{Body, FormBody};
 use crate::statement::{EnclosingMap, FormContext, Statement, statements};
 use indexmap::IndexMap;
+use sq_ast::sq_num::Elem;
 use sq_ast::{Body as Text, Param, Stmt, Variant};
-use sq_blocks::{Bindings, Env};
-use sq_forms::decls::{Scope, declare_all, params};
-use sq_forms::{Found, Frame, Key, LocalArray, RoutesByTask, SettingsByName, Variants};
-use sq_leaf::{Shape, compile_leaf};
-use sq_mapfile::Instance;
-use sq_num::Elem;
-use sq_rect::Dims;
+use sq_form_laws::sq_blocks::{Bindings, Env};
+use sq_form_laws::sq_forms::decls::{Scope, declare_all, params};
+use sq_form_laws::sq_forms::{
+    Found, Frame, Key, LocalArray, RoutesByTask, SettingsByName, Variants,
+};
+use sq_form_laws::sq_mapfile::Instance;
 use sq_text::Stop;
+use sq_work::sq_leaf::{Shape, compile_leaf};
+use sq_work::sq_rect::Dims;
 use sqlite_items::{Items, at};
 use std::alloc::{AllocError, Global};
 

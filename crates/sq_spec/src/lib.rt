@@ -10,4 +10,6 @@ mod statement;
 
 pub use body::{Body, FormBody};
 pub use resolved::{Resolved, resolve};
+pub use sq_form_laws;
+pub use sq_form_laws::{sq_blocks, sq_forms, sq_mapfile};
 pub use statement::{CallInstance, LoopKind, Statement};

@@ -6,12 +6,12 @@ ghost use Rattle.sq_text.specs.declared.fault.Fault.{Fault};
 ghost use Rattle.sq_ast.specs.contracts.program.Variant as row;
 ghost use Rattle.sq_text.specs.Answers.{IfRefused};
 ghost use Rattle.sq_ast.specs.Grammar.{most_levels};
-ghost use Rattle.sq_types.specs.Nesting.{HasLoops};
-ghost use Rattle.sq_types.specs.Sound.{is_sound};
-ghost use Rattle.sq_mapfile.specs.Sound.{Sound};
-ghost use Rattle.sq_forms.specs.Forms.{AreForms, IsFirstMet};
-ghost use Rattle.sq_forms.specs.Resolving.{Resolves, resolution, entry_params};
-ghost use Rattle.sq_forms.specs.Tables.{first_of_kind};
+ghost use Rattle.sq_work.specs.Types.Nesting.{HasLoops};
+ghost use Rattle.sq_work.specs.Types.Sound.{is_sound};
+ghost use Rattle.sq_form_laws.specs.Mapfile.Sound.{Sound};
+ghost use Rattle.sq_form_laws.specs.Forms.Forms.{AreForms, IsFirstMet};
+ghost use Rattle.sq_form_laws.specs.Forms.Resolving.{Resolves, resolution, entry_params};
+ghost use Rattle.sq_form_laws.specs.Forms.Tables.{first_of_kind};
 ghost use Rattle.sq_spec.specs.Bodies.{body_of};
 ghost use Rattle.sq_spec.specs.Walked.{IsWalked};
 ghost use Rattle.sq_spec.specs.Works.{found_in};
@@ -21,12 +21,14 @@ use crate::body::FormBody;
 use indexmap::IndexMap;
 use sq_ast::laws::given_programs_are_formed;
 use sq_ast::{Param, Program, VariantKind};
-use sq_forms::{Form, Found, Key, Resolving, Use, Variants, entry_params, resolve_forms};
-use sq_leaf::laws::leaf_variants_may_be_compiled;
-use sq_machfile::Machine;
-use sq_mapfile::{Instance, Mapping};
+use sq_form_laws::sq_forms::{
+    Form, Found, Key, Resolving, Use, Variants, entry_params, resolve_forms,
+};
+use sq_form_laws::sq_machfile::Machine;
+use sq_form_laws::sq_mapfile::{Instance, Mapping};
 use sq_text::{Name, Stop};
-use sq_types::Typed;
+use sq_work::sq_leaf::laws::leaf_variants_may_be_compiled;
+use sq_work::sq_types::Typed;
 use sqlite_items::Items;
 use std::alloc::{AllocError, Global};
 

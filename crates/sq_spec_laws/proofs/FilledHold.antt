@@ -25,12 +25,12 @@ use Rattle.sq_forms.specs.Worlds.{Frame, Callee, callee_of}
 use Rattle.sq_forms.specs.Stmts.{reduced_by}
 use Rattle.sq_spec.specs.Statements.{starts_from, iteration_points, count_at, count_rows, call_instance, loop_kind_of, StatementTable, all_of, call_table, table_of}
 use Rattle.sq_spec_laws.specs.Filled.{all_below, all_filled, filled_step, filled, ServedAreFull, TablesAreFull}
-use Rattle.sq_form_laws.specs.Reached.{concat, text_calls, body_calls}
+use Rattle.sq_spec.specs.FormLaws.Reached.{concat, text_calls, body_calls}
 use Rattle.sq_forms.specs.Resolving.{frame_in}
-use Rattle.sq_form_laws.proofs.EachCall.{AllIn, all_front, all_back, text_call, text_map}
+use Rattle.sq_spec.proofs.FormLaws.EachCall.{AllIn, all_front, all_back, text_call, text_map}
 use Rattle.sq_spec.proofs.OpenedStatement.{table_of_call, table_of_map}
 use Rattle.sq_spec.proofs.Rows.{row_kept, rows_kept, begun_before, slice_get_map, get_or_map, inner_at}
-use Rattle.sq_form_laws.proofs.ServedHold.{calls_are_served}
+use Rattle.sq_spec.proofs.FormLaws.ServedHold.{calls_are_served}
 use Rattle.sq_spec.proofs.TablesMean.{turn, iteration_points_deeper, first_start}
 
 both_true : (a c : Bool) → a ≡ true → c ≡ true → (a && c) ≡ true

@@ -8,17 +8,17 @@ use Rattle.sq_ast.specs.declared.program.Body.TheVariants as text
 use Rattle.sq_ast.specs.declared.program.Program.{Program}
 use Rattle.sq_ast.specs.declared.program.Variant.{Variant}
 use Rattle.sq_machfile.specs.declared.level.Level.{Level}
-use Rattle.sq_mapfile.specs.declared.mapping.Instance.{Instance}
-use Rattle.sq_mapfile.specs.declared.mapping.Mapping.{Mapping}
-use Rattle.sq_mapfile.specs.Sound.{Sound}
+use Rattle.sq_forms.specs.Mapfile.declared.mapping.Instance.{Instance}
+use Rattle.sq_forms.specs.Mapfile.declared.mapping.Mapping.{Mapping}
+use Rattle.sq_forms.specs.Mapfile.Sound.{Sound}
 use Rattle.sq_types.specs.Sound.{is_sound}
 use Rattle.sq_forms.specs.declared.form.Found.{Found}
 use Rattle.sq_forms.specs.Resolving.{Resolving, resolution, frame_in}
 use Rattle.sq_forms.specs.Steps.{Key, Called}
-use Rattle.sq_form_laws.specs.Reached.{CalleeIs, form_number}
-use Rattle.sq_form_laws.specs.Served.{FormRuns}
-use Rattle.sq_work.specs.declared.reduction.Reduction.{Reduction}
-use Rattle.sq_work.specs.Work.{Work, Then, Call}
+use Rattle.sq_spec.specs.FormLaws.Reached.{CalleeIs, form_number}
+use Rattle.sq_spec.specs.FormLaws.Served.{FormRuns}
+use Rattle.sq_spec.specs.Work.declared.reduction.Reduction.{Reduction}
+use Rattle.sq_spec.specs.Work.Work.{Work, Then, Call}
 use Rattle.sq_spec.specs.declared.body.FormBody.{FormBody}
 use Rattle.sq_spec.specs.declared.statement.CallInstance.{CallInstance}
 use Rattle.sq_spec.specs.declared.statement.LoopKind.{LoopKind}
@@ -30,8 +30,8 @@ use Rattle.sq_spec.specs.Statements.{elems_of, tables}
 use Rattle.sq_spec.specs.StatementsWork.{row_work, all_work, statement_work, statements_work}
 use Rattle.sq_spec.specs.Works.{map_work, shapes_of}
 use Rattle.sq_spec.specs.Bodies.{no_body, what_runs, found_body, instance_body, variant_body, scope_body, declared_body, body_of, body_work, numbered_work}
-use Rattle.sq_form_laws.proofs.FitHold.{forms_run}
-use Rattle.sq_form_laws.proofs.TreeHolds.{callers_first}
+use Rattle.sq_spec.proofs.FormLaws.FitHold.{forms_run}
+use Rattle.sq_spec.proofs.FormLaws.TreeHolds.{callers_first}
 use Rattle.sq_spec.proofs.TablesMean.{begun_call, begun_map}
 use Rattle.sq_spec_laws.specs.Fuel.{FormsBehindAreEnough}
 use Rattle.sq_spec_laws.specs.TableRows.{Table, all_tables, red_of, tables_of, tables_in}

@@ -23,9 +23,9 @@ use Rattle.sq_machfile.specs.declared.node.Node.{Node}
 use Rattle.sq_machfile.specs.Machines.{Hierarchy, WithinLimits}
 use Rattle.sq_machfile.proofs.Families.{child}
 use Rattle.sq_machfile.proofs.Hierarchies.{root}
-use Rattle.sq_mapfile.specs.declared.mapping.Instance.{Instance}
-use Rattle.sq_mapfile.specs.declared.mapping.Mapping.{Mapping}
-use Rattle.sq_mapfile.specs.Sound.{Sound}
+use Rattle.sq_forms.specs.Mapfile.declared.mapping.Instance.{Instance}
+use Rattle.sq_forms.specs.Mapfile.declared.mapping.Mapping.{Mapping}
+use Rattle.sq_forms.specs.Mapfile.Sound.{Sound}
 use Rattle.sq_blocks.specs.Names.{Numbers}
 use Rattle.sq_forms.specs.declared.form.Form.{Form}
 use Rattle.sq_forms.specs.declared.form.Found.{Found}
@@ -38,9 +38,9 @@ use Rattle.sq_forms.specs.Stmts.{after_calls, bounds, times_of, in_iteration, wi
 use Rattle.sq_forms.specs.Decls.{Scope, all_declared, params_from, empty_scope}
 use Rattle.sq_forms.specs.Resolving.{Resolving, resolution, with_locals, with_entry, start}
 use Rattle.sq_spec_laws.specs.Needs.{Turn, Reached, Reaching, reached_by, reached_in, any_lower, any_same, is_spread, turn_in, reaching_step, reaching, reached_by_body, reached_where, reached_with, frame_at, reached_of, reached_from, variant_for, child_for, IsCall, StandsAt, RunsAt, entry, beside, below, AtLevel, FormsRunAtTheirLevel}
-use Rattle.sq_form_laws.proofs.AllHold.{Adding, all_hold, within_list}
-use Rattle.sq_form_laws.proofs.FormsHold.{each_walked}
-use Rattle.sq_form_laws.proofs.RanHold.{Keyed, keys_reached, as_many_forms, few_found}
+use Rattle.sq_spec.proofs.FormLaws.AllHold.{Adding, all_hold, within_list}
+use Rattle.sq_spec.proofs.FormLaws.FormsHold.{each_walked}
+use Rattle.sq_spec.proofs.FormLaws.RanHold.{Keyed, keys_reached, as_many_forms, few_found}
 
 some_same : {A : Type 0} (x y : A) → Some x ≡ Some y → x ≡ y
 some_same x y h = cc h

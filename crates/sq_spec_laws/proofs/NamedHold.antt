@@ -13,7 +13,7 @@ use Rattle.sq_ast.specs.declared.program.Extent.{Extent}
 use Rattle.sq_ast.specs.declared.program.Extent.TheVariants as extent
 use Rattle.sq_ast.specs.declared.program.Param.{Param}
 use Rattle.sq_ast.specs.declared.stmt.Range.{Range}
-use Rattle.sq_mapfile.specs.declared.mapping.Tuning.{Tuning}
+use Rattle.sq_forms.specs.Mapfile.declared.mapping.Tuning.{Tuning}
 use Rattle.sq_types.specs.declared.kind.Kind.{Kind}
 use Rattle.sq_types.specs.declared.kind.Kind.TheVariants as kind
 use Rattle.sq_types.specs.Known.{Known, kind_of, with_name}
@@ -34,8 +34,8 @@ use Rattle.sq_forms.specs.Tables.{setting_of}
 use Rattle.sq_forms.specs.Stmts.{bounds, count_of, times, count_or_none, Turned, bind_variable, turned_from, in_iteration}
 use Rattle.sq_forms.specs.Decls.{Scope, with_first, with_array, number_in, list_in, dims_of, local_at, with_blocks, with_chop, array_of, after_decl, all_declared, param_at, params_from, empty_scope}
 use Rattle.sq_spec_laws.specs.Named.{IsThere, Stand, DeclaredNamesStand, VariablesStand, StandingNamesServe}
-use Rattle.sq_form_laws.proofs.InsideHold.{first_stood, chosen_ok}
-use Rattle.sq_form_laws.proofs.Shapes.{Stood, old, new, there_kept, new_there, KeptIn, IsBound, took_from}
+use Rattle.sq_spec.proofs.FormLaws.InsideHold.{first_stood, chosen_ok}
+use Rattle.sq_spec.proofs.FormLaws.Shapes.{Stood, old, new, there_kept, new_there, KeptIn, IsBound, took_from}
 
 -- ---- tables of names
 

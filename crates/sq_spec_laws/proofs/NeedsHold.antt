@@ -3,8 +3,8 @@ use Rattle.std.proofs.Common.{◌≡◌, ℕ, ◌<◌, ◌≤◌, ◌⊎◌, inl
 use Rattle.std.specs.Prelude.{slice_get}
 use Rattle.sq_ast.specs.declared.program.Variant.{Variant}
 use Rattle.sq_machfile.specs.declared.node.Node.{Node}
-use Rattle.sq_mapfile.specs.declared.mapping.Instance.{Instance}
-use Rattle.sq_mapfile.specs.declared.mapping.Mapping.{Mapping}
+use Rattle.sq_forms.specs.Mapfile.declared.mapping.Instance.{Instance}
+use Rattle.sq_forms.specs.Mapfile.declared.mapping.Mapping.{Mapping}
 use Rattle.sq_forms.specs.declared.form.Caller.{Caller}
 use Rattle.sq_forms.specs.declared.form.Form.{Form}
 use Rattle.sq_forms.specs.declared.form.Found.{Found}
@@ -12,9 +12,9 @@ use Rattle.sq_forms.specs.Steps.{Forms, Key}
 use Rattle.sq_forms.specs.Resolving.{Resolving, resolution, with_locals}
 use Rattle.sq_spec_laws.specs.Needs.{RunsAt, entry, beside, below, EndsAt, Needs, NeedIsOne, NoFormNoNeed, EntryIsAtRoot}
 use Rattle.sq_forms.proofs.AllForms.{forms_limit}
-use Rattle.sq_form_laws.proofs.AllHold.{Adding, all_hold}
-use Rattle.sq_form_laws.proofs.FormsHold.{each_walked}
-use Rattle.sq_form_laws.proofs.RanHold.{nothing_asked, as_many_forms}
+use Rattle.sq_spec.proofs.FormLaws.AllHold.{Adding, all_hold}
+use Rattle.sq_spec.proofs.FormLaws.FormsHold.{each_walked}
+use Rattle.sq_spec.proofs.FormLaws.RanHold.{nothing_asked, as_many_forms}
 
 some_same : {A : Type 0} (x y : A) → Some x ≡ Some y → x ≡ y
 some_same x y h = cc h

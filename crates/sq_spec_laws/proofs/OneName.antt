@@ -13,8 +13,8 @@ use Rattle.sq_ast.specs.declared.program.Decl.TheVariants as decl
 use Rattle.sq_ast.specs.declared.program.Extent.{Extent}
 use Rattle.sq_ast.specs.declared.program.Extent.TheVariants as extent
 use Rattle.sq_ast.specs.declared.program.Param.{Param}
-use Rattle.sq_mapfile.specs.declared.mapping.Tuning.{Tuning}
-use Rattle.sq_mapfile.proofs.Once.{itself}
+use Rattle.sq_forms.specs.Mapfile.declared.mapping.Tuning.{Tuning}
+use Rattle.sq_forms.proofs.Mapfile.Once.{itself}
 use Rattle.sq_types.specs.declared.kind.Kind.{Kind}
 use Rattle.sq_types.specs.declared.kind.Kind.TheVariants as kind
 use Rattle.sq_types.specs.Known.{Known, kind_of, with_name}
@@ -33,8 +33,8 @@ use Rattle.sq_forms.specs.Args.{Names, worths}
 use Rattle.sq_forms.specs.Calls.{bind_from}
 use Rattle.sq_forms.specs.Tables.{setting_of}
 use Rattle.sq_forms.specs.Decls.{Scope, with_first, with_array, number_in, list_in, dims_of, local_at, with_blocks, with_chop, array_of, after_decl, all_declared, param_at, params_from, empty_scope}
-use Rattle.sq_form_laws.proofs.InsideHold.{first_stood, chosen_ok}
-use Rattle.sq_form_laws.proofs.Shapes.{Stood, old, new, there_kept}
+use Rattle.sq_spec.proofs.FormLaws.InsideHold.{first_stood, chosen_ok}
+use Rattle.sq_spec.proofs.FormLaws.Shapes.{Stood, old, new, there_kept}
 use Rattle.sq_spec_laws.proofs.Sorted.{known_kept, known_own, three, both, is_fresh}
 
 -- a name's blocks are of the n-th array, whose name the name's kind tells

@@ -27,7 +27,7 @@ use Rattle.sq_forms.specs.Worlds.{Frame, Callee, callee_of}
 use Rattle.sq_forms.specs.Stmts.{reduced_by}
 use Rattle.sq_spec.specs.Statements.{starts_from, iteration_points, count_at, count_rows, call_instance, loop_kind_of, StatementTable, all_of, call_table, table_of}
 use Rattle.sq_spec_laws.specs.Ones.{Kind, all_ones, body_ones, kind_step, kind_of, ReductionsAreOfOne}
-use Rattle.sq_form_laws.proofs.FitHold.{both}
+use Rattle.sq_spec.proofs.FormLaws.FitHold.{both}
 use Rattle.sq_spec.proofs.OpenedStatement.{table_of_call, table_of_map}
 
 both_true : (a c : Bool) → a ≡ true → c ≡ true → (a && c) ≡ true

@@ -8,10 +8,10 @@ use Rattle.sq_blocks.specs.declared.argument.Argument.{Argument}
 use Rattle.sq_forms.specs.declared.args.Block.{Block}
 use Rattle.sq_forms.specs.Faults.{Value, and_then}
 use Rattle.sq_forms.specs.Args.{Names, block, mode_of, is_reduced}
-use Rattle.sq_form_laws.specs.Insides.{arrays_of}
-use Rattle.sq_form_laws.specs.Reached.{AreExamined}
+use Rattle.sq_spec.specs.FormLaws.Insides.{arrays_of}
+use Rattle.sq_spec.specs.FormLaws.Reached.{AreExamined}
 use Rattle.sq_spec_laws.specs.ReachedFacts.{ReachedLieInside, FlagsAreOfText}
-use Rattle.sq_form_laws.proofs.InsideHold.{all_good, begun_good, examined_lies}
+use Rattle.sq_spec.proofs.FormLaws.InsideHold.{all_good, begun_good, examined_lies}
 
 pub reached_lie_inside : ReachedLieInside
 reached_lie_inside variants mapping r k f x v begun binds many ran c h j a at =

@@ -16,7 +16,7 @@ use Rattle.sq_ast.specs.declared.program.Param.{Param}
 use Rattle.sq_ast.specs.declared.program.Body.{Body}
 use Rattle.sq_ast.specs.declared.program.Body.TheVariants as body
 use Rattle.sq_ast.specs.declared.program.Variant.{Variant}
-use Rattle.sq_mapfile.specs.declared.mapping.Instance.{Instance}
+use Rattle.sq_forms.specs.Mapfile.declared.mapping.Instance.{Instance}
 use Rattle.sq_blocks.specs.Names.{Numbers}
 use Rattle.sq_forms.specs.declared.form.Found.{Found}
 use Rattle.sq_forms.specs.Faults.{value_or}
@@ -27,7 +27,7 @@ use Rattle.sq_forms.specs.Calls.{CallSite, served_steps, reached_steps}
 use Rattle.sq_forms.specs.Stmts.{Portion, portion, all_of, after_calls, calls_of, each, opens, outermost, within, iteration_steps, map_steps, bounds, times_of, in_iteration}
 use Rattle.sq_forms.specs.Decls.{Scope, params_from, empty_scope}
 use Rattle.sq_forms.specs.Resolving.{frame_in, body_steps, start, with_locals}
-use Rattle.sq_form_laws.specs.Reached.{calls_in, steps_of}
+use Rattle.sq_spec.specs.FormLaws.Reached.{calls_in, steps_of}
 use Rattle.sq_spec_laws.specs.Needs.{Turn, Reached, Reaching, reached_by, total_calls, any_lower, any_same, reached_in, is_spread, turn_in, reaching_step, reaching, reached_by_body, reached_where, reached_with, reached_of, reached_from, frame_at, variant_for, AreSame, CallsAreThoseReached}
 use Rattle.sq_forms.proofs.OpenedStmt.{portion_call, portion_map}
 use Rattle.sq_spec_laws.proofs.LevelsHold.{reaching_call, reaching_map}

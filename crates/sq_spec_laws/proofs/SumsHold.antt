@@ -31,12 +31,12 @@ use Rattle.sq_ast.specs.declared.program.Program.{Program}
 use Rattle.sq_ast.specs.declared.program.Variant.{Variant}
 use Rattle.sq_ast.specs.Forms.{is_formed}
 use Rattle.sq_machfile.specs.declared.level.Level.{Level}
-use Rattle.sq_mapfile.specs.declared.mapping.Instance.{Instance}
-use Rattle.sq_mapfile.specs.declared.mapping.Mapping.{Mapping}
-use Rattle.sq_mapfile.specs.Sound.{Sound}
+use Rattle.sq_forms.specs.Mapfile.declared.mapping.Instance.{Instance}
+use Rattle.sq_forms.specs.Mapfile.declared.mapping.Mapping.{Mapping}
+use Rattle.sq_forms.specs.Mapfile.Sound.{Sound}
 use Rattle.sq_types.specs.Sound.{is_sound}
 use Rattle.sq_forms.specs.Tables.{variant_of}
-use Rattle.sq_mapfile.proofs.Once.{same, itself}
+use Rattle.sq_forms.proofs.Mapfile.Once.{same, itself}
 use Rattle.sq_types.specs.Known.{Known, kind_of}
 use Rattle.sq_types.specs.Table.{uses_of, has_whole, keeps_both, is_block_of, is_both, same_mode, same_elem}
 use Rattle.sq_types.specs.declared.kind.Kind.{Kind}
@@ -54,13 +54,13 @@ use Rattle.sq_forms.specs.declared.known.Array.{Array}
 use Rattle.sq_forms.specs.declared.known.Blocks.{Blocks}
 use Rattle.sq_forms.specs.Faults.{Value, and_then}
 use Rattle.sq_forms.specs.Args.{Names, of_array, of_block, all_of_array, whole_array, block_of, block_in, block_or_fault, block_by, block, worths, argument, mode_of, is_reduced}
-use Rattle.sq_form_laws.specs.Reached.{AreExamined, concat, text_calls, body_calls}
+use Rattle.sq_spec.specs.FormLaws.Reached.{AreExamined, concat, text_calls, body_calls}
 use Rattle.sq_forms.specs.Stmts.{reduced_by}
 use Rattle.sq_spec_laws.specs.Summing.{WholeOf, IsSum, SumsAreWhole, SumsAreAlone}
 use Rattle.sq_spec_laws.specs.TableRows.{Summed, all_summed, summed, summed_in}
-use Rattle.sq_form_laws.proofs.AllHold.{within_list}
-use Rattle.sq_form_laws.proofs.EachCall.{AllIn, all_front, all_back, text_call, text_map, InText, each_in_text}
-use Rattle.sq_form_laws.proofs.FitHold.{is_equal, both, of_program, variant_parts}
+use Rattle.sq_spec.proofs.FormLaws.AllHold.{within_list}
+use Rattle.sq_spec.proofs.FormLaws.EachCall.{AllIn, all_front, all_back, text_call, text_map, InText, each_in_text}
+use Rattle.sq_spec.proofs.FormLaws.FitHold.{is_equal, both, of_program, variant_parts}
 use Rattle.sq_spec_laws.proofs.TableRowsHold.{summed_call, summed_map}
 use Rattle.sq_spec_laws.proofs.OneName.{OneName, scope_names}
 use Rattle.sq_spec_laws.proofs.Sorted.{known_kept}

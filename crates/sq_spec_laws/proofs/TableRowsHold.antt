@@ -17,7 +17,7 @@ use Rattle.sq_ast.specs.declared.stmt.Stmt.TheVariants as s
 use Rattle.sq_ast.specs.declared.stmt.Stmt.TheOpen.{Stmt-F}
 use Rattle.sq_ast.specs.declared.stmt.Stmt.TheFolds.{ind-Stmt, map-Stmt, fold-roll-Stmt}
 use Rattle.sq_blocks.specs.Names.{Numbers}
-use Rattle.sq_work.specs.declared.reduction.Reduction.{Reduction}
+use Rattle.sq_spec.specs.Work.declared.reduction.Reduction.{Reduction}
 use Rattle.sq_spec.specs.declared.statement.LoopKind.{LoopKind}
 use Rattle.sq_spec.specs.declared.statement.CallInstance.{CallInstance}
 use Rattle.sq_spec.specs.declared.statement.Statement.{Statement}
@@ -31,17 +31,17 @@ use Rattle.sq_forms.specs.Worlds.{Frame, Callee, callee_of}
 use Rattle.sq_forms.specs.Calls.{CallSite, call_of, served_steps, reached_steps}
 use Rattle.sq_forms.specs.Stmts.{Walked, Portion, portion, all_of as portions_of, after_calls, bounds, times_of, in_iteration, within, each, opens, outermost, iteration_steps, map_steps, reduced_by}
 use Rattle.sq_forms.specs.Resolving.{start, frame_in, body_steps}
-use Rattle.sq_form_laws.specs.Reached.{calls_in, concat, text_calls, body_calls, or_zero, steps_of}
+use Rattle.sq_spec.specs.FormLaws.Reached.{calls_in, concat, text_calls, body_calls, or_zero, steps_of}
 use Rattle.sq_spec.specs.Statements.{number_or, starts_from, iteration_points, count_at, count_rows, call_instance, loop_kind_of, StatementTable, all_of, call_table, table_of, elems_of}
 use Rattle.sq_spec_laws.specs.TableRows.{Table, red_of, all_tables, tables_step, tables_of, Summed, all_summed, summed_step, summed, SumIs, RowIsReached, TableIsReached, OfText, RowsAreReached}
 use Rattle.sq_forms.specs.Decls.{Scope}
-use Rattle.sq_form_laws.proofs.AllHold.{within_list}
-use Rattle.sq_form_laws.proofs.EachCall.{AllIn, all_front, all_back, text_call, text_map, InText, each_in_text}
-use Rattle.sq_form_laws.proofs.FormsHold.{each_walked}
+use Rattle.sq_spec.proofs.FormLaws.AllHold.{within_list}
+use Rattle.sq_spec.proofs.FormLaws.EachCall.{AllIn, all_front, all_back, text_call, text_map, InText, each_in_text}
+use Rattle.sq_spec.proofs.FormLaws.FormsHold.{each_walked}
 use Rattle.sq_spec.proofs.OpenedStatement.{table_of_call, table_of_map, same_calls}
 use Rattle.sq_forms.proofs.OpenedStmt.{portion_call, portion_map}
-use Rattle.sq_form_laws.proofs.Passing.{past_count, past_test, past_call, call_reached}
-use Rattle.sq_form_laws.proofs.RanHold.{few_found, begun_state, walk_opened}
+use Rattle.sq_spec.proofs.FormLaws.Passing.{past_count, past_test, past_call, call_reached}
+use Rattle.sq_spec.proofs.FormLaws.RanHold.{few_found, begun_state, walk_opened}
 use Rattle.sq_spec.proofs.TablesMean.{turn, turns_of, iteration_points_deeper}
 
 -- ---- lists

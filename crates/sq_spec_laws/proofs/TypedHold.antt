@@ -26,9 +26,9 @@ use Rattle.sq_ast.specs.declared.program.Param.{Param}
 use Rattle.sq_ast.specs.declared.program.Variant.{Variant}
 use Rattle.sq_ast.specs.declared.program.Program.{Program}
 use Rattle.sq_machfile.specs.declared.level.Level.{Level}
-use Rattle.sq_mapfile.specs.declared.mapping.Instance.{Instance}
-use Rattle.sq_mapfile.specs.declared.mapping.Mapping.{Mapping}
-use Rattle.sq_mapfile.specs.Sound.{Sound}
+use Rattle.sq_forms.specs.Mapfile.declared.mapping.Instance.{Instance}
+use Rattle.sq_forms.specs.Mapfile.declared.mapping.Mapping.{Mapping}
+use Rattle.sq_forms.specs.Mapfile.Sound.{Sound}
 use Rattle.sq_types.specs.declared.kind.ArrayType.{ArrayType}
 use Rattle.sq_types.specs.declared.kind.Kind.{Kind}
 use Rattle.sq_types.specs.declared.kind.Kind.TheVariants as kind
@@ -52,17 +52,17 @@ use Rattle.sq_forms.specs.Args.{Names, of_array, of_block, all_of_array, whole_a
 use Rattle.sq_spec.specs.Statements.{param_elems, local_elems}
 use Rattle.sq_ast.specs.Modes.{is_written}
 use Rattle.sq_forms.specs.Decls.{Scope, empty_scope, params_from}
-use Rattle.sq_form_laws.specs.Reached.{Ran, IsReached, AreExamined, concat, text_calls, body_calls}
+use Rattle.sq_spec.specs.FormLaws.Reached.{Ran, IsReached, AreExamined, concat, text_calls, body_calls}
 use Rattle.sq_forms.specs.Resolving.{Resolving, frame_in}
 use Rattle.sq_forms.specs.Steps.{Called}
 use Rattle.sq_forms.specs.Tables.{variant_of}
 use Rattle.sq_spec_laws.specs.Typed.{param_writes, local_writes, ArgumentsHaveTypes, WritesArePermitted}
 use Rattle.sq_forms.specs.Worlds.{Callee, callee_of}
-use Rattle.sq_form_laws.proofs.AllHold.{within_list}
-use Rattle.sq_form_laws.proofs.EachCall.{AllIn, all_joined, text_call, text_map}
-use Rattle.sq_form_laws.proofs.FitHold.{some_same, is_equal, both, of_program, variant_parts, same_count}
-use Rattle.sq_form_laws.proofs.Passing.{as_many}
-use Rattle.sq_form_laws.proofs.ServedHold.{all_at, calls_are_served}
+use Rattle.sq_spec.proofs.FormLaws.AllHold.{within_list}
+use Rattle.sq_spec.proofs.FormLaws.EachCall.{AllIn, all_joined, text_call, text_map}
+use Rattle.sq_spec.proofs.FormLaws.FitHold.{some_same, is_equal, both, of_program, variant_parts, same_count}
+use Rattle.sq_spec.proofs.FormLaws.Passing.{as_many}
+use Rattle.sq_spec.proofs.FormLaws.ServedHold.{all_at, calls_are_served}
 use Rattle.sq_spec_laws.proofs.Sorted.{Sort, sort_of, param_sort, local_sort, all_sorts, OfArray, OfBlocks, Sorted, ranges_sorted, scope_sorted, four}
 
 -- ---- each call, with what is known where it stands

@@ -7,9 +7,9 @@ use Rattle.sq_ast.specs.declared.program.Variant.{Variant}
 use Rattle.sq_ast.specs.declared.stmt.Call.{Call}
 use Rattle.sq_ast.specs.declared.stmt.Stmt.{Stmt}
 use Rattle.sq_machfile.specs.declared.level.Level.{Level}
-use Rattle.sq_mapfile.specs.declared.mapping.Instance.{Instance}
-use Rattle.sq_mapfile.specs.declared.mapping.Mapping.{Mapping}
-use Rattle.sq_mapfile.specs.Sound.{Sound}
+use Rattle.sq_forms.specs.Mapfile.declared.mapping.Instance.{Instance}
+use Rattle.sq_forms.specs.Mapfile.declared.mapping.Mapping.{Mapping}
+use Rattle.sq_forms.specs.Mapfile.Sound.{Sound}
 use Rattle.sq_blocks.specs.Names.{Numbers}
 use Rattle.sq_spec.specs.declared.statement.Statement.{Statement}
 use Rattle.sq_spec.specs.declared.statement.Statement.TheOpen.{Statement-F}
@@ -17,7 +17,7 @@ use Rattle.sq_spec.specs.declared.statement.Statement.TheFolds.{fold-Statement}
 use Rattle.sq_forms.specs.declared.form.Found.{Found}
 use Rattle.sq_forms.specs.Args.{Names}
 use Rattle.sq_spec.specs.Statements.{tables}
-use Rattle.sq_form_laws.specs.Reached.{concat, text_calls}
+use Rattle.sq_spec.specs.FormLaws.Reached.{concat, text_calls}
 use Rattle.sq_forms.specs.Resolving.{frame_in}
 use Rattle.sq_forms.specs.Steps.{Forms}
 use Rattle.sq_forms.specs.Tables.{variant_of}

@@ -7,3 +7,7 @@ pub mod Summing
 pub mod ReachedFacts
 pub mod Ones
 pub mod Fuel
+-- Definitions of crates below, passed on.
+pub use Rattle.sq_forms.specs as Forms
+pub use Rattle.sq_forms.specs.Mapfile
+pub use Rattle.sq_spec.specs as Spec

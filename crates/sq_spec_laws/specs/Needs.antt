@@ -16,7 +16,7 @@ use Rattle.std.specs.Prelude.{◌≡◌, ◌⊎◌, ℕ, suc, ◌+◌, ◌*◌, 
 use Rattle.std.specs.List.{flat_map, range_with_len}
 use Rattle.sq_num.specs.declared.Elem.{Elem}
 use Rattle.sq_num.specs.Elements.{width}
-use Rattle.sq_rect.specs.Extents.{product}
+use Rattle.sq_blocks.specs.Rect.Extents.{product}
 use Rattle.sq_text.specs.declared.spread.SpreadRule.{SpreadRule}
 use Rattle.sq_text.specs.Spreading.{child_of}
 use Rattle.sq_ast.specs.declared.stmt.Call.{Call}
@@ -32,9 +32,9 @@ use Rattle.sq_ast.specs.declared.program.Body.TheVariants as body
 use Rattle.sq_ast.specs.declared.program.Program.{Program}
 use Rattle.sq_machfile.specs.declared.node.Node.{Node}
 use Rattle.sq_machfile.specs.Machines.{Hierarchy, WithinLimits}
-use Rattle.sq_mapfile.specs.Sound.{Sound}
-use Rattle.sq_mapfile.specs.declared.mapping.Instance.{Instance}
-use Rattle.sq_mapfile.specs.declared.mapping.Mapping.{Mapping}
+use Rattle.sq_forms.specs.Mapfile.Sound.{Sound}
+use Rattle.sq_forms.specs.Mapfile.declared.mapping.Instance.{Instance}
+use Rattle.sq_forms.specs.Mapfile.declared.mapping.Mapping.{Mapping}
 use Rattle.sq_blocks.specs.Names.{Numbers}
 use Rattle.sq_blocks.specs.declared.argument.Argument.{Argument}
 use Rattle.sq_forms.specs.declared.form.Form.{Form}
@@ -50,7 +50,7 @@ use Rattle.sq_forms.specs.Stmts.{after_calls, bounds, times_of, in_iteration, wi
 use Rattle.sq_forms.specs.Decls.{Scope, empty_scope, params_from, all_declared}
 use Rattle.sq_forms.specs.Resolving.{Resolving, resolution, with_locals, start, params_of}
 use Rattle.sq_forms.specs.Steps.{Called}
-use Rattle.sq_form_laws.specs.Reached.{Ran, calls_in, steps_of}
+use Rattle.sq_spec.specs.FormLaws.Reached.{Ran, calls_in, steps_of}
 
 -- ---- how many bytes forms take
 

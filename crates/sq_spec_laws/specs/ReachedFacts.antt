@@ -2,14 +2,14 @@
 use Rattle.std.specs.Prelude.{◌≡◌, ℕ, List, map, length, Some, slice_get}
 use Rattle.sq_ast.specs.declared.program.Variant.{Variant}
 use Rattle.sq_ast.specs.declared.stmt.Call.{Call}
-use Rattle.sq_mapfile.specs.declared.mapping.Instance.{Instance}
-use Rattle.sq_mapfile.specs.declared.mapping.Mapping.{Mapping}
+use Rattle.sq_forms.specs.Mapfile.declared.mapping.Instance.{Instance}
+use Rattle.sq_forms.specs.Mapfile.declared.mapping.Mapping.{Mapping}
 use Rattle.sq_blocks.specs.declared.argument.Argument.{Argument}
 use Rattle.sq_forms.specs.declared.form.Found.{Found}
 use Rattle.sq_forms.specs.Args.{Names, is_reduced}
 use Rattle.sq_forms.specs.Decls.{Scope, empty_scope, params_from}
-use Rattle.sq_form_laws.specs.Insides.{LiesIn, arrays_of}
-use Rattle.sq_form_laws.specs.Reached.{Ran, IsReached, body_calls}
+use Rattle.sq_spec.specs.FormLaws.Insides.{LiesIn, arrays_of}
+use Rattle.sq_spec.specs.FormLaws.Reached.{Ran, IsReached, body_calls}
 use Rattle.sq_forms.specs.Resolving.{Resolving, frame_in}
 use Rattle.sq_forms.specs.Steps.{Called}
 use Rattle.sq_forms.specs.Worlds.{Frame}

@@ -11,9 +11,9 @@ use Rattle.sq_ast.specs.declared.program.Variant.{Variant}
 use Rattle.sq_ast.specs.declared.stmt.Call.{Call}
 use Rattle.sq_ast.specs.declared.stmt.Stmt.{Stmt}
 use Rattle.sq_machfile.specs.declared.level.Level.{Level}
-use Rattle.sq_mapfile.specs.declared.mapping.Instance.{Instance}
-use Rattle.sq_mapfile.specs.declared.mapping.Mapping.{Mapping}
-use Rattle.sq_mapfile.specs.Sound.{Sound}
+use Rattle.sq_forms.specs.Mapfile.declared.mapping.Instance.{Instance}
+use Rattle.sq_forms.specs.Mapfile.declared.mapping.Mapping.{Mapping}
+use Rattle.sq_forms.specs.Mapfile.Sound.{Sound}
 use Rattle.sq_types.specs.Sound.{is_sound}
 use Rattle.sq_blocks.specs.Names.{Numbers}
 use Rattle.sq_blocks.specs.Spans.{wholes}
@@ -22,7 +22,7 @@ use Rattle.sq_forms.specs.declared.form.Found.{Found}
 use Rattle.sq_forms.specs.declared.known.Array.{Array}
 use Rattle.sq_forms.specs.Args.{Names}
 use Rattle.sq_forms.specs.Decls.{Scope, empty_scope, params_from, all_declared}
-use Rattle.sq_form_laws.specs.Reached.{AreExamined}
+use Rattle.sq_spec.specs.FormLaws.Reached.{AreExamined}
 use Rattle.sq_forms.specs.Resolving.{frame_in}
 use Rattle.sq_spec_laws.specs.TableRows.{summed_in}
 use Rattle.sq_forms.specs.Tables.{variant_of}

@@ -9,9 +9,9 @@ use Rattle.sq_ast.specs.declared.stmt.Call.{Call}
 use Rattle.sq_ast.specs.declared.stmt.Stmt.{Stmt}
 use Rattle.sq_ast.specs.declared.stmt.Stmt.TheOpen.{Stmt-F}
 use Rattle.sq_ast.specs.declared.stmt.Stmt.TheFolds.{fold-Stmt}
-use Rattle.sq_mapfile.specs.declared.mapping.Instance.{Instance}
-use Rattle.sq_mapfile.specs.declared.mapping.Mapping.{Mapping}
-use Rattle.sq_work.specs.declared.reduction.Reduction.{Reduction}
+use Rattle.sq_forms.specs.Mapfile.declared.mapping.Instance.{Instance}
+use Rattle.sq_forms.specs.Mapfile.declared.mapping.Mapping.{Mapping}
+use Rattle.sq_spec.specs.Work.declared.reduction.Reduction.{Reduction}
 use Rattle.sq_spec.specs.declared.statement.LoopKind.{LoopKind}
 use Rattle.sq_spec.specs.declared.statement.LoopKind.TheVariants as loop_kind
 use Rattle.sq_spec.specs.declared.statement.CallInstance.{CallInstance}
@@ -22,7 +22,7 @@ use Rattle.sq_forms.specs.declared.form.Found.{Found}
 use Rattle.sq_forms.specs.Args.{Names}
 use Rattle.sq_spec.specs.Statements.{tables, elems_of, array_number, elem_or_long}
 use Rattle.sq_forms.specs.Decls.{Scope, empty_scope, params_from}
-use Rattle.sq_form_laws.specs.Reached.{Ran, IsReached, calls_in, steps_of, body_calls, form_number}
+use Rattle.sq_spec.specs.FormLaws.Reached.{Ran, IsReached, calls_in, steps_of, body_calls, form_number}
 use Rattle.sq_forms.specs.Resolving.{Resolving, resolution, frame_in}
 use Rattle.sq_forms.specs.Steps.{Forms, Called, Key}
 use Rattle.sq_forms.specs.Stmts.{reduced_by}

@@ -4,9 +4,9 @@ use Rattle.sq_ast.specs.declared.program.Param.{Param}
 use Rattle.sq_ast.specs.declared.program.Program.{Program}
 use Rattle.sq_ast.specs.declared.program.Variant.{Variant}
 use Rattle.sq_machfile.specs.declared.level.Level.{Level}
-use Rattle.sq_mapfile.specs.declared.mapping.Instance.{Instance}
-use Rattle.sq_mapfile.specs.declared.mapping.Mapping.{Mapping}
-use Rattle.sq_mapfile.specs.Sound.{Sound}
+use Rattle.sq_forms.specs.Mapfile.declared.mapping.Instance.{Instance}
+use Rattle.sq_forms.specs.Mapfile.declared.mapping.Mapping.{Mapping}
+use Rattle.sq_forms.specs.Mapfile.Sound.{Sound}
 use Rattle.sq_num.specs.declared.Elem.{Elem}
 use Rattle.sq_types.specs.Sound.{is_sound}
 use Rattle.sq_blocks.specs.declared.argument.Argument.{Argument}
@@ -18,7 +18,7 @@ use Rattle.sq_forms.specs.Decls.{Scope, empty_scope, params_from}
 use Rattle.sq_forms.specs.Resolving.{Resolving, frame_in}
 use Rattle.sq_forms.specs.Steps.{Called}
 use Rattle.sq_forms.specs.Tables.{variant_of}
-use Rattle.sq_form_laws.specs.Reached.{Ran, IsReached, body_calls}
+use Rattle.sq_spec.specs.FormLaws.Reached.{Ran, IsReached, body_calls}
 
 -- which arrays of a form may be written: the parameters that are `out` or `inout`, and all locals
 abbrev pub param_writes : List Param → List Bool

@@ -2,3 +2,6 @@
 #![tactic(auto)]
 
 pub mod laws;
+
+pub use sq_forms::sq_mapfile;
+pub use sq_spec;

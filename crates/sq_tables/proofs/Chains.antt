@@ -1,9 +1,9 @@
 -- What is known of a map by the statement alone that stands in it.
 use Rattle.std.proofs.Common.{◌≡◌, ℕ, suc, ◌+◌, List, [], ◌∷◌, Option, Some, None, refl, arith}
-use Rattle.sq_ir.specs.declared.num.Num.{Num}
+use Rattle.sq_term.specs.Ir.declared.num.Num.{Num}
 use Rattle.sq_spec.specs.declared.statement.LoopKind.{LoopKind}
 use Rattle.sq_spec.specs.declared.statement.LoopKind.TheVariants as loop_kind
-use Rattle.sq_placed.specs.Tables.{Chain, chain_of}
+use Rattle.sq_term.specs.Placed.Tables.{Chain, chain_of}
 use Rattle.sq_term.specs.Terms.{first_num, chain_num}
 use Rattle.sq_tables.specs.Loops.{rows_of_chain, rows_of_list, loops_of_chain, loops_of_list, first_of_list}
 

@@ -1,14 +1,14 @@
 -- The equations of what stands in a statement, one for each variant.
 use Rattle.std.proofs.Common.{◌≡◌, ℕ, Bool, List, map, Option, ap, sym, ◌∙◌}
 use Rattle.sq_text.specs.declared.place.Place.{Place}
-use Rattle.sq_ir.specs.declared.num.Num.{Num}
+use Rattle.sq_term.specs.Ir.declared.num.Num.{Num}
 use Rattle.sq_spec.specs.declared.statement.LoopKind.{LoopKind}
 use Rattle.sq_spec.specs.declared.statement.CallInstance.{CallInstance}
 use Rattle.sq_spec.specs.declared.statement.Statement.{Statement}
 use Rattle.sq_spec.specs.declared.statement.Statement.TheVariants as b
 use Rattle.sq_spec.specs.declared.statement.Statement.TheOpen.{Statement-F}
 use Rattle.sq_spec.specs.declared.statement.Statement.TheFolds.{fold-roll-Statement}
-use Rattle.sq_placed.specs.Tables.{Chain}
+use Rattle.sq_term.specs.Placed.Tables.{Chain}
 use Rattle.sq_tables.specs.Loops.{lower_step, lower_in, same_step, same_in, chain_step, chain_in}
 
 pub lower_call : (lower : Bool) (instances : List CallInstance) → lower_in (b.Call lower instances)

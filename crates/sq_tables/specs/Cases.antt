@@ -3,7 +3,7 @@ use Rattle.std.specs.Prelude.{◌≡◌, ℕ, suc, max, ◌==◌, ℤ, nat_eq, L
 use Rattle.std.specs.Prelude.{if◌then◌else◌}
 use Rattle.std.specs.List.{list_any}
 use Rattle.indexmap.specs.IndexMap.{get}
-use Rattle.sq_ir.specs.declared.term.LeafView.{LeafView}
+use Rattle.sq_term.specs.Ir.declared.term.LeafView.{LeafView}
 use Rattle.sq_spec.specs.declared.statement.CallInstance.{CallInstance}
 use Rattle.sq_term.specs.Terms.{offsets, is_same_arm, arm_number}
 use Rattle.sq_tables.specs.declared.cases.Arms.{Arms}

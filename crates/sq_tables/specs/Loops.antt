@@ -1,13 +1,13 @@
 -- What stands in a statement: calls of either kind, and the one call that it is a loop of.
 use Rattle.std.specs.Prelude.{ℕ, ◌+◌, Bool, false, not, ◌||◌, List, [], ◌∷◌, Option, Some, None}
-use Rattle.sq_ir.specs.declared.num.Num.{Num}
+use Rattle.sq_term.specs.Ir.declared.num.Num.{Num}
 use Rattle.sq_spec.specs.declared.statement.LoopKind.{LoopKind}
 use Rattle.sq_spec.specs.declared.statement.LoopKind.TheVariants as loop_kind
 use Rattle.sq_spec.specs.declared.statement.CallInstance.{CallInstance}
 use Rattle.sq_spec.specs.declared.statement.Statement.{Statement}
 use Rattle.sq_spec.specs.declared.statement.Statement.TheOpen.{Statement-F}
 use Rattle.sq_spec.specs.declared.statement.Statement.TheFolds.{fold-Statement}
-use Rattle.sq_placed.specs.Tables.{Chain, call_chain, chain_of}
+use Rattle.sq_term.specs.Placed.Tables.{Chain, call_chain, chain_of}
 use Rattle.sq_term.specs.Terms.{first_num, chain_num}
 
 -- whether statements have a lower call in them, and a same-level one

@@ -3,14 +3,14 @@
 ghost use Rattle.std.specs.Prelude.{◌≡◌, ◌*◌, IfOk, map, pos, []};
 ghost use Rattle.std.specs.Option.{option_copied};
 ghost use Rattle.sq_num.specs.Elements as elements;
-ghost use Rattle.sq_rect.specs.Placing.{offset};
-ghost use Rattle.sq_placed.specs.Seats.{firsts};
+ghost use Rattle.sq_term.specs.Rect.Placing.{offset};
+ghost use Rattle.sq_term.specs.Placed.Seats.{firsts};
 ghost use Rattle.sq_term.specs.Terms as terms;
 
-use sq_blocks::Argument;
-use sq_ir::{LeafView, Numbers};
 use sq_num::width;
 use sq_spec::CallInstance;
+use sq_spec::sq_blocks::Argument;
+use sq_term::sq_ir::{LeafView, Numbers};
 use sq_text::Span;
 use sqlite_items::at;
 use std::alloc::{AllocError, Global};

@@ -1,11 +1,11 @@
 //! The arguments that leave a loop.
 
 ghost use Rattle.std.specs.Prelude.{◌≡◌, IfOk, get_or};
-ghost use Rattle.sq_placed.specs.declared.home.Home.TheVariants as home;
-ghost use Rattle.sq_placed.specs.Tables as tables;
+ghost use Rattle.sq_term.specs.Placed.declared.home.Home.TheVariants as home;
+ghost use Rattle.sq_term.specs.Placed.Tables as tables;
 
-use sq_blocks::Argument;
-use sq_placed::Home;
+use sq_spec::sq_blocks::Argument;
+use sq_term::sq_placed::Home;
 use sqlite_items::{Items, at};
 use std::alloc::{AllocError, Global};
 use std::marker::Model;
@@ -20,8 +20,8 @@ pub struct Left<'a> {
 impl<'a> Model for Left<'a> {
     ghost use Rattle.std.specs.Prelude.{ℕ};
     ghost use Rattle.std.specs.Coded.{codes};
-    ghost use Rattle.sq_blocks.specs.contracts.argument.Argument as contract;
-    ghost use Rattle.sq_blocks.specs.declared.argument.Argument.{Argument as Left_argument};
+    ghost use Rattle.sq_spec.specs.Blocks.contracts.argument.Argument as contract;
+    ghost use Rattle.sq_spec.specs.Blocks.declared.argument.Argument.{Argument as Left_argument};
 
     ghost Value = { ℕ × Left_argument };
 

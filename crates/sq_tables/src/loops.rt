@@ -2,7 +2,7 @@
 
 ghost use Rattle.std.specs.Prelude.{◌≡◌, ◌+◌, IfOk, map};
 ghost use Rattle.std.specs.Option.{option_copied};
-ghost use Rattle.sq_placed.specs.Tables as tables;
+ghost use Rattle.sq_term.specs.Placed.Tables as tables;
 ghost use Rattle.sq_tables.specs.Loops as loops;
 
 use sq_num::RedOp;

@@ -2,12 +2,12 @@
 
 ghost use Rattle.std.specs.Prelude.{◌≡◌, map, slice_get};
 ghost use Rattle.std.specs.Option.{option_copied};
-ghost use Rattle.sq_placed.specs.Tables as tables;
+ghost use Rattle.sq_term.specs.Placed.Tables as tables;
 ghost use Rattle.sq_term.specs.Terms as terms;
 ghost use Rattle.sq_tables.specs.Loops as loops;
 
-use sq_placed::Homes;
 use sq_spec::{CallInstance, LoopKind, Statement};
+use sq_term::sq_placed::Homes;
 use sq_text::SpreadRule;
 use sqlite_items::at;
 use std::marker::Model;
@@ -22,7 +22,7 @@ pub struct Pipe<'a> {
 impl<'a> Model for Pipe<'a> {
     ghost use Rattle.std.specs.Coded.{codes};
     ghost use Rattle.sq_spec.specs.contracts.statement.CallInstance as contract;
-    ghost use Rattle.sq_placed.specs.Tables.{Pipe as PipeOfTables};
+    ghost use Rattle.sq_term.specs.Placed.Tables.{Pipe as PipeOfTables};
 
     ghost Value = { PipeOfTables };
 

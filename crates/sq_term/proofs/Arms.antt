@@ -5,8 +5,8 @@ use Rattle.std.proofs.lemmas.Bool.Decides.{nat_tests}
 use Rattle.std.specs.List.{list_any}
 use Rattle.sq_ast.specs.declared.program.Mode.{Mode}
 use Rattle.sq_ast.specs.declared.program.Mode.TheVariants.{Input, Output, Both}
-use Rattle.sq_blocks.specs.declared.argument.Argument.{Argument}
-use Rattle.sq_spec.specs.declared.statement.CallInstance.{CallInstance}
+use Rattle.sq_ir.specs.Blocks.declared.argument.Argument.{Argument}
+use Rattle.sq_placed.specs.Spec.declared.statement.CallInstance.{CallInstance}
 pub use Rattle.sq_placed.specs.Pipes.{IsHead}
 use Rattle.sq_placed.specs.Pipes.{AreHeads, no_heads, more_heads}
 use Rattle.sq_term.specs.Terms.{is_mode, is_bool, same_head, same_heads, is_same_arm, arm_number, with_arm, arms_from}

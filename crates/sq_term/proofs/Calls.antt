@@ -7,9 +7,9 @@ use Rattle.std.specs.Prelude.{nat_abs}
 use Rattle.std.specs.List.{list_all}
 use Rattle.sq_num.specs.declared.RedOp.{RedOp}
 use Rattle.sq_num.specs.Elements.{width}
-use Rattle.sq_rect.specs.Extents.{row_major}
-use Rattle.sq_rect.specs.Placing.{offset}
-use Rattle.sq_leaf.specs.declared.shape.Shape.{Shape}
+use Rattle.sq_ir.specs.Rect.Extents.{row_major}
+use Rattle.sq_ir.specs.Rect.Placing.{offset}
+use Rattle.sq_ir.specs.Leaf.declared.shape.Shape.{Shape}
 use Rattle.sq_ir.specs.Tree as tree
 use Rattle.sq_ir.specs.Tree.{seq}
 use Rattle.sq_ir.specs.Written.{Setting, Env, PlanTree, written, count_of, inside_of, node_of, seq_parts, par_parts}
@@ -20,8 +20,8 @@ use Rattle.sq_ir.specs.declared.term.LeafView.{LeafView}
 use Rattle.sq_ir.specs.declared.term.Term.{Term}
 use Rattle.sq_ir.specs.declared.term.Term.TheVariants as term
 use Rattle.sq_ir.proofs.Equations.{written_within, written_seq, written_par}
-use Rattle.sq_blocks.specs.declared.argument.Argument.{Argument}
-use Rattle.sq_spec.specs.declared.statement.CallInstance.{CallInstance}
+use Rattle.sq_ir.specs.Blocks.declared.argument.Argument.{Argument}
+use Rattle.sq_placed.specs.Spec.declared.statement.CallInstance.{CallInstance}
 use Rattle.sq_placed.specs.declared.home.Home.{Home}
 use Rattle.sq_placed.specs.declared.home.Home.TheVariants.{InPlace, Own, Held, Twin}
 use Rattle.sq_term.specs.declared.context.Context.{Context}

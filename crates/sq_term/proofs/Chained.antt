@@ -1,11 +1,11 @@
 -- The chains of statements' terms: where no loop stands round a call, the statement is that call.
 use Rattle.std.proofs.Common.{ℕ, List, [], ◌∷◌, map, sym, subst}
 use Rattle.sq_text.specs.declared.spread.SpreadRule.{SpreadRule}
-use Rattle.sq_spec.specs.declared.statement.Statement.{Statement, roll-Statement}
-use Rattle.sq_spec.specs.declared.statement.Statement.TheVariants as b
-use Rattle.sq_spec.specs.declared.statement.Statement.TheOpen.{Statement-F}
-use Rattle.sq_spec.specs.declared.statement.Statement.TheFolds.{ind-Statement, map-Statement}
-use Rattle.sq_spec.specs.declared.body.FormBody.{FormBody}
+use Rattle.sq_placed.specs.Spec.declared.statement.Statement.{Statement, roll-Statement}
+use Rattle.sq_placed.specs.Spec.declared.statement.Statement.TheVariants as b
+use Rattle.sq_placed.specs.Spec.declared.statement.Statement.TheOpen.{Statement-F}
+use Rattle.sq_placed.specs.Spec.declared.statement.Statement.TheFolds.{ind-Statement, map-Statement}
+use Rattle.sq_placed.specs.Spec.declared.body.FormBody.{FormBody}
 use Rattle.sq_ir.specs.declared.term.Term.{Term}
 use Rattle.sq_placed.specs.declared.home.Homes.{Homes}
 use Rattle.sq_placed.proofs.Pipes.{IsChain, AreChains, no_chains, more_chains, chain_of_call, chain_of_map}

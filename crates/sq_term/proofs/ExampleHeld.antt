@@ -6,22 +6,22 @@ use Rattle.std.specs.Prelude.{◌*◌}
 use Rattle.sq_num.specs.declared.Elem.TheVariants.{Int}
 use Rattle.sq_text.specs.declared.place.Place.{Place}
 use Rattle.sq_text.specs.declared.spread.SpreadRule.TheVariants.{Cyclic}
-use Rattle.sq_rect.specs.declared.view.View.{View}
+use Rattle.sq_ir.specs.Rect.declared.view.View.{View}
 use Rattle.sq_ast.specs.declared.program.Mode.{Mode}
 use Rattle.sq_ast.specs.declared.program.Mode.TheVariants.{Input, Output}
-use Rattle.sq_leaf.specs.declared.shape.Shape.{Shape}
-use Rattle.sq_leaf.specs.Leaf.{Leaf as LeafSource}
+use Rattle.sq_ir.specs.Leaf.declared.shape.Shape.{Shape}
+use Rattle.sq_ir.specs.Leaf.Leaf.{Leaf as LeafSource}
 use Rattle.sq_ir.specs.Tree.{Act, Seq, Within}
 use Rattle.sq_ir.specs.Events.{Spot, Copy, Fill, Leaf as LeafEvent}
 use Rattle.sq_ir.specs.Written.{Setting, PlanTree, at_root, written, seq_of, par_of, scoped}
-use Rattle.sq_blocks.specs.declared.argument.Argument.{Argument}
-use Rattle.sq_spec.specs.declared.statement.LoopKind.TheVariants as loop_kind
-use Rattle.sq_spec.specs.declared.statement.CallInstance.{CallInstance}
-use Rattle.sq_spec.specs.declared.statement.Statement.{Statement}
-use Rattle.sq_spec.specs.declared.statement.Statement.TheVariants as b
-use Rattle.sq_spec.specs.declared.statement.Statement.TheOpen.{Statement-F}
-use Rattle.sq_spec.specs.declared.body.Body.TheVariants as body
-use Rattle.sq_spec.specs.declared.body.FormBody.{FormBody}
+use Rattle.sq_ir.specs.Blocks.declared.argument.Argument.{Argument}
+use Rattle.sq_placed.specs.Spec.declared.statement.LoopKind.TheVariants as loop_kind
+use Rattle.sq_placed.specs.Spec.declared.statement.CallInstance.{CallInstance}
+use Rattle.sq_placed.specs.Spec.declared.statement.Statement.{Statement}
+use Rattle.sq_placed.specs.Spec.declared.statement.Statement.TheVariants as b
+use Rattle.sq_placed.specs.Spec.declared.statement.Statement.TheOpen.{Statement-F}
+use Rattle.sq_placed.specs.Spec.declared.body.Body.TheVariants as body
+use Rattle.sq_placed.specs.Spec.declared.body.FormBody.{FormBody}
 use Rattle.sq_placed.specs.declared.home.Home.TheVariants.{Own, Held}
 use Rattle.sq_placed.specs.declared.home.Homes.{Homes}
 use Rattle.sq_placed.specs.Placed.{Placed, Then, Nothing, Call}

@@ -4,7 +4,7 @@ use Rattle.std.proofs.Common.{◌==◌, ◌&&◌, if◌then◌else◌, get_or, s
 use Rattle.std.proofs.Common.{subst, ◌∙◌, arith}
 use Rattle.sq_num.specs.Elements.{width}
 use Rattle.sq_text.specs.declared.spread.SpreadRule.{SpreadRule}
-use Rattle.sq_rect.specs.Placing.{offset}
+use Rattle.sq_ir.specs.Rect.Placing.{offset}
 use Rattle.sq_ir.specs.Tree as tree
 use Rattle.sq_ir.specs.Tree.{seq}
 use Rattle.sq_ir.specs.Written.{Setting, Env, inside_of, written, scoped}
@@ -14,11 +14,11 @@ use Rattle.sq_ir.specs.declared.term.LeafView.{LeafView}
 use Rattle.sq_ir.specs.declared.term.Term.{Term}
 use Rattle.sq_ir.specs.declared.term.Term.TheVariants as term
 use Rattle.sq_ir.proofs.Equations.{written_within, written_seq, written_par}
-use Rattle.sq_blocks.specs.declared.argument.Argument.{Argument}
-use Rattle.sq_spec.specs.declared.statement.LoopKind.{LoopKind}
-use Rattle.sq_spec.specs.declared.statement.LoopKind.TheVariants as loop_kind
-use Rattle.sq_spec.specs.declared.statement.CallInstance.{CallInstance}
-use Rattle.sq_spec.specs.declared.body.FormBody.{FormBody}
+use Rattle.sq_ir.specs.Blocks.declared.argument.Argument.{Argument}
+use Rattle.sq_placed.specs.Spec.declared.statement.LoopKind.{LoopKind}
+use Rattle.sq_placed.specs.Spec.declared.statement.LoopKind.TheVariants as loop_kind
+use Rattle.sq_placed.specs.Spec.declared.statement.CallInstance.{CallInstance}
+use Rattle.sq_placed.specs.Spec.declared.body.FormBody.{FormBody}
 use Rattle.sq_placed.specs.declared.home.Home.TheVariants.{InPlace}
 use Rattle.sq_placed.specs.declared.home.Homes.{Homes}
 use Rattle.sq_term.specs.declared.context.Context.{Context}

@@ -15,8 +15,8 @@ use Rattle.sq_ir.specs.declared.num.Num.TheVariants as n
 use Rattle.sq_ir.specs.declared.term.Term.{Term}
 use Rattle.sq_ir.proofs.LiftOnce.{lift_one}
 use Rattle.sq_ir.proofs.Equations.{written_loop, written_spread}
-use Rattle.sq_spec.specs.declared.statement.LoopKind.{LoopKind}
-use Rattle.sq_spec.specs.declared.statement.LoopKind.TheVariants as loop_kind
+use Rattle.sq_placed.specs.Spec.declared.statement.LoopKind.{LoopKind}
+use Rattle.sq_placed.specs.Spec.declared.statement.LoopKind.TheVariants as loop_kind
 use Rattle.sq_term.specs.declared.context.Context.{Context}
 use Rattle.sq_placed.specs.Placed.{Placed}
 use Rattle.sq_placed.specs.Seats.{Seat}

@@ -2,13 +2,13 @@
 use Rattle.std.proofs.Common.{◌≡◌, ℕ, Bool, List, map, ap, sym, ◌∙◌}
 use Rattle.sq_text.specs.declared.place.Place.{Place}
 use Rattle.sq_text.specs.declared.spread.SpreadRule.{SpreadRule}
-use Rattle.sq_spec.specs.declared.statement.LoopKind.{LoopKind}
-use Rattle.sq_spec.specs.declared.statement.CallInstance.{CallInstance}
-use Rattle.sq_spec.specs.declared.statement.Statement.{Statement}
-use Rattle.sq_spec.specs.declared.statement.Statement.TheVariants as b
-use Rattle.sq_spec.specs.declared.statement.Statement.TheOpen.{Statement-F}
-use Rattle.sq_spec.specs.declared.statement.Statement.TheFolds.{fold-roll-Statement}
-use Rattle.sq_spec.specs.declared.body.FormBody.{FormBody}
+use Rattle.sq_placed.specs.Spec.declared.statement.LoopKind.{LoopKind}
+use Rattle.sq_placed.specs.Spec.declared.statement.CallInstance.{CallInstance}
+use Rattle.sq_placed.specs.Spec.declared.statement.Statement.{Statement}
+use Rattle.sq_placed.specs.Spec.declared.statement.Statement.TheVariants as b
+use Rattle.sq_placed.specs.Spec.declared.statement.Statement.TheOpen.{Statement-F}
+use Rattle.sq_placed.specs.Spec.declared.statement.Statement.TheFolds.{fold-roll-Statement}
+use Rattle.sq_placed.specs.Spec.declared.body.FormBody.{FormBody}
 use Rattle.sq_placed.specs.declared.home.Homes.{Homes}
 use Rattle.sq_term.specs.declared.context.Context.{Context}
 use Rattle.sq_term.specs.Terms.{TermPart, term_step, statement_term}

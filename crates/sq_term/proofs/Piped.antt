@@ -11,7 +11,7 @@ use Rattle.sq_text.specs.declared.place.Place.{Place}
 use Rattle.sq_text.specs.declared.spread.SpreadRule.{SpreadRule}
 use Rattle.sq_text.specs.declared.spread.SpreadRule.TheVariants.{Cyclic, Blocked}
 use Rattle.sq_text.specs.Spreading.{child_of, iterations_at}
-use Rattle.sq_leaf.specs.declared.shape.Shape.{Shape}
+use Rattle.sq_ir.specs.Leaf.declared.shape.Shape.{Shape}
 use Rattle.sq_ir.specs.Tree as tree
 use Rattle.sq_ir.specs.Tree.{seq}
 use Rattle.sq_ir.specs.Lifting.{lift}
@@ -23,11 +23,11 @@ use Rattle.sq_ir.specs.declared.term.Term.{Term}
 use Rattle.sq_ir.specs.declared.term.Term.TheVariants as term
 use Rattle.sq_ir.proofs.Equations.{written_skip, written_seq, written_par, written_loop, written_spread, written_case}
 use Rattle.sq_ir.proofs.Equations.{written_within}
-use Rattle.sq_blocks.specs.declared.argument.Argument.{Argument}
-use Rattle.sq_spec.specs.declared.statement.LoopKind.{LoopKind}
-use Rattle.sq_spec.specs.declared.statement.LoopKind.TheVariants as loop_kind
-use Rattle.sq_spec.specs.declared.statement.CallInstance.{CallInstance}
-use Rattle.sq_spec.specs.declared.body.FormBody.{FormBody}
+use Rattle.sq_ir.specs.Blocks.declared.argument.Argument.{Argument}
+use Rattle.sq_placed.specs.Spec.declared.statement.LoopKind.{LoopKind}
+use Rattle.sq_placed.specs.Spec.declared.statement.LoopKind.TheVariants as loop_kind
+use Rattle.sq_placed.specs.Spec.declared.statement.CallInstance.{CallInstance}
+use Rattle.sq_placed.specs.Spec.declared.body.FormBody.{FormBody}
 use Rattle.sq_placed.specs.declared.home.Home.{Home}
 use Rattle.sq_placed.specs.declared.home.Home.TheVariants.{InPlace, Own, Held, Twin}
 use Rattle.sq_placed.specs.declared.home.Homes.{Homes}

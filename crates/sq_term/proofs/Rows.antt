@@ -5,8 +5,8 @@ use Rattle.std.specs.Prelude.{nat_abs}
 use Rattle.sq_num.specs.declared.RedOp.{RedOp}
 use Rattle.sq_num.specs.Elements.{width}
 use Rattle.sq_num.specs.Reductions.{identity}
-use Rattle.sq_rect.specs.Extents.{last_of, rows_of}
-use Rattle.sq_rect.specs.Placing.{offset}
+use Rattle.sq_ir.specs.Rect.Extents.{last_of, rows_of}
+use Rattle.sq_ir.specs.Rect.Placing.{offset}
 use Rattle.sq_ast.specs.declared.program.Mode.{Mode}
 use Rattle.sq_ast.specs.declared.program.Mode.TheVariants.{Input, Output, Both}
 use Rattle.sq_ir.specs.Tree as tree

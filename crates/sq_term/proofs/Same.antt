@@ -6,7 +6,7 @@ use Rattle.std.specs.Prelude.{nat_abs}
 use Rattle.sq_num.specs.declared.RedOp.{RedOp}
 use Rattle.sq_text.specs.declared.place.Place.{Place}
 use Rattle.sq_text.specs.declared.spread.SpreadRule.{SpreadRule}
-use Rattle.sq_leaf.specs.declared.shape.Shape.{Shape}
+use Rattle.sq_ir.specs.Leaf.declared.shape.Shape.{Shape}
 use Rattle.sq_ir.specs.Tree as tree
 use Rattle.sq_ir.specs.Tree.{seq}
 use Rattle.sq_ir.specs.Events.{Leaf as LeafEvent}
@@ -18,16 +18,16 @@ use Rattle.sq_ir.specs.declared.term.Action.TheVariants as action
 use Rattle.sq_ir.specs.declared.term.Term.{Term}
 use Rattle.sq_ir.specs.declared.term.Term.TheVariants as term
 use Rattle.sq_ir.proofs.Equations.{written_skip, written_act, written_seq, written_case, written_within}
-use Rattle.sq_spec.specs.declared.statement.LoopKind.{LoopKind}
-use Rattle.sq_spec.specs.declared.statement.LoopKind.TheVariants as loop_kind
-use Rattle.sq_spec.specs.declared.statement.CallInstance.{CallInstance}
-use Rattle.sq_spec.specs.declared.statement.Statement.{Statement, roll-Statement}
-use Rattle.sq_spec.specs.declared.statement.Statement.TheVariants as b
-use Rattle.sq_spec.specs.declared.statement.Statement.TheOpen.{Statement-F}
-use Rattle.sq_spec.specs.declared.statement.Statement.TheFolds.{ind-Statement, map-Statement}
-use Rattle.sq_spec.specs.declared.body.Body.{Body}
-use Rattle.sq_spec.specs.declared.body.Body.TheVariants as body
-use Rattle.sq_spec.specs.declared.body.FormBody.{FormBody}
+use Rattle.sq_placed.specs.Spec.declared.statement.LoopKind.{LoopKind}
+use Rattle.sq_placed.specs.Spec.declared.statement.LoopKind.TheVariants as loop_kind
+use Rattle.sq_placed.specs.Spec.declared.statement.CallInstance.{CallInstance}
+use Rattle.sq_placed.specs.Spec.declared.statement.Statement.{Statement, roll-Statement}
+use Rattle.sq_placed.specs.Spec.declared.statement.Statement.TheVariants as b
+use Rattle.sq_placed.specs.Spec.declared.statement.Statement.TheOpen.{Statement-F}
+use Rattle.sq_placed.specs.Spec.declared.statement.Statement.TheFolds.{ind-Statement, map-Statement}
+use Rattle.sq_placed.specs.Spec.declared.body.Body.{Body}
+use Rattle.sq_placed.specs.Spec.declared.body.Body.TheVariants as body
+use Rattle.sq_placed.specs.Spec.declared.body.FormBody.{FormBody}
 use Rattle.sq_placed.specs.declared.home.Home.{Home}
 use Rattle.sq_placed.specs.declared.home.Homes.{Homes}
 use Rattle.sq_term.specs.declared.context.Context.{Context}

@@ -1,9 +1,9 @@
 -- The entry's term, written out at the root, is the tree of what was placed.
 use Rattle.std.proofs.Common.{◌≡◌, ℕ, pos, false, List, [], ◌∷◌, None, refl, subst}
-use Rattle.sq_leaf.specs.declared.shape.Shape.{Shape}
+use Rattle.sq_ir.specs.Leaf.declared.shape.Shape.{Shape}
 use Rattle.sq_ir.specs.Written.{Setting, at_root}
 use Rattle.sq_ir.specs.declared.num.Num.TheVariants as n
-use Rattle.sq_blocks.specs.declared.argument.Argument.{Argument}
+use Rattle.sq_ir.specs.Blocks.declared.argument.Argument.{Argument}
 use Rattle.sq_placed.specs.declared.home.Home.{Home}
 use Rattle.sq_placed.specs.declared.home.Home.TheVariants.{InPlace, Own, Held, Twin}
 use Rattle.sq_placed.specs.Tables.{placed_of}

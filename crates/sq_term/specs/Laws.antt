@@ -1,9 +1,9 @@
 -- What the term of a form means: written out, it is the tree of what was placed.
 use Rattle.std.specs.Prelude.{◌≡◌, ℕ, true, false, List, [], ◌∷◌}
-use Rattle.sq_leaf.specs.declared.shape.Shape.{Shape}
+use Rattle.sq_ir.specs.Leaf.declared.shape.Shape.{Shape}
 use Rattle.sq_ir.specs.Written.{Setting, Env, at_root, written}
-use Rattle.sq_blocks.specs.declared.argument.Argument.{Argument}
-use Rattle.sq_spec.specs.declared.body.FormBody.{FormBody}
+use Rattle.sq_ir.specs.Blocks.declared.argument.Argument.{Argument}
+use Rattle.sq_placed.specs.Spec.declared.body.FormBody.{FormBody}
 use Rattle.sq_placed.specs.declared.home.Home.{Home}
 use Rattle.sq_placed.specs.declared.home.Homes.{Homes}
 use Rattle.sq_term.specs.declared.context.Context.{Context}

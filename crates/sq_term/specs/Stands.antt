@@ -4,13 +4,13 @@ use Rattle.std.specs.Prelude.{if◌then◌else◌}
 use Rattle.sq_ir.specs.Written.{Setting, Env, value_of}
 use Rattle.sq_ir.specs.declared.num.Num.{Num}
 use Rattle.sq_ir.specs.declared.term.LeafView.{LeafView}
-use Rattle.sq_spec.specs.declared.statement.CallInstance.{CallInstance}
-use Rattle.sq_spec.specs.declared.statement.Statement.{Statement}
-use Rattle.sq_spec.specs.declared.statement.Statement.TheOpen.{Statement-F}
-use Rattle.sq_spec.specs.declared.statement.Statement.TheFolds.{fold-Statement}
-use Rattle.sq_spec.specs.declared.body.Body.{Body}
-use Rattle.sq_spec.specs.declared.body.Body.TheVariants as body
-use Rattle.sq_spec.specs.declared.body.FormBody.{FormBody}
+use Rattle.sq_placed.specs.Spec.declared.statement.CallInstance.{CallInstance}
+use Rattle.sq_placed.specs.Spec.declared.statement.Statement.{Statement}
+use Rattle.sq_placed.specs.Spec.declared.statement.Statement.TheOpen.{Statement-F}
+use Rattle.sq_placed.specs.Spec.declared.statement.Statement.TheFolds.{fold-Statement}
+use Rattle.sq_placed.specs.Spec.declared.body.Body.{Body}
+use Rattle.sq_placed.specs.Spec.declared.body.Body.TheVariants as body
+use Rattle.sq_placed.specs.Spec.declared.body.FormBody.{FormBody}
 use Rattle.sq_placed.specs.declared.home.Home.{Home}
 use Rattle.sq_placed.specs.declared.home.Home.TheVariants.{InPlace, Own, Held, Twin}
 use Rattle.sq_placed.specs.declared.home.Homes.{Homes}

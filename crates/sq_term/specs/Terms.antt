@@ -7,11 +7,11 @@ use Rattle.sq_num.specs.Elements.{width}
 use Rattle.sq_num.specs.Reductions.{identity}
 use Rattle.sq_text.specs.declared.spread.SpreadRule.{SpreadRule}
 use Rattle.sq_text.specs.declared.spread.SpreadRule.TheVariants.{Cyclic, Blocked}
-use Rattle.sq_rect.specs.Extents.{last_of, rows_of, row_major}
-use Rattle.sq_rect.specs.Placing.{offset}
+use Rattle.sq_ir.specs.Rect.Extents.{last_of, rows_of, row_major}
+use Rattle.sq_ir.specs.Rect.Placing.{offset}
 use Rattle.sq_ast.specs.declared.program.Mode.{Mode}
 use Rattle.sq_ast.specs.declared.program.Mode.TheVariants.{Input, Output, Both}
-use Rattle.sq_leaf.specs.declared.shape.Shape.{Shape}
+use Rattle.sq_ir.specs.Leaf.declared.shape.Shape.{Shape}
 use Rattle.sq_ir.specs.Lifting.{lift}
 use Rattle.sq_ir.specs.declared.num.Num.{Num}
 use Rattle.sq_ir.specs.declared.num.Num.TheVariants as n
@@ -21,16 +21,16 @@ use Rattle.sq_ir.specs.declared.term.Action.{Action}
 use Rattle.sq_ir.specs.declared.term.Action.TheVariants as action
 use Rattle.sq_ir.specs.declared.term.Term.{Term}
 use Rattle.sq_ir.specs.declared.term.Term.TheVariants as term
-use Rattle.sq_blocks.specs.declared.argument.Argument.{Argument}
-use Rattle.sq_spec.specs.declared.statement.LoopKind.{LoopKind}
-use Rattle.sq_spec.specs.declared.statement.CallInstance.{CallInstance}
-use Rattle.sq_spec.specs.declared.statement.Statement.{Statement}
-use Rattle.sq_spec.specs.declared.statement.Statement.TheOpen.{Statement-F}
-use Rattle.sq_spec.specs.declared.statement.Statement.TheFolds.{fold-Statement}
-use Rattle.sq_spec.specs.declared.body.Body.{Body}
-use Rattle.sq_spec.specs.declared.body.Body.TheVariants as body
-use Rattle.sq_spec.specs.declared.body.FormBody.{FormBody}
-use Rattle.sq_spec.specs.Bodies.{no_body}
+use Rattle.sq_ir.specs.Blocks.declared.argument.Argument.{Argument}
+use Rattle.sq_placed.specs.Spec.declared.statement.LoopKind.{LoopKind}
+use Rattle.sq_placed.specs.Spec.declared.statement.CallInstance.{CallInstance}
+use Rattle.sq_placed.specs.Spec.declared.statement.Statement.{Statement}
+use Rattle.sq_placed.specs.Spec.declared.statement.Statement.TheOpen.{Statement-F}
+use Rattle.sq_placed.specs.Spec.declared.statement.Statement.TheFolds.{fold-Statement}
+use Rattle.sq_placed.specs.Spec.declared.body.Body.{Body}
+use Rattle.sq_placed.specs.Spec.declared.body.Body.TheVariants as body
+use Rattle.sq_placed.specs.Spec.declared.body.FormBody.{FormBody}
+use Rattle.sq_placed.specs.Spec.Bodies.{no_body}
 use Rattle.sq_placed.specs.declared.home.Home.{Home}
 use Rattle.sq_placed.specs.declared.home.Home.TheVariants.{InPlace, Own, Held, Twin}
 use Rattle.sq_placed.specs.declared.home.Homes.{Homes}

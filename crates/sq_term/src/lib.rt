@@ -5,3 +5,6 @@ mod context;
 pub mod laws;
 
 pub use context::{Context, Lane, Move};
+pub use sq_ir;
+pub use sq_placed;
+pub use sq_placed::sq_spec;

@@ -20,8 +20,8 @@ use Rattle.sq_forms.specs.Worlds.{Frame, Callee}
 use Rattle.sq_forms.specs.Stmts.{reduced_by}
 use Rattle.sq_spec.specs.Statements.{starts_from, iteration_points, count_at, has_iterations, rows_if, count_rows}
 use Rattle.sq_spec.specs.Statements.{call_instance, loop_kind_of, StatementTable, all_of, call_table, table_of}
-use Rattle.sq_form_laws.specs.Reached.{concat, text_calls}
-use Rattle.sq_form_laws.proofs.EachCall.{AllIn, all_front, all_back, text_call, text_map}
+use Rattle.sq_spec.specs.FormLaws.Reached.{concat, text_calls}
+use Rattle.sq_spec.proofs.FormLaws.EachCall.{AllIn, all_front, all_back, text_call, text_map}
 use Rattle.sq_spec.proofs.OpenedStatement.{table_of_call, table_of_map}
 use Rattle.sq_spec.proofs.Rows.{row_kept, rows_kept, begun_before, get_or_map, inner_at}
 use Rattle.sq_spec.proofs.TablesMean.{turn, iteration_points_deeper, first_start}

@@ -10,7 +10,7 @@ use Rattle.sq_rect.specs.Extents.{last_of, rows_of, product, row_major}
 use Rattle.sq_rect.specs.Placing.{offset}
 use Rattle.sq_ast.specs.declared.program.Mode.{Mode}
 use Rattle.sq_ast.specs.declared.program.Mode.TheVariants.{Input, Output, Both}
-use Rattle.sq_leaf.specs.declared.shape.Shape.{Shape}
+use Rattle.sq_ir.specs.Leaf.declared.shape.Shape.{Shape}
 use Rattle.sq_ir.specs.Written.{Setting, Env, at_turn}
 use Rattle.sq_ir.specs.Plans.{Meets}
 use Rattle.sq_ir.specs.declared.num.Num.{Num}

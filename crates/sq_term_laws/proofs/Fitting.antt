@@ -14,7 +14,7 @@ use Rattle.sq_text.specs.declared.spread.SpreadRule.TheVariants.{Cyclic, Blocked
 use Rattle.sq_rect.specs.Extents.{rows_of}
 use Rattle.sq_ast.specs.declared.program.Mode.{Mode}
 use Rattle.sq_ast.specs.declared.program.Mode.TheVariants.{Input, Output, Both}
-use Rattle.sq_leaf.specs.declared.shape.Shape.{Shape}
+use Rattle.sq_ir.specs.Leaf.declared.shape.Shape.{Shape}
 use Rattle.sq_ir.specs.Lifting.{lift}
 use Rattle.sq_ir.specs.Written.{Setting, Env, value_of, count_of, at_turn, node_of, inside_of}
 use Rattle.sq_ir.proofs.LiftOnce.{lift_one}

@@ -28,3 +28,5 @@ pub mod Begun
 pub mod Few
 pub mod Programs
 pub mod Lower
+-- Lemmas of crates below, passed on.
+pub use Rattle.sq_term.proofs as Term

@@ -9,11 +9,11 @@ use Rattle.sq_ast.specs.declared.program.Program.{Program}
 use Rattle.sq_ast.specs.declared.program.Variant.{Variant}
 use Rattle.sq_ast.specs.declared.stmt.Call.{Call}
 use Rattle.sq_ast.specs.declared.stmt.Stmt.{Stmt}
-use Rattle.sq_machfile.specs.declared.level.Level.{Level}
-use Rattle.sq_mapfile.specs.declared.mapping.Instance.{Instance}
-use Rattle.sq_mapfile.specs.declared.mapping.Mapping.{Mapping}
-use Rattle.sq_mapfile.specs.Sound.{Sound}
-use Rattle.sq_types.specs.Sound.{is_sound}
+use Rattle.sq_forms.specs.Machfile.declared.level.Level.{Level}
+use Rattle.sq_forms.specs.Mapfile.declared.mapping.Instance.{Instance}
+use Rattle.sq_forms.specs.Mapfile.declared.mapping.Mapping.{Mapping}
+use Rattle.sq_forms.specs.Mapfile.Sound.{Sound}
+use Rattle.sq_forms.specs.Types.Sound.{is_sound}
 use Rattle.sq_blocks.specs.Names.{Numbers}
 use Rattle.sq_forms.specs.declared.form.Found.{Found}
 use Rattle.sq_forms.specs.Args.{Names}
@@ -23,12 +23,12 @@ use Rattle.sq_forms.specs.Resolving.{Resolving, resolution, frame_in, body_steps
 use Rattle.sq_forms.specs.Resolving.{walked_in, walked_by, walked_with}
 use Rattle.sq_forms.specs.Steps.{Key, State, Forms, run, most_uses, most_forms}
 use Rattle.sq_forms.specs.Worlds.{Frame}
-use Rattle.sq_form_laws.specs.Reached.{concat, text_calls, body_calls}
-use Rattle.sq_form_laws.specs.Served.{FormRuns}
-use Rattle.sq_form_laws.proofs.FitHold.{forms_run}
-use Rattle.sq_form_laws.proofs.FormsHold.{each_walked}
-use Rattle.sq_form_laws.proofs.RanHold.{few_found}
-use Rattle.sq_form_laws.proofs.ServedHold.{calls_are_served}
+use Rattle.sq_spec.specs.FormLaws.Reached.{concat, text_calls, body_calls}
+use Rattle.sq_spec.specs.FormLaws.Served.{FormRuns}
+use Rattle.sq_spec.proofs.FormLaws.FitHold.{forms_run}
+use Rattle.sq_spec.proofs.FormLaws.FormsHold.{each_walked}
+use Rattle.sq_spec.proofs.FormLaws.RanHold.{few_found}
+use Rattle.sq_spec.proofs.FormLaws.ServedHold.{calls_are_served}
 use Rattle.sq_spec.specs.declared.body.FormBody.{FormBody}
 use Rattle.sq_spec.specs.Bodies.{found_body, instance_body, variant_body, scope_body, declared_body, what_runs}
 use Rattle.sq_spec.specs.Works.{shapes_of}

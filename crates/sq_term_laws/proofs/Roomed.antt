@@ -7,7 +7,7 @@ use Rattle.sq_num.specs.declared.RedOp.{RedOp}
 use Rattle.sq_num.specs.declared.Elem.TheVariants.{Long}
 use Rattle.sq_num.specs.Elements.{IsValue}
 use Rattle.sq_text.specs.declared.spread.SpreadRule.{SpreadRule}
-use Rattle.sq_leaf.specs.declared.shape.Shape.{Shape}
+use Rattle.sq_ir.specs.Leaf.declared.shape.Shape.{Shape}
 use Rattle.sq_ir.specs.Written.{Setting, Env, value_of, at_turn, at_root, node_of, inside_of}
 use Rattle.sq_ir.specs.Plans.{HasValue, IsBuffer, IsChild, each_part, this_arm, Meets}
 use Rattle.sq_ir.specs.declared.num.Num.{Num}

@@ -8,7 +8,7 @@ use Rattle.std.proofs.lemmas.Int.{ints}
 use Rattle.sq_num.specs.Elements.{width, IsValue, least, greatest}
 use Rattle.sq_rect.specs.Extents.{last_of, rows_of}
 use Rattle.sq_rect.specs.Placing.{offset}
-use Rattle.sq_leaf.specs.declared.shape.Shape.{Shape}
+use Rattle.sq_ir.specs.Leaf.declared.shape.Shape.{Shape}
 use Rattle.sq_ir.specs.Lifting.{lift}
 use Rattle.sq_ir.specs.Written.{Setting, Env, value_of, at_turn}
 use Rattle.sq_ir.specs.Plans.{HasValue}

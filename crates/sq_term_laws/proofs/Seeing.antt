@@ -6,7 +6,7 @@ use Rattle.sq_num.specs.declared.Elem.TheVariants.{Long}
 use Rattle.sq_num.specs.declared.RedOp.{RedOp}
 use Rattle.sq_num.specs.Elements.{IsValue}
 use Rattle.sq_text.specs.declared.spread.SpreadRule.{SpreadRule}
-use Rattle.sq_leaf.specs.declared.shape.Shape.{Shape}
+use Rattle.sq_ir.specs.Leaf.declared.shape.Shape.{Shape}
 use Rattle.sq_ir.specs.Lifting.{lift}
 use Rattle.sq_ir.specs.Written.{Setting, Env}
 use Rattle.sq_ir.specs.Plans.{IsCount}

@@ -6,7 +6,7 @@ use Rattle.std.specs.List.{flat_map, range_with_len}
 use Rattle.std.proofs.lemmas.List.Elements.{Contains-append_cases}
 use Rattle.sq_num.specs.Elements.{width}
 use Rattle.sq_rect.specs.Placing.{offset, place_of}
-use Rattle.sq_leaf.specs.declared.shape.Shape.{Shape}
+use Rattle.sq_ir.specs.Leaf.declared.shape.Shape.{Shape}
 use Rattle.sq_ir.specs.Events.{coordinates, places}
 use Rattle.sq_ir.specs.Written.{Setting, Env, count_of, view_of}
 use Rattle.sq_ir.specs.declared.term.LeafView.{LeafView}

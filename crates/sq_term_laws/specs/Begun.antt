@@ -10,7 +10,7 @@ use Rattle.sq_blocks.specs.Names.{Numbers}
 use Rattle.sq_forms.specs.Args.{Names}
 use Rattle.sq_forms.specs.Steps.{Forms}
 use Rattle.sq_forms.specs.Worlds.{Frame, Callee, callee_of}
-use Rattle.sq_form_laws.specs.Reached.{concat, text_calls}
+use Rattle.sq_spec.specs.FormLaws.Reached.{concat, text_calls}
 use Rattle.sq_spec.specs.Statements.{iteration_points, tables}
 use Rattle.sq_term_laws.specs.Fits.{Bounds, all_parts, Tabled}
 

@@ -4,7 +4,7 @@ use Rattle.std.specs.Prelude.{◌==◌, ◌⊎◌, Option, Some, None}
 use Rattle.sq_num.specs.declared.Elem.TheVariants.{Long}
 use Rattle.sq_num.specs.Elements.{IsValue}
 use Rattle.sq_rect.specs.Extents.{rows_of}
-use Rattle.sq_leaf.specs.declared.shape.Shape.{Shape}
+use Rattle.sq_ir.specs.Leaf.declared.shape.Shape.{Shape}
 use Rattle.sq_ir.specs.Written.{Setting, Env, node_of}
 use Rattle.sq_ir.specs.Plans.{HasValue, IsChild}
 use Rattle.sq_ir.specs.declared.num.Num.{Num}

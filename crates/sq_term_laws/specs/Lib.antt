@@ -14,3 +14,5 @@ pub mod Begun
 pub mod Few
 pub mod Programs
 pub mod Lower
+-- Definitions of crates below, passed on.
+pub use Rattle.sq_term.specs as Term

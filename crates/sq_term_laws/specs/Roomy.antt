@@ -6,7 +6,7 @@ use Rattle.sq_num.specs.declared.Elem.TheVariants.{Long}
 use Rattle.sq_num.specs.Elements.{width, IsValue}
 use Rattle.sq_rect.specs.Extents.{rows_of, product}
 use Rattle.sq_rect.specs.Placing.{offset}
-use Rattle.sq_leaf.specs.declared.shape.Shape.{Shape}
+use Rattle.sq_ir.specs.Leaf.declared.shape.Shape.{Shape}
 use Rattle.sq_ir.specs.Events.{places}
 use Rattle.sq_ir.specs.Written.{Setting, Env, count_of, view_of}
 use Rattle.sq_ir.specs.Plans.{IsCount, AskedOfActions}

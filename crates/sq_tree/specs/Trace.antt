@@ -4,7 +4,7 @@ use Rattle.std.specs.List.{flat_map, slice_get}
 use Rattle.std.specs.Option.{option_map_or}
 use Rattle.sq_num.specs.declared.RedOp.{RedOp}
 use Rattle.sq_num.specs.Elements.{width}
-use Rattle.sq_ast.specs.Canonical.{reduction_text}
+use Rattle.sq_leaf.specs.Ast.Canonical.{reduction_text}
 use Rattle.sq_ir.specs.Events.{Spot, Event, Copy, Fill, Accumulate, Leaf}
 use Rattle.sq_ir.specs.Traffic.{level_in}
 use Rattle.sq_ir.specs.declared.plan.PlanNode.{PlanNode}

@@ -1,7 +1,7 @@
 //! The lines of a trace.
 ghost use Rattle.std.specs.Prelude.{◌≡◌, ◌++◌, ◌*◌, ◌≤◌, ℕ, List, [], take};
 ghost use Rattle.sq_num.specs.Elements.{width};
-ghost use Rattle.sq_ast.specs.Canonical.{reduction_text};
+ghost use Rattle.sq_leaf.specs.Ast.Canonical.{reduction_text};
 ghost use Rattle.sq_ir.specs.Traffic.{level_in};
 ghost use Rattle.sq_port.specs.Ports.{Wrote};
 ghost use Rattle.sq_port.specs.Lines.{Gathers, nothing_gathered};

@@ -4,16 +4,16 @@ use Rattle.std.specs.List.{list_any}
 use mathlib.Core.Path.{fun_ext}
 use Rattle.std.proofs.lemmas.Bool.{cases_eq}
 use Rattle.std.proofs.lemmas.Bool.Decides.{nat_tests}
-use Rattle.sq_text.specs.declared.place.Span.{Span}
+use Rattle.sq_leaf.specs.Text.declared.place.Span.{Span}
 use Rattle.sq_num.specs.Reductions.{red}
 use Rattle.sq_leaf.specs.Source.{Arrays}
-use Rattle.sq_blocks.specs.declared.argument.Argument.{Argument}
-use Rattle.sq_ast.specs.Modes.{is_written}
-use Rattle.sq_blocks.specs.Arguments.{lengths}
+use Rattle.sq_leaf.specs.Blocks.declared.argument.Argument.{Argument}
+use Rattle.sq_leaf.specs.Ast.Modes.{is_written}
+use Rattle.sq_leaf.specs.Blocks.Arguments.{lengths}
 use Rattle.sq_work.specs.declared.reduction.Reduction.{Reduction}
 use Rattle.sq_work.specs.Work.{Work, Nothing, Then, Each, AtOnce, Gathers, Call, Leaf}
 use Rattle.sq_work.specs.Meaning.{Trapped, Outcome, and_then, with_turn, is_inside, covers, in_array, in_block, has, block_value, param_value, at_entry, at_return, any_below, writes, touches, in_turn, apart, with_writes, with_identity, with_reduced, leaf_outcome, meaning}
-use Rattle.sq_ast.specs.Modes.{is_read}
+use Rattle.sq_leaf.specs.Ast.Modes.{is_read}
 
 -- ---- tests
 

@@ -2,13 +2,13 @@
 use Rattle.std.specs.Prelude.{◌≡◌, ℕ, zero, suc, nat_eq, ℤ, pos, ◌+ℤ◌, true, false, ◌||◌, List, [], ◌∷◌, Option, Some, None, Result, Ok, Err, if◌then◌else◌}
 use Rattle.sq_num.specs.declared.Elem.TheVariants.{Byte, Int}
 use Rattle.sq_num.specs.declared.RedOp.TheVariants.{Add}
-use Rattle.sq_text.specs.declared.place.Place.{Place}
-use Rattle.sq_ast.specs.declared.program.Mode.{Mode}
-use Rattle.sq_ast.specs.declared.program.Mode.TheVariants.{Input, Output, Both}
+use Rattle.sq_leaf.specs.Text.declared.place.Place.{Place}
+use Rattle.sq_leaf.specs.Ast.declared.program.Mode.{Mode}
+use Rattle.sq_leaf.specs.Ast.declared.program.Mode.TheVariants.{Input, Output, Both}
 use Rattle.sq_leaf.specs.declared.trap.Trap.{Trap}
 use Rattle.sq_leaf.specs.declared.trap.TrapKind.TheVariants.{DivZero}
 use Rattle.sq_leaf.specs.Source.{Arrays}
-use Rattle.sq_blocks.specs.declared.argument.Argument.{Argument}
+use Rattle.sq_leaf.specs.Blocks.declared.argument.Argument.{Argument}
 use Rattle.sq_work.specs.Work.{Work, Then, Each, AtOnce, Gathers, Call, Leaf}
 use Rattle.sq_work.specs.Meaning.{Outcome, meaning}
 

@@ -3,12 +3,12 @@
 use Rattle.std.specs.Prelude.{ℕ, zero, suc, ◌+◌, ◌-◌, nat_eq, nat_lt, nat_le, ℤ, pos, Bool, true, false, ◌&&◌, ◌||◌, List, [], ◌∷◌, Option, Some, None, Result, Ok, Err, if◌then◌else◌, slice_get}
 use Rattle.std.specs.List.{list_any}
 use Rattle.sq_num.specs.Reductions.{red, identity}
-use Rattle.sq_text.specs.declared.place.Span.{Span}
+use Rattle.sq_leaf.specs.Text.declared.place.Span.{Span}
 use Rattle.sq_leaf.specs.declared.trap.Trap.{Trap}
 use Rattle.sq_leaf.specs.Source.{Arrays}
-use Rattle.sq_blocks.specs.declared.argument.Argument.{Argument}
-use Rattle.sq_ast.specs.Modes.{is_read, is_written}
-use Rattle.sq_blocks.specs.Arguments.{lengths}
+use Rattle.sq_leaf.specs.Blocks.declared.argument.Argument.{Argument}
+use Rattle.sq_leaf.specs.Ast.Modes.{is_read, is_written}
+use Rattle.sq_leaf.specs.Blocks.Arguments.{lengths}
 use Rattle.sq_work.specs.declared.reduction.Reduction.{Reduction}
 use Rattle.sq_work.specs.Work.{Work, Nothing, Then, Each, AtOnce, Gathers, Call, Leaf}
 

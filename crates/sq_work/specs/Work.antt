@@ -1,10 +1,10 @@
 -- The source with every constant known: a map is its count and the work of each iteration, a call has the work of its
 -- callee.
 use Rattle.std.specs.Prelude.{ℕ, Bool, List, Result}
-use Rattle.sq_text.specs.declared.place.Place.{Place}
+use Rattle.sq_leaf.specs.Text.declared.place.Place.{Place}
 use Rattle.sq_leaf.specs.declared.trap.Trap.{Trap}
 use Rattle.sq_leaf.specs.Source.{Arrays}
-use Rattle.sq_blocks.specs.declared.argument.Argument.{Argument}
+use Rattle.sq_leaf.specs.Blocks.declared.argument.Argument.{Argument}
 use Rattle.sq_work.specs.declared.reduction.Reduction.{Reduction}
 
 pub data Work : Type 0 where

@@ -5,3 +5,5 @@ pub mod laws;
 mod reduction;
 
 pub use reduction::Reduction;
+pub use sq_leaf;
+pub use sq_leaf::{sq_rect, sq_types};

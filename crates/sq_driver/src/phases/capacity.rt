@@ -13,8 +13,8 @@ use sq_compile::compile;
 use sq_ir::Plan;
 use sq_machfile::{Level, Machine};
 use sq_race::laws::without_a_race;
+use sq_report::sq_store::StoreFault;
 use sq_spec::Resolved;
-use sq_store::StoreFault;
 use sq_text::{Arg, Args, Code, Fault, Name, Phase};
 use std::alloc::{AllocError, Global};
 

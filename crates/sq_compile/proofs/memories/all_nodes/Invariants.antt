@@ -1,5 +1,5 @@
 use Rattle.std.proofs.Common.{◌≡◌, ◌++◌, map, drop}
-use Rattle.sq_draft_laws.specs.Memories.{plan_node}
+use Rattle.sq_plan_good.specs.DraftLaws.Memories.{plan_node}
 use Rattle.sq_compile.proofs.memories.all_nodes.Given as goal
 
 abbrev pub invariant-loop-node : goal.invariant-loop-node

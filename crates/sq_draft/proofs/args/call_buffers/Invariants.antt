@@ -1,5 +1,5 @@
 use Rattle.std.proofs.Common.{◌≡◌, ◌++◌, drop}
-use Rattle.sq_term.specs.Terms.{buffers_from}
+use Rattle.sq_tables.specs.Term.Terms.{buffers_from}
 use Rattle.sq_draft.proofs.args.call_buffers.Given as goal
 
 abbrev pub invariant-loop-i : goal.invariant-loop-i

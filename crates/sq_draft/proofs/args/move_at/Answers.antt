@@ -1,8 +1,8 @@
 use Rattle.std.proofs.Common.{rules, ◌∙◌, ap, get_or}
 use Rattle.std.specs.Option.{option_copied}
-use Rattle.sq_placed.specs.declared.home.Home.TheVariants.{InPlace}
-use Rattle.sq_placed.specs.Tables.{no_shape}
-use Rattle.sq_term.specs.Terms.{offsets, reduces}
+use Rattle.sq_tables.specs.Placed.declared.home.Home.TheVariants.{InPlace}
+use Rattle.sq_tables.specs.Placed.Tables.{no_shape}
+use Rattle.sq_tables.specs.Term.Terms.{offsets, reduces}
 use Rattle.sq_draft.proofs.MadeMoves.{move_made}
 use Rattle.sq_draft.proofs.args.move_at.Goals as goal
 

@@ -1,5 +1,5 @@
 use Rattle.std.proofs.Common.{◌≡◌, ◌++◌, drop}
-use Rattle.sq_term.specs.Terms.{moves_from}
+use Rattle.sq_tables.specs.Term.Terms.{moves_from}
 use Rattle.sq_draft.proofs.args.moves.Given as goal
 
 abbrev pub invariant-loop-i : goal.invariant-loop-i

@@ -1,5 +1,5 @@
 use Rattle.std.proofs.Common.{sym, ◌∙◌}
-use Rattle.sq_placed.specs.Tables.{no_shape}
+use Rattle.sq_tables.specs.Placed.Tables.{no_shape}
 use Rattle.sq_tables.proofs.Lists.{an_item}
 use Rattle.sq_draft.proofs.args.shape_at.Goals as goal
 

@@ -2,10 +2,10 @@ use Rattle.std.proofs.Common.{◌≡◌, List, ℕ, length, drop, rules, sym, ap
 use Rattle.std.specs.Option.{option_copied}
 use Rattle.sq_text.specs.declared.spread.SpreadRule.{SpreadRule}
 use Rattle.sq_ir.specs.declared.term.Term.TheVariants as term
-use Rattle.sq_leaf.specs.declared.shape.Shape.{Shape}
+use Rattle.sq_ir.specs.Leaf.declared.shape.Shape.{Shape}
 use Rattle.sq_spec.specs.declared.statement.Statement.TheVariants as statement
-use Rattle.sq_placed.specs.Tables.{Pipe, placed_locals}
-use Rattle.sq_term.specs.Terms.{body_in, homes_in, all_terms, count_num, in_map, where_some}
+use Rattle.sq_tables.specs.Placed.Tables.{Pipe, placed_locals}
+use Rattle.sq_tables.specs.Term.Terms.{body_in, homes_in, all_terms, count_num, in_map, where_some}
 use Rattle.sq_draft.specs.declared.forms.Places.{Places}
 use Rattle.sq_draft.specs.Building.{callee_in, part_in, pipe_by}
 use Rattle.sq_draft.specs.Piping.{seen, piped_at, in_child}

@@ -1,6 +1,6 @@
 use Rattle.std.proofs.Common.{◌≡◌, ◌++◌, ◌+◌, ◌*◌, ◌∷◌, map, drop}
 use Rattle.sq_ir.specs.declared.term.Term.TheVariants as term
-use Rattle.sq_term.specs.Terms.{all_terms, arm_of_form, body_in, homes_in}
+use Rattle.sq_tables.specs.Term.Terms.{all_terms, arm_of_form, body_in, homes_in}
 use Rattle.sq_draft.specs.Building.{callee_in, part_in}
 use Rattle.sq_draft.proofs.build.+build.Given as goal
 

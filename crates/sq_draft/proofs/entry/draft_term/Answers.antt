@@ -1,6 +1,6 @@
 use Rattle.std.proofs.Common.{◌≡◌, ◌∷◌, [], rules, length, sym, ap, ◌∙◌}
 use Rattle.std.specs.Option.{option_copied}
-use Rattle.sq_term.specs.Terms.{entry_row}
+use Rattle.sq_tables.specs.Term.Terms.{entry_row}
 use Rattle.sq_draft.proofs.Made.{entry_made}
 use Rattle.sq_draft.proofs.entry.draft_term.Goals as goal
 

@@ -1,5 +1,5 @@
 use Rattle.std.proofs.Common.{◌≡◌, ◌++◌, drop}
-use Rattle.sq_term.specs.Terms as terms
+use Rattle.sq_tables.specs.Term.Terms as terms
 use Rattle.sq_draft.proofs.held.leaving_buffers.Given as goal
 
 abbrev pub invariant-loop-left : goal.invariant-loop-left

@@ -1,5 +1,5 @@
 use Rattle.std.proofs.Common.{◌≡◌, ◌++◌, map, drop}
-use Rattle.sq_placed.specs.Trees.{home_in_set}
+use Rattle.sq_tables.specs.Placed.Trees.{home_in_set}
 use Rattle.sq_draft.specs.Piping.{set_number}
 use Rattle.sq_draft.proofs.pipes.homes_in_set.Given as goal
 

@@ -1,5 +1,5 @@
 use Rattle.std.proofs.Common.{◌≡◌, ◌++◌, drop}
-use Rattle.sq_term.specs.Terms.{set_buffers_from}
+use Rattle.sq_tables.specs.Term.Terms.{set_buffers_from}
 use Rattle.sq_draft.specs.Piping.{set_number}
 use Rattle.sq_draft.proofs.pipes.push_set.Given as goal
 

@@ -1,5 +1,5 @@
 use Rattle.std.proofs.Common.{◌≡◌, drop}
-use Rattle.sq_forms.specs.Calls as spec
+use Rattle.sq_spec.specs.Forms.Calls as spec
 use Rattle.sq_hoist.proofs.blocks.is_apart.Given as goal
 
 abbrev pub invariant-loop-j : goal.invariant-loop-j

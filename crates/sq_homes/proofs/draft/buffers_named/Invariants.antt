@@ -1,5 +1,5 @@
 use Rattle.std.proofs.Common.{◌≡◌, ◌++◌, map, drop}
-use Rattle.sq_term.specs.Terms.{buffer_or}
+use Rattle.sq_draft.specs.Term.Terms.{buffer_or}
 use Rattle.sq_homes.proofs.draft.buffers_named.Given as goal
 
 abbrev pub invariant-loop-home : goal.invariant-loop-home

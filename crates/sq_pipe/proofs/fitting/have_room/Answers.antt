@@ -3,7 +3,7 @@ use Rattle.std.proofs.Common.{sym, ◌∙◌}
 use Rattle.std.proofs.Common.{ap, ap₂, arith, rules}
 use Rattle.std.proofs.lemmas.Bool.Decides.{nat_tests}
 use Rattle.sq_forms.specs.declared.form.Form.{Form}
-use Rattle.sq_spec_laws.specs.Needs.{callers_end}
+use Rattle.sq_hoist.specs.SpecLaws.Needs.{callers_end}
 use Rattle.sq_pipe.specs.declared.room.Room.{Room}
 use Rattle.sq_pipe.specs.Sums.{ended_by}
 use Rattle.sq_pipe.specs.Greedy as spec

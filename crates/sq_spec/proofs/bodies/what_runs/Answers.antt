@@ -1,7 +1,7 @@
 use Rattle.std.proofs.Common.{rules, ap}
-use Rattle.sq_leaf.specs.Leaf.{is_leaf_body}
-use Rattle.sq_forms.specs.Worlds as worlds
-use Rattle.sq_forms.specs.Decls as decls
+use Rattle.sq_work.specs.Leaf.Leaf.{is_leaf_body}
+use Rattle.sq_form_laws.specs.Forms.Worlds as worlds
+use Rattle.sq_form_laws.specs.Forms.Decls as decls
 use Rattle.sq_spec.proofs.WhatRuns.{inner_is}
 use Rattle.sq_spec.proofs.bodies.what_runs.Goals as goal
 

@@ -1,9 +1,9 @@
 use Rattle.std.proofs.Common.{refl, ap, ◌∙◌}
 use Rattle.sq_ast.specs.declared.program.Program.{Program}
-use Rattle.sq_forms.specs.Resolving.{resolving_of}
+use Rattle.sq_form_laws.specs.Forms.Resolving.{resolving_of}
 use Rattle.sq_spec.specs.Walked.{IsWalked}
 use Rattle.sq_spec.specs.Works.{found_in}
-use Rattle.sq_forms.proofs.AllForms.{paired, of_program}
+use Rattle.sq_form_laws.proofs.Forms.AllForms.{paired, of_program}
 use Rattle.sq_spec.proofs.resolved.resolve.Goals as goal
 
 pub invariant_of-result : goal.invariant_of-result

@@ -1,9 +1,9 @@
 use Rattle.std.proofs.Common.{rules, ◌≡◌, ◌<◌, ◌++◌, ℕ, List, map, ap, ◌∙◌, arith}
-use Rattle.sq_blocks.specs.Names.{Numbers}
-use Rattle.sq_forms.specs.Args as argued
-use Rattle.sq_forms.specs.Stmts as stmts
+use Rattle.sq_form_laws.specs.Blocks.Names.{Numbers}
+use Rattle.sq_form_laws.specs.Forms.Args as argued
+use Rattle.sq_form_laws.specs.Forms.Stmts as stmts
 use Rattle.sq_spec.specs.Statements as spec
-use Rattle.sq_forms.proofs.Scopes.{left_behind}
+use Rattle.sq_form_laws.proofs.Forms.Scopes.{left_behind}
 use Rattle.sq_spec.proofs.StatementLists.{one_more}
 use Rattle.sq_spec.proofs.statement.+push_counts.Goals as goal
 

@@ -1,7 +1,7 @@
 use Rattle.std.proofs.Common.{◌≡◌, ℕ, List, ◌-◌, ◌++◌, map, length}
-use Rattle.sq_blocks.specs.Names.{Numbers}
-use Rattle.sq_forms.specs.Args.{names_of}
-use Rattle.sq_forms.specs.Stmts.{times, in_iteration}
+use Rattle.sq_form_laws.specs.Blocks.Names.{Numbers}
+use Rattle.sq_form_laws.specs.Forms.Args.{names_of}
+use Rattle.sq_form_laws.specs.Forms.Stmts.{times, in_iteration}
 use Rattle.sq_spec.specs.Statements.{over, iteration_points, count_at}
 use Rattle.sq_spec.proofs.statement.+push_counts.Given as goal
 

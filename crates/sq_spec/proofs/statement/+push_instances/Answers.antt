@@ -1,12 +1,12 @@
 use Rattle.std.proofs.Common.{rules, ◌≡◌, ◌<◌, ◌++◌, ℕ, List, map, ap, ◌∙◌, arith}
 use Rattle.std.specs.Option.{option_copied}
-use Rattle.sq_blocks.specs.Names.{Numbers}
+use Rattle.sq_form_laws.specs.Blocks.Names.{Numbers}
 use Rattle.sq_spec.specs.declared.statement.CallInstance.{CallInstance}
-use Rattle.sq_forms.specs.Args as argued
-use Rattle.sq_forms.specs.Worlds as worlds
-use Rattle.sq_forms.specs.Stmts as stmts
+use Rattle.sq_form_laws.specs.Forms.Args as argued
+use Rattle.sq_form_laws.specs.Forms.Worlds as worlds
+use Rattle.sq_form_laws.specs.Forms.Stmts as stmts
 use Rattle.sq_spec.specs.Statements as spec
-use Rattle.sq_forms.proofs.Scopes.{left_behind}
+use Rattle.sq_form_laws.proofs.Forms.Scopes.{left_behind}
 use Rattle.sq_spec.proofs.StatementLists.{one_more}
 use Rattle.sq_spec.proofs.statement.+push_instances.Goals as goal
 

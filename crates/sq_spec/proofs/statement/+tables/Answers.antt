@@ -1,9 +1,9 @@
 use Rattle.std.proofs.Common.{ap, ◌∙◌}
 use Rattle.std.specs.Option.{option_copied}
-use Rattle.sq_forms.specs.Args as argued
-use Rattle.sq_forms.specs.Worlds as worlds
+use Rattle.sq_form_laws.specs.Forms.Args as argued
+use Rattle.sq_form_laws.specs.Forms.Worlds as worlds
 use Rattle.sq_spec.specs.Statements as spec
-use Rattle.sq_forms.proofs.Argued.{next_at}
+use Rattle.sq_form_laws.proofs.Forms.Argued.{next_at}
 use Rattle.sq_spec.proofs.StatementLists.{statement_more}
 use Rattle.sq_spec.proofs.statement.+tables.Goals as goal
 

@@ -1,7 +1,7 @@
 use Rattle.std.proofs.Common.{◌≡◌, ◌++◌, drop, map}
 use Rattle.std.specs.Option.{option_copied}
-use Rattle.sq_forms.specs.Args.{names_of}
-use Rattle.sq_forms.specs.Worlds.{frame_of}
+use Rattle.sq_form_laws.specs.Forms.Args.{names_of}
+use Rattle.sq_form_laws.specs.Forms.Worlds.{frame_of}
 use Rattle.sq_spec.specs.Statements.{table_of, all_of}
 use Rattle.sq_spec.proofs.statement.+tables.Given as goal
 

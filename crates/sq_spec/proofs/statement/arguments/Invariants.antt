@@ -1,6 +1,6 @@
 use Rattle.std.proofs.Common.{◌≡◌, ◌++◌, drop}
 use Rattle.std.specs.Option.{option_copied}
-use Rattle.sq_forms.specs.Args.{names_of, arguments}
+use Rattle.sq_form_laws.specs.Forms.Args.{names_of, arguments}
 use Rattle.sq_spec.proofs.statement.arguments.Given as goal
 
 abbrev pub invariant-loop-i : goal.invariant-loop-i

@@ -1,5 +1,5 @@
 use Rattle.std.proofs.Common.{◌≡◌, ◌++◌, drop}
-use Rattle.sq_forms.specs.Calls.{extents_of}
+use Rattle.sq_form_laws.specs.Forms.Calls.{extents_of}
 use Rattle.sq_spec.proofs.statement.extents_of.Given as goal
 
 abbrev pub invariant-loop-x : goal.invariant-loop-x

@@ -1,6 +1,6 @@
 use Rattle.std.specs.Option.{option_copied}
-use Rattle.sq_forms.specs.Args as argued
-use Rattle.sq_forms.specs.Worlds as worlds
+use Rattle.sq_form_laws.specs.Forms.Args as argued
+use Rattle.sq_form_laws.specs.Forms.Worlds as worlds
 use Rattle.sq_spec.proofs.StatementLists.{call_instance_is}
 use Rattle.sq_spec.proofs.statement.reach.Goals as goal
 

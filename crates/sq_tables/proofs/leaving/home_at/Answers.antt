@@ -1,6 +1,6 @@
 use Rattle.std.proofs.Common.{sym, ap, ◌∙◌}
 use Rattle.std.specs.Option.{option_copied}
-use Rattle.sq_placed.specs.declared.home.Home.TheVariants.{InPlace}
+use Rattle.sq_term.specs.Placed.declared.home.Home.TheVariants.{InPlace}
 use Rattle.sq_tables.proofs.Lists.{no_item}
 use Rattle.sq_tables.proofs.leaving.home_at.Goals as goal
 

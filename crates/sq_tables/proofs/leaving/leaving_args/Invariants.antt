@@ -1,5 +1,5 @@
 use Rattle.std.proofs.Common.{◌≡◌, ◌++◌, drop}
-use Rattle.sq_placed.specs.Tables as tables
+use Rattle.sq_term.specs.Placed.Tables as tables
 use Rattle.sq_tables.proofs.leaving.leaving_args.Given as goal
 
 abbrev pub invariant-loop-position : goal.invariant-loop-position

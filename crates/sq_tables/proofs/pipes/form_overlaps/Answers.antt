@@ -1,6 +1,6 @@
 use Rattle.std.proofs.Common.{sym, ap, ◌∙◌}
 use Rattle.std.specs.Option.{option_copied}
-use Rattle.sq_placed.specs.declared.home.Homes.{Homes}
+use Rattle.sq_term.specs.Placed.declared.home.Homes.{Homes}
 use Rattle.sq_term.specs.Terms.{no_homes}
 use Rattle.sq_tables.proofs.Lists.{no_item, an_item}
 use Rattle.sq_tables.proofs.pipes.form_overlaps.Goals as goal
