@@ -40,8 +40,9 @@ fn push_form_sites(
     ensures { OnOk result (out.new ≡ out.old ++ spec.body_sites form (spec.body_at r.now form).body) }
 {
     let made = r.body(alloc, form_number(form)?)?;
-    push_body_sites(alloc, out, form, &made.body)?;
-    Ok(())
+    let pushed = push_body_sites(alloc, out, form, &made.body);
+    drop(made);
+    pushed
 }
 
 /// The calls in plain loops of all forms, by the number of the form in which they stand. The tables of one form are
