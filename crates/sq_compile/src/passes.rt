@@ -16,11 +16,9 @@ use crate::memories::plan_nodes;
 use sq_elim::drop_copies;
 use sq_ir::{Draft, Plan, PlanNodes};
 use sq_lower::lower;
-use sq_pass_laws::sq_hoist::hoist;
-use sq_pass_laws::sq_pipe::overlap_transfers;
 use sq_pass_laws::{
-    choices_are_hoisted, hoisted_overlap_nothing, overlaps_fit, overlaps_hold,
-    overlaps_may_be_chosen,
+    choices_are_hoisted, hoist, hoisted_overlap_nothing, overlap_transfers, overlaps_fit,
+    overlaps_hold, overlaps_may_be_chosen,
 };
 use sq_plan_good::sq_draft_laws::laws::resolved_programs_were_walked;
 use sq_plan_good::{

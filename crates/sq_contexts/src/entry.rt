@@ -6,9 +6,7 @@ ghost use Rattle.sq_term.specs.Terms as terms;
 use crate::places::buffer_view;
 use sq_ir::sq_leaf::Shape;
 use sq_ir::{LeafViews, Num};
-use sq_term::Context;
-use sq_term::sq_placed::{Home, Homes};
-use sq_term::sq_spec::FormBody;
+use sq_term::{Context, FormBody, Home, Homes};
 use sqlite_items::Items;
 use std::alloc::{AllocError, Global};
 

@@ -18,9 +18,7 @@ use sq_ir::sq_leaf::Shape;
 use sq_ir::{BufferIds, LeafView};
 use sq_num::RedOp;
 use sq_spec::sq_blocks::Argument;
-use sq_tables::sq_placed::Home;
-use sq_tables::sq_term::{Context, Move};
-use sq_tables::{CallTable, home_at, table_of};
+use sq_tables::{CallTable, Context, Home, Move, home_at, table_of};
 use sqlite_items::{Items, at};
 use std::alloc::{AllocError, Global};
 

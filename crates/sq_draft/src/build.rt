@@ -25,9 +25,10 @@ use sq_contexts::{LocalArrays, at_child_already, count_num, in_callee, in_map, s
 use sq_ir::{Num, Term, Terms};
 use sq_num::RedOp;
 use sq_spec::{Body, CallInstance, Statement};
-use sq_tables::sq_placed::{Home, Homes};
-use sq_tables::sq_term::{Context, Move};
-use sq_tables::{Arm, CallTable, Pipe, any_lower, any_same, arms_of, spread_of, tables_of};
+use sq_tables::{
+    Arm, CallTable, Context, Home, Homes, Move, Pipe, any_lower, any_same, arms_of, spread_of,
+    tables_of,
+};
 use sq_text::SpreadRule;
 use sqlite_items::{Items, at};
 use std::alloc::{AllocError, Global};

@@ -10,9 +10,7 @@ use sq_contexts::entry_context;
 use sq_ir::Term;
 use sq_spec::sq_blocks::Argument;
 use sq_spec::{CallInstance, FormBody};
-use sq_tables::sq_placed::Homes;
-use sq_tables::sq_term::Context;
-use sq_tables::{CallTable, tables_of};
+use sq_tables::{CallTable, Context, Homes, tables_of};
 use sqlite_items::{Items, at};
 use std::alloc::{AllocError, Global};
 

@@ -9,9 +9,7 @@ use sq_ir::{BufferIds, Num, Numbers};
 use sq_num::RedOp;
 use sq_spec::sq_blocks::Argument;
 use sq_spec::{FormBody, LoopKind, Statement};
-use sq_tables::sq_placed::{Home, Homes};
-use sq_tables::sq_term::{Context, Lane, Move};
-use sq_tables::{CallTable, op_of};
+use sq_tables::{CallTable, Context, Home, Homes, Lane, Move, op_of};
 use sq_text::SpreadRule;
 use sqlite_items::Items;
 

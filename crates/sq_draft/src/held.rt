@@ -15,9 +15,9 @@ use crate::forms::{CalleeArrays, Forms, Holding};
 use sq_contexts::{block_view, start_table};
 use sq_ir::{BufferIds, LeafView, Num};
 use sq_spec::{CallInstance, LoopKind, Statement};
-use sq_tables::sq_placed::Home;
-use sq_tables::sq_term::{Context, Move};
-use sq_tables::{Left, held_offsets, home_at, leaving_args, loops_in, rows_in};
+use sq_tables::{
+    Context, Home, Left, Move, held_offsets, home_at, leaving_args, loops_in, rows_in,
+};
 use sqlite_items::{Items, at};
 use std::alloc::{AllocError, Global};
 

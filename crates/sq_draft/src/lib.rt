@@ -12,5 +12,4 @@ mod pipes;
 mod transfers;
 
 pub use entry::draft_term;
-pub use sq_tables;
-pub use sq_tables::sq_placed;
+pub use sq_tables::{Home, Homes, any_lower, any_same};

@@ -12,8 +12,7 @@ use sq_contexts::signed;
 use sq_ir::sq_rect::Dims;
 use sq_ir::{Action, LeafView, Num, Slot, Term};
 use sq_num::{Elem, RedOp, identity, width};
-use sq_tables::sq_placed::Home;
-use sq_tables::sq_term::Move;
+use sq_tables::{Home, Move};
 use sqlite_items::{Boxed as Box, at};
 use std::alloc::{AllocError, Global};
 

@@ -21,9 +21,9 @@ use sq_contexts::{
 };
 use sq_ir::{BufferIds, Num, Numbers, Term, Terms};
 use sq_spec::sq_blocks::Argument;
-use sq_tables::sq_placed::{Home, Homes};
-use sq_tables::sq_term::{Context, Lane, Move};
-use sq_tables::{Pipe, any_lower, any_same, home_at, pipe_of, spread_of};
+use sq_tables::{
+    Context, Home, Homes, Lane, Move, Pipe, any_lower, any_same, home_at, pipe_of, spread_of,
+};
 use sq_text::SpreadRule;
 use sqlite_items::{Boxed as Box, Items};
 use std::alloc::{AllocError, Global};

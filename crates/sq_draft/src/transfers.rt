@@ -9,8 +9,7 @@ ghost use Rattle.sq_draft.specs.Building as building;
 use crate::moves::{back_term, bring_term, copy_term};
 use sq_ast::Mode;
 use sq_ir::{Term, Terms};
-use sq_tables::sq_placed::Home;
-use sq_tables::sq_term::Move;
+use sq_tables::{Home, Move};
 use sqlite_items::Items;
 use std::alloc::{AllocError, Global};
 

@@ -14,5 +14,7 @@ pub use choices::choices_of;
 pub use hoisting::{hoist, sites_of};
 pub use notes::push_site;
 pub use sites::Site;
-pub use sq_homes;
-pub use sq_homes::sq_tables;
+pub use sq_homes::{
+    Choice, any_lower, any_same, array_size, choice_at, draft_of, flag_at, form_number, is_moved,
+    level_at, name_at, number_at, rule_at,
+};

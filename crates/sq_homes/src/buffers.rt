@@ -12,7 +12,7 @@ use crate::homes::{behind, form_homes};
 use crate::names::{array_at, level_at, name_at, rule_at};
 use crate::order::{params_of, standing};
 use sq_ast::sq_num::{Elem, width};
-use sq_draft::sq_placed::Homes;
+use sq_draft::Homes;
 use sq_ir::sq_leaf::Shape;
 use sq_ir::sq_rect::Dims;
 use sq_ir::{Buffer, Buffers};

@@ -15,4 +15,4 @@ pub use choice::Choice;
 pub use draft::draft_of;
 pub use names::{form_number, instance_at, level_at, name_at, rule_at};
 pub use order::{flag_at, is_moved, number_at};
-pub use sq_draft::sq_tables;
+pub use sq_draft::{any_lower, any_same};

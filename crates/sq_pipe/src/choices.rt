@@ -3,7 +3,7 @@
 ghost use Rattle.std.specs.Prelude.{◌≡◌, IfOk};
 ghost use Rattle.sq_pipe.specs.Greedy as spec;
 
-use sq_hoist::sq_homes::{Choice, flag_at};
+use sq_hoist::{Choice, flag_at};
 use sqlite_items::Items;
 use std::alloc::{AllocError, Global};
 

@@ -10,7 +10,7 @@ use crate::reach::set_flag;
 use crate::room::Room;
 use crate::sizes::plus;
 use sq_forms::{Caller, Form};
-use sq_hoist::sq_homes::flag_at;
+use sq_hoist::flag_at;
 use sqlite_items::{Items, at};
 use std::alloc::{AllocError, Global};
 

@@ -12,7 +12,7 @@ use crate::loops::{Caller, push_all};
 use crate::marks::{least_room, marks_of, most_children};
 use crate::room::Room;
 use crate::sizes::{moved_bytes, own_bytes};
-use sq_hoist::sq_homes::{Choice, choice_at, form_number};
+use sq_hoist::{Choice, choice_at, form_number};
 use sq_spec::{Body, FormBody, Resolved};
 use sqlite_items::{Items, at};
 use std::alloc::{AllocError, Global};

@@ -16,4 +16,4 @@ mod sizes;
 
 pub use candidate::Candidate;
 pub use overlapping::overlap_transfers;
-pub use sq_hoist;
+pub use sq_hoist::hoist;

@@ -10,8 +10,7 @@ ghost use Rattle.sq_pipe.specs.Candidates as spec;
 
 use crate::ahead::are_all_ahead;
 use crate::candidate::Candidate;
-use sq_hoist::sq_homes::Choice;
-use sq_hoist::sq_tables::{any_lower, any_same};
+use sq_hoist::{Choice, any_lower, any_same};
 use sq_spec::{CallInstance, LoopKind, Statement};
 use sq_text::Place;
 use sqlite_items::{Items, at};

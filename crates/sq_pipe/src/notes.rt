@@ -7,8 +7,7 @@ ghost use Rattle.sq_hoist.specs.Notes as hoist;
 ghost use Rattle.sq_pipe.specs.Notes as spec;
 
 use crate::candidate::Candidate;
-use sq_hoist::sq_homes::{flag_at, name_at};
-use sq_hoist::{Site, push_site};
+use sq_hoist::{Site, flag_at, name_at, push_site};
 use sq_ir::{Note, Notes};
 use sq_spec::Resolved;
 use sq_text::Place;

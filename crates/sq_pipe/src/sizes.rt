@@ -5,7 +5,7 @@ ghost use Rattle.sq_hoist.specs.Homes.Numbering as numbering;
 ghost use Rattle.sq_pipe.specs.Sums as sums;
 ghost use Rattle.sq_pipe.specs.Greedy as spec;
 
-use sq_hoist::sq_homes::{Choice, array_size, flag_at, is_moved, number_at};
+use sq_hoist::{Choice, array_size, flag_at, is_moved, number_at};
 use sq_spec::FormBody;
 use std::alloc::AllocError;
 

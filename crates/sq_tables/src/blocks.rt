@@ -10,7 +10,7 @@ ghost use Rattle.sq_term.specs.Terms as terms;
 use sq_num::width;
 use sq_spec::CallInstance;
 use sq_spec::sq_blocks::Argument;
-use sq_term::sq_ir::{LeafView, Numbers};
+use sq_term::parts::{LeafView, Numbers};
 use sq_text::Span;
 use sqlite_items::at;
 use std::alloc::{AllocError, Global};

@@ -13,7 +13,7 @@ use indexmap::IndexMap;
 use sq_ast::Mode;
 use sq_spec::CallInstance;
 use sq_spec::sq_blocks::Argument;
-use sq_term::sq_ir::Numbers;
+use sq_term::parts::Numbers;
 use sqlite_items::{Items, at};
 use std::alloc::{AllocError, Global};
 use std::marker::Model;

@@ -5,7 +5,7 @@ ghost use Rattle.sq_term.specs.Placed.declared.home.Home.TheVariants as home;
 ghost use Rattle.sq_term.specs.Placed.Tables as tables;
 
 use sq_spec::sq_blocks::Argument;
-use sq_term::sq_placed::Home;
+use sq_term::Home;
 use sqlite_items::{Items, at};
 use std::alloc::{AllocError, Global};
 use std::marker::Model;

@@ -15,6 +15,5 @@ pub use inside::{any_lower, any_same};
 pub use leaving::{Left, home_at, leaving_args};
 pub use loops::{loops_in, op_of, rows_in, spread_of};
 pub use pipes::{Pipe, pipe_of};
-pub use sq_term;
-pub use sq_term::sq_placed;
+pub use sq_term::{Context, Home, Homes, Lane, Move};
 pub use tables::{CallTable, table_of, tables_of};

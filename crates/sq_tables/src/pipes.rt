@@ -7,7 +7,7 @@ ghost use Rattle.sq_term.specs.Terms as terms;
 ghost use Rattle.sq_tables.specs.Loops as loops;
 
 use sq_spec::{CallInstance, LoopKind, Statement};
-use sq_term::sq_placed::Homes;
+use sq_term::Homes;
 use sq_text::SpreadRule;
 use sqlite_items::at;
 use std::marker::Model;

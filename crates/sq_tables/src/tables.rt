@@ -7,7 +7,7 @@ ghost use Rattle.sq_tables.specs.Cases as cases;
 use crate::blocks::offsets;
 use sq_num::RedOp;
 use sq_spec::CallInstance;
-use sq_term::sq_ir::{LeafView, Numbers};
+use sq_term::parts::{LeafView, Numbers};
 use sqlite_items::{Items, at};
 use std::alloc::{AllocError, Global};
 

@@ -5,6 +5,10 @@ mod context;
 pub mod laws;
 
 pub use context::{Context, Lane, Move};
-pub use sq_ir;
-pub use sq_placed;
-pub use sq_placed::sq_spec;
+pub use sq_placed::sq_spec::FormBody;
+pub use sq_placed::{Home, Homes};
+
+/// What contexts are made of.
+pub mod parts {
+    pub use sq_ir::{LeafView, Numbers};
+}
