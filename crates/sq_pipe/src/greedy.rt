@@ -115,8 +115,9 @@ fn push_form(
         (hoist.body_at r.now form).body) }
 {
     let made = r.body(alloc, form_number(form)?)?;
-    push_known(out, candidates, r, chosen, form, &made)?;
-    Ok(())
+    let pushed = push_known(out, candidates, r, chosen, form, &made);
+    drop(made);
+    pushed
 }
 
 /// The room of each form, and the loops that may overlap their transfers.

@@ -97,8 +97,9 @@ fn flags_at(
         children,
         r.forms().len(),
         &made.body,
-    )?;
-    Ok(flags)
+    );
+    drop(made);
+    flags
 }
 
 // ---- flags that are made once
