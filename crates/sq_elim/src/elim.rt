@@ -5,7 +5,7 @@ ghost use Rattle.sq_homes.specs.Drafts.{IsDraftOf};
 ghost use Rattle.sq_elim.specs.Choices as spec;
 
 use sq_forms::Form;
-use sq_homes::{Choice, draft_of};
+use sq_homes::{Choice, draft_of, drop_draft};
 use sq_ir::Draft;
 use sq_spec::Resolved;
 use sqlite_items::Items;
@@ -39,7 +39,7 @@ pub fn drop_copies(alloc: Global, r: &Resolved<'_>, draft: Draft) -> Result<Draf
     ensures draft { IfOk result (λ d. IsDraftOf r.now (spec.all_in_place r.now) d) }
     ensures notes { IfOk result (λ d. d.notes ≡ []) }
 {
-    drop(draft);
+    drop_draft(draft);
     let choices = all_in_place(alloc, r.forms())?;
     let made = draft_of(alloc, r, choices.as_slice())?;
     Ok(made)

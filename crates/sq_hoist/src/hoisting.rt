@@ -8,7 +8,7 @@ ghost use Rattle.sq_hoist.specs.Notes as notes;
 use crate::choices::choices_of;
 use crate::notes::notes_of;
 use crate::sites::{Site, push_sites};
-use sq_homes::{Choice, draft_of, form_number};
+use sq_homes::{Choice, draft_of, drop_body, drop_draft, form_number};
 use sq_ir::{Draft, Notes};
 use sq_spec::{Body, Resolved};
 use sqlite_items::Items;
@@ -41,7 +41,7 @@ fn push_form_sites(
 {
     let made = r.body(alloc, form_number(form)?)?;
     let pushed = push_body_sites(alloc, out, form, &made.body);
-    drop(made);
+    drop_body(made);
     pushed
 }
 
@@ -94,7 +94,7 @@ pub fn hoist(alloc: Global, r: &Resolved<'_>, draft: Draft) -> Result<Draft, All
     ensures draft { IfOk result (λ d. IsDraftOf r.now (spec.hoisted r.now) d) }
     ensures notes { IfOk result (λ d. d.notes ≡ notes.notes_of r.now) }
 {
-    drop(draft);
+    drop_draft(draft);
     let chosen = chosen_of(alloc, r)?;
     let made = draft_of(alloc, r, chosen.choices.as_slice())?;
     Ok(with_notes(made, chosen.notes))

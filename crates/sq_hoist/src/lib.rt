@@ -15,6 +15,6 @@ pub use hoisting::{hoist, sites_of};
 pub use notes::push_site;
 pub use sites::Site;
 pub use sq_homes::{
-    Choice, any_lower, any_same, array_size, choice_at, draft_of, flag_at, form_number, is_moved,
-    level_at, name_at, number_at, rule_at,
+    Choice, any_lower, any_same, array_size, choice_at, draft_of, drop_body, drop_draft, flag_at,
+    form_number, is_moved, level_at, name_at, number_at, rule_at,
 };

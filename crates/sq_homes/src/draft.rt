@@ -196,3 +196,13 @@ pub fn draft_of(alloc: Global, r: &Resolved<'_>, choices: &[Choice]) -> Result<D
         notes: Items::new(alloc),
     })
 }
+
+/// Lets a draft go. Whoever calls this owes no proof of his own that all of its trees can be let go.
+pub fn drop_draft(draft: Draft) {
+    drop(draft);
+}
+
+/// Lets go what a form does.
+pub fn drop_body(body: FormBody) {
+    drop(body);
+}

@@ -12,7 +12,7 @@ mod order;
 
 pub use buffers::{array_size, choice_at};
 pub use choice::Choice;
-pub use draft::draft_of;
+pub use draft::{draft_of, drop_body, drop_draft};
 pub use names::{form_number, instance_at, level_at, name_at, rule_at};
 pub use order::{flag_at, is_moved, number_at};
 pub use sq_draft::{any_lower, any_same};

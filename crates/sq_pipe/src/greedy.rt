@@ -12,7 +12,7 @@ use crate::loops::{Caller, push_all};
 use crate::marks::{least_room, marks_of, most_children};
 use crate::room::Room;
 use crate::sizes::{moved_bytes, own_bytes};
-use sq_hoist::{Choice, choice_at, form_number};
+use sq_hoist::{Choice, choice_at, drop_body, form_number};
 use sq_spec::{Body, FormBody, Resolved};
 use sqlite_items::{Items, at};
 use std::alloc::{AllocError, Global};
@@ -116,7 +116,7 @@ fn push_form(
 {
     let made = r.body(alloc, form_number(form)?)?;
     let pushed = push_known(out, candidates, r, chosen, form, &made);
-    drop(made);
+    drop_body(made);
     pushed
 }
 

@@ -8,7 +8,7 @@ ghost use Rattle.sq_pipe.specs.Runs as spec;
 use crate::reach::{flag_number, flags_of, no_flags, set_flag};
 use sq_forms::Form;
 use sq_forms::sq_machfile::Node;
-use sq_hoist::{form_number, level_at, rule_at};
+use sq_hoist::{drop_body, form_number, level_at, rule_at};
 use sq_spec::Resolved;
 use sqlite_items::{Items, at};
 use std::alloc::{AllocError, Global};
@@ -98,7 +98,7 @@ fn flags_at(
         r.forms().len(),
         &made.body,
     );
-    drop(made);
+    drop_body(made);
     flags
 }
 

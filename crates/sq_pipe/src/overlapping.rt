@@ -9,7 +9,7 @@ ghost use Rattle.sq_pipe.specs.Notes as notes;
 use crate::choices::overlaps_of;
 use crate::greedy::taken_of;
 use crate::notes::merged;
-use sq_hoist::{Choice, Site, choices_of, draft_of, sites_of};
+use sq_hoist::{Choice, Site, choices_of, draft_of, drop_draft, sites_of};
 use sq_ir::{Draft, Notes};
 use sq_spec::Resolved;
 use sqlite_items::Items;
@@ -70,7 +70,7 @@ pub fn overlap_transfers(alloc: Global, r: &Resolved<'_>, draft: Draft) -> Resul
     ensures draft { IfOk result (λ d. IsDraftOf r.now (spec.overlapped r.now) d) }
     ensures notes { IfOk result (λ d. d.notes ≡ notes.notes_of r.now) }
 {
-    drop(draft);
+    drop_draft(draft);
     let chosen = chosen_of(alloc, r)?;
     let made = draft_of(alloc, r, chosen.choices.as_slice())?;
     Ok(with_notes(made, chosen.notes))
