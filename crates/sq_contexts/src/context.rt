@@ -8,8 +8,7 @@ ghost use Rattle.sq_term.specs.Terms as terms;
 
 use crate::numbers::start_table;
 use crate::places::{copy_nums, copy_view, copy_views, lift_nums, lift_views, push_locals};
-use sq_ir::sq_leaf::Shape;
-use sq_ir::{LeafView, LeafViews, Num, Nums};
+use sq_ir::{LeafView, LeafViews, Num, Nums, Shape};
 use sq_term::{Context, Move};
 use sq_text::SpreadRule;
 use sqlite_items::Items;

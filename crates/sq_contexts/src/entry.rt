@@ -4,8 +4,7 @@ ghost use Rattle.std.specs.Prelude.{◌≡◌, ◌++◌, IfOk, OnOk};
 ghost use Rattle.sq_term.specs.Terms as terms;
 
 use crate::places::buffer_view;
-use sq_ir::sq_leaf::Shape;
-use sq_ir::{LeafViews, Num};
+use sq_ir::{LeafViews, Num, Shape};
 use sq_term::{Context, FormBody, Home, Homes};
 use sqlite_items::Items;
 use std::alloc::{AllocError, Global};

@@ -7,9 +7,7 @@ ghost use Rattle.sq_term.specs.Placed.Tables as tables;
 ghost use Rattle.sq_term.specs.Terms as terms;
 ghost use Rattle.sq_term.specs.Placed.Trees as trees;
 
-use sq_ir::sq_leaf::Shape;
-use sq_ir::sq_rect::Dims;
-use sq_ir::{BufferIds, LeafView, LeafViews, Num, Numbers, Nums, Slot};
+use sq_ir::{BufferIds, Dims, LeafView, LeafViews, Num, Numbers, Nums, Shape, Slot};
 use sq_term::Home;
 use sqlite_items::Items;
 use std::alloc::{AllocError, Global};

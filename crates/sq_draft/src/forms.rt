@@ -4,11 +4,9 @@ ghost use Rattle.std.specs.Prelude.{◌≡◌, ◌||◌, is_some, drop, true};
 ghost use Rattle.sq_tables.specs.Placed.Tables as tables;
 
 use sq_contexts::LocalArrays;
-use sq_ir::sq_leaf::Shape;
-use sq_ir::{BufferIds, Num, Numbers};
+use sq_ir::{BufferIds, Num, Numbers, Shape};
 use sq_num::RedOp;
-use sq_spec::sq_blocks::Argument;
-use sq_spec::{FormBody, LoopKind, Statement};
+use sq_spec::{Argument, FormBody, LoopKind, Statement};
 use sq_tables::{CallTable, Context, Home, Homes, Lane, Move, op_of};
 use sq_text::SpreadRule;
 use sqlite_items::Items;

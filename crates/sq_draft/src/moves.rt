@@ -9,8 +9,7 @@ ghost use Rattle.sq_tables.specs.Term.Terms as terms;
 
 use sq_ast::Mode;
 use sq_contexts::signed;
-use sq_ir::sq_rect::Dims;
-use sq_ir::{Action, LeafView, Num, Slot, Term};
+use sq_ir::{Action, Dims, LeafView, Num, Slot, Term};
 use sq_num::{Elem, RedOp, identity, width};
 use sq_tables::{Home, Move};
 use sqlite_items::{Boxed as Box, at};

@@ -20,7 +20,7 @@ use sq_contexts::{
     lift_lane, whole_lane,
 };
 use sq_ir::{BufferIds, Num, Numbers, Term, Terms};
-use sq_spec::sq_blocks::Argument;
+use sq_spec::Argument;
 use sq_tables::{
     Context, Home, Homes, Lane, Move, Pipe, any_lower, any_same, home_at, pipe_of, spread_of,
 };

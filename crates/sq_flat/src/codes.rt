@@ -8,8 +8,7 @@ use crate::form::FormCode;
 use sq_leaf::Shape;
 use sq_num::width;
 use sq_rect::{View, Views};
-use sq_spec::sq_form_laws::laws::forms_are_those_found;
-use sq_spec::{FormBody, Resolved};
+use sq_spec::{FormBody, Resolved, forms_are_those_found};
 use sqlite_items::Items;
 use std::alloc::{AllocError, Global};
 

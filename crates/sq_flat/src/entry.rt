@@ -8,8 +8,7 @@ use sq_ast::Param;
 use sq_blocks::{Argument, whole};
 use sq_leaf::Shape;
 use sq_rect::Dims;
-use sq_spec::sq_form_laws::laws::forms_are_those_found;
-use sq_spec::{CallInstance, Resolved};
+use sq_spec::{CallInstance, Resolved, forms_are_those_found};
 use sqlite_items::{Items, at};
 use std::alloc::{AllocError, Global};
 

@@ -10,7 +10,7 @@ use crate::faults::{refusal_named, refusal_of_constant};
 use crate::known::Known;
 use crate::walk::Walk;
 use sq_ast::{ArgUse, Expr, Mode, Param};
-use sq_blocks::sq_rect::Rect;
+use sq_blocks::views::Rect;
 use sq_blocks::{Argument, Bindings, Env, block_of, cval, whole};
 use sq_text::{Code, Name, Place, Stop};
 use sqlite_items::{Items, at};

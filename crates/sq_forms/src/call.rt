@@ -21,7 +21,7 @@ use crate::known::Known;
 use crate::walk::Walk;
 use crate::world::{Callee, Frame, callee_of};
 use sq_ast::{ArgUse, Call, Extent, Mode, Param};
-use sq_blocks::sq_rect::{Dims, Rect, overlap};
+use sq_blocks::views::{Dims, Rect, overlap};
 use sq_blocks::{Argument, Bindings};
 use sq_text::{Code, Name, Place, Span, Stop};
 use sqlite_items::{Items, at};

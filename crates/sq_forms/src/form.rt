@@ -7,9 +7,8 @@ ghost use Rattle.std.specs.Cmp.{partial_equiv_from_equiv};
 ghost use Rattle.std.specs.Cmp.Rules.{hashing};
 ghost use Rattle.std.proofs.Common.{rules};
 
-use sq_ast::Mode;
-use sq_ast::sq_num::Elem;
-use sq_blocks::sq_rect::{Dims, Rect};
+use sq_ast::{Elem, Mode};
+use sq_blocks::views::{Dims, Rect};
 use sqlite_items::Items;
 use std::hash::{Hash, Hasher};
 use std::marker::Model;

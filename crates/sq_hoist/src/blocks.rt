@@ -6,9 +6,8 @@ ghost use Rattle.sq_spec.specs.Forms.Calls as calls;
 ghost use Rattle.sq_hoist.specs.Loops as spec;
 
 use sq_blocks::Argument;
-use sq_blocks::sq_rect::overlap;
-use sq_spec::CallInstance;
-use sq_spec::sq_forms::call::is_written;
+use sq_blocks::views::overlap;
+use sq_spec::{CallInstance, is_written};
 use sq_text::Span;
 
 /// Whether two blocks of one array share an element.

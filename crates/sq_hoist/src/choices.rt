@@ -8,7 +8,7 @@ ghost use Rattle.sq_hoist.specs.Choices as spec;
 use crate::sites::Site;
 use indexmap::IndexMap;
 use sq_homes::Choice;
-use sq_spec::sq_forms::Form;
+use sq_spec::Form;
 use sqlite_items::Items;
 use std::alloc::{AllocError, Global};
 

@@ -9,8 +9,7 @@ ghost use Rattle.sq_hoist.specs.Notes as spec;
 
 use sq_ast::{Param, Variant};
 use sq_homes::instance_at;
-use sq_spec::Resolved;
-use sq_spec::sq_mapfile::Instance;
+use sq_spec::{Instance, Resolved};
 use sq_text::Name;
 use sqlite_items::at;
 use std::alloc::{AllocError, Global};

@@ -11,12 +11,10 @@ use crate::choice::Choice;
 use crate::homes::{behind, form_homes};
 use crate::names::{array_at, level_at, name_at, rule_at};
 use crate::order::{params_of, standing};
-use sq_ast::sq_num::{Elem, width};
+use sq_ast::{Elem, width};
 use sq_draft::Homes;
-use sq_ir::sq_leaf::Shape;
-use sq_ir::sq_rect::Dims;
-use sq_ir::{Buffer, Buffers};
-use sq_spec_laws::sq_spec::{Body, FormBody, Resolved};
+use sq_ir::{Buffer, Buffers, Dims, Shape};
+use sq_spec_laws::{Body, FormBody, Resolved};
 use sqlite_items::{Items, at};
 use std::alloc::{AllocError, Global};
 

@@ -9,9 +9,8 @@ use crate::choice::Choice;
 use crate::entry::args_of;
 use crate::names::{form_number, name_at};
 use sq_draft::{Home, Homes, draft_term};
-use sq_ir::sq_blocks::Argument;
-use sq_ir::{BufferIds, Buffers, Draft, Leaf, Leaves, Term};
-use sq_spec_laws::sq_spec::{Body, FormBody, Resolved};
+use sq_ir::{Argument, BufferIds, Buffers, Draft, Leaf, Leaves, Term};
+use sq_spec_laws::{Body, FormBody, Resolved};
 use sqlite_items::{Boxed as Box, Items, at};
 use std::alloc::{AllocError, Global};
 

@@ -5,9 +5,8 @@ ghost use Rattle.sq_spec_laws.specs.Spec.Works.{entry_arguments, whole as all_of
 ghost use Rattle.sq_homes.specs.Drafts as spec;
 
 use sq_ast::Param;
-use sq_ir::sq_blocks::{Argument, whole};
-use sq_ir::sq_rect::Dims;
-use sq_spec_laws::sq_spec::Resolved;
+use sq_ir::{Argument, Dims, whole};
+use sq_spec_laws::Resolved;
 use sqlite_items::{Items, at};
 use std::alloc::{AllocError, Global};
 

@@ -7,7 +7,7 @@ ghost use Rattle.sq_homes.specs.Numbering as spec;
 use crate::choice::Choice;
 use crate::order::{BufferedParams, flag_at, locals_count, number_at};
 use sq_draft::{Home, Homes};
-use sq_spec_laws::sq_spec::FormBody;
+use sq_spec_laws::FormBody;
 use sq_text::SpreadRule;
 use sqlite_items::Items;
 use std::alloc::{AllocError, Global};

@@ -9,8 +9,7 @@ ghost use Rattle.sq_spec_laws.specs.Needs.{variant_for};
 ghost use Rattle.sq_homes.specs.Drafts as spec;
 
 use sq_ast::{Decl, Variant};
-use sq_spec_laws::sq_mapfile::Instance;
-use sq_spec_laws::sq_spec::Resolved;
+use sq_spec_laws::{Instance, Resolved};
 use sq_text::{Name, SpreadRule};
 use sqlite_items::at;
 use std::alloc::{AllocError, Global};

@@ -5,7 +5,7 @@ ghost use Rattle.std.specs.List.{filter, range_with_len};
 ghost use Rattle.sq_homes.specs.Numbering as spec;
 
 use crate::choice::Choice;
-use sq_ir::sq_leaf::Shape;
+use sq_ir::Shape;
 use sqlite_items::Items;
 use std::alloc::{AllocError, Global};
 

@@ -13,7 +13,6 @@ pub use numbers::Numbers;
 pub use plan::{
     Buffer, Buffers, Draft, Leaf, Leaves, Note, Notes, Offsets, Plan, PlanNode, PlanNodes,
 };
-pub use sq_leaf;
-pub use sq_leaf::{sq_blocks, sq_rect};
+pub use sq_leaf::{Argument, Dims, Shape, Trap, TrapKind, whole};
 pub use term::{Action, BufferIds, LeafView, LeafViews, Nums, Slot, Term, Terms};
 pub use traffic::{Carried, EventCounts};

@@ -28,4 +28,4 @@ pub use mapping::{
     Tunings,
 };
 pub use reader::read_mapping;
-pub use sq_machfile;
+pub use sq_machfile::{Machine, Node};

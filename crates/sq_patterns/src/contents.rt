@@ -3,8 +3,7 @@
 ghost use Rattle.std.specs.Prelude.{◌≡◌, IfOk, slice_get};
 ghost use Rattle.sq_patterns.specs.Reading as spec;
 
-use sq_lexer::sq_text::{Name, Numeral, Place, Word};
-use sq_lexer::{Kind, Token};
+use sq_lexer::{Kind, Name, Numeral, Place, Token, Word};
 use std::alloc::{AllocError, Global};
 
 const NOWHERE: Place = Place { line: 0, col: 0 };

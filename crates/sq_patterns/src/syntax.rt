@@ -5,8 +5,7 @@ ghost use Rattle.sq_lexer.specs.Faults.{fault};
 ghost use Rattle.sq_patterns.specs.Reading.{place_in};
 
 use crate::contents::place_at;
-use sq_lexer::Token;
-use sq_lexer::sq_text::{Code, Fault, Phase};
+use sq_lexer::{Code, Fault, Phase, Token};
 use sqlite_items::Items;
 use std::alloc::Global;
 

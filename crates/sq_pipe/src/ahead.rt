@@ -7,7 +7,7 @@ ghost use Rattle.sq_pipe.specs.Candidates as spec;
 
 use sq_forms::call::is_written;
 use sq_hoist::{behind, front, shares};
-use sq_ir::sq_blocks::Argument;
+use sq_ir::Argument;
 use sq_spec::CallInstance;
 
 fn is_held(leaves: &[u32], i: usize) -> bool

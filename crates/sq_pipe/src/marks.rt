@@ -6,8 +6,7 @@ ghost use Rattle.std.specs.Option.{option_copied};
 ghost use Rattle.sq_pipe.specs.Runs as spec;
 
 use crate::reach::{flag_number, flags_of, no_flags, set_flag};
-use sq_forms::Form;
-use sq_forms::sq_machfile::Node;
+use sq_forms::{Form, Node};
 use sq_hoist::{drop_body, form_number, level_at, rule_at};
 use sq_spec::Resolved;
 use sqlite_items::{Items, at};

@@ -5,4 +5,4 @@ mod home;
 pub mod laws;
 
 pub use home::{Home, Homes};
-pub use sq_spec;
+pub use sq_spec::FormBody;

@@ -8,7 +8,7 @@ ghost use Rattle.sq_report.specs.Answers as answers;
 
 use crate::adding::{add, add_field, add_number, add_place, add_spaced};
 use crate::trap::{Trap, kind_word};
-use sq_ir::sq_leaf::TrapKind;
+use sq_ir::TrapKind;
 use sq_port::{Failed, Line, Sink};
 use sq_text::{Arg, Fault, Place, Span};
 

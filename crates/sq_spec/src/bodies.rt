@@ -13,17 +13,13 @@ ghost use Rattle.sq_spec.specs.Bodies as spec;
 use crate::body::{Body, FormBody};
 use crate::statement::{EnclosingMap, FormContext, Statement, statements};
 use indexmap::IndexMap;
-use sq_ast::sq_num::Elem;
-use sq_ast::{Body as Text, Param, Stmt, Variant};
-use sq_form_laws::sq_blocks::{Bindings, Env};
-use sq_form_laws::sq_forms::decls::{Scope, declare_all, params};
-use sq_form_laws::sq_forms::{
-    Found, Frame, Key, LocalArray, RoutesByTask, SettingsByName, Variants,
+use sq_ast::{Body as Text, Elem, Param, Stmt, Variant};
+use sq_form_laws::{
+    Bindings, Env, Found, Frame, Instance, Key, LocalArray, RoutesByTask, Scope, SettingsByName,
+    Variants, declare_all, params,
 };
-use sq_form_laws::sq_mapfile::Instance;
 use sq_text::Stop;
-use sq_work::sq_leaf::{Shape, compile_leaf};
-use sq_work::sq_rect::Dims;
+use sq_work::{Dims, Shape, compile_leaf};
 use sqlite_items::{Items, at};
 use std::alloc::{AllocError, Global};
 

@@ -10,6 +10,6 @@ mod statement;
 
 pub use body::{Body, FormBody};
 pub use resolved::{Resolved, resolve};
-pub use sq_form_laws;
-pub use sq_form_laws::{sq_blocks, sq_forms, sq_mapfile};
+pub use sq_form_laws::laws::{callers_come_first, forms_are_those_found};
+pub use sq_form_laws::{Argument, Form, Instance, is_written};
 pub use statement::{CallInstance, LoopKind, Statement};

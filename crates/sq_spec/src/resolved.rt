@@ -21,14 +21,12 @@ use crate::body::FormBody;
 use indexmap::IndexMap;
 use sq_ast::laws::given_programs_are_formed;
 use sq_ast::{Param, Program, VariantKind};
-use sq_form_laws::sq_forms::{
-    Form, Found, Key, Resolving, Use, Variants, entry_params, resolve_forms,
+use sq_form_laws::{
+    Form, Found, Instance, Key, Machine, Mapping, Resolving, Use, Variants, entry_params,
+    resolve_forms,
 };
-use sq_form_laws::sq_machfile::Machine;
-use sq_form_laws::sq_mapfile::{Instance, Mapping};
 use sq_text::{Name, Stop};
-use sq_work::sq_leaf::laws::leaf_variants_may_be_compiled;
-use sq_work::sq_types::Typed;
+use sq_work::{Typed, leaf_variants_may_be_compiled};
 use sqlite_items::Items;
 use std::alloc::{AllocError, Global};
 

@@ -14,17 +14,13 @@ ghost use Rattle.sq_form_laws.specs.Forms.Stmts as stmts;
 ghost use Rattle.sq_spec.specs.Statements as spec;
 
 use indexmap::IndexMap;
-use sq_ast::sq_num::Elem;
-use sq_ast::{ArgUse, Call, MapKind, Param, Range, Stmt};
-use sq_form_laws::sq_blocks::{Argument, Bindings, Env};
-use sq_form_laws::sq_forms::args::examine;
-use sq_form_laws::sq_forms::call::{flags, key_of, lengths};
-use sq_form_laws::sq_forms::ranges::{bind_iteration, bounds, times};
-use sq_form_laws::sq_forms::tally::{calls_in, plus};
-use sq_form_laws::sq_forms::{Callee, Found, Frame, Key, Known, callee_of, reduced_by};
+use sq_ast::{ArgUse, Call, Elem, MapKind, Param, Range, Stmt};
+use sq_form_laws::{
+    Argument, Bindings, Callee, Env, Found, Frame, Key, Known, bind_iteration, bounds, callee_of,
+    calls_in, examine, flags, key_of, lengths, plus, reduced_by, times,
+};
 use sq_text::{Name, Place, Stop};
-use sq_work::Reduction;
-use sq_work::sq_rect::Dims;
+use sq_work::{Dims, Reduction};
 use sqlite_items::{Items, at};
 use std::alloc::{AllocError, Global};
 use std::marker::Model;

@@ -3,5 +3,5 @@
 
 pub mod laws;
 
-pub use sq_forms::sq_mapfile;
-pub use sq_spec;
+pub use sq_forms::Instance;
+pub use sq_spec::{Body, FormBody, Resolved};

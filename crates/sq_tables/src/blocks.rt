@@ -8,8 +8,7 @@ ghost use Rattle.sq_term.specs.Placed.Seats.{firsts};
 ghost use Rattle.sq_term.specs.Terms as terms;
 
 use sq_num::width;
-use sq_spec::CallInstance;
-use sq_spec::sq_blocks::Argument;
+use sq_spec::{Argument, CallInstance};
 use sq_term::parts::{LeafView, Numbers};
 use sq_text::Span;
 use sqlite_items::at;

@@ -4,7 +4,7 @@ ghost use Rattle.std.specs.Prelude.{◌≡◌, IfOk, get_or};
 ghost use Rattle.sq_term.specs.Placed.declared.home.Home.TheVariants as home;
 ghost use Rattle.sq_term.specs.Placed.Tables as tables;
 
-use sq_spec::sq_blocks::Argument;
+use sq_spec::Argument;
 use sq_term::Home;
 use sqlite_items::{Items, at};
 use std::alloc::{AllocError, Global};

@@ -5,8 +5,7 @@ mod context;
 pub mod laws;
 
 pub use context::{Context, Lane, Move};
-pub use sq_placed::sq_spec::FormBody;
-pub use sq_placed::{Home, Homes};
+pub use sq_placed::{FormBody, Home, Homes};
 
 /// What contexts are made of.
 pub mod parts {

@@ -5,5 +5,5 @@ pub mod laws;
 mod reduction;
 
 pub use reduction::Reduction;
-pub use sq_leaf;
-pub use sq_leaf::{sq_rect, sq_types};
+pub use sq_leaf::laws::leaf_variants_may_be_compiled;
+pub use sq_leaf::{Dims, LeafCode, Shape, Typed, compile_leaf};

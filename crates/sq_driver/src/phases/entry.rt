@@ -25,9 +25,8 @@ use sq_ast::{Mode, Param};
 use sq_flat::Arrays;
 use sq_port::{Failed, Files, Sink};
 use sq_rect::Dims;
-use sq_spec::Resolved;
 use sq_spec::laws::entry_is_first;
-use sq_spec::sq_form_laws::laws::forms_are_those_found;
+use sq_spec::{Resolved, forms_are_those_found};
 use sq_text::{Arg, Args, Code, Fault, Phase};
 use std::alloc::{AllocError, Global};
 
