@@ -2,7 +2,7 @@
 use Rattle.std.proofs.Common.{◌≡◌, inl, inr, ℕ, ◌<◌, ◌≤◌, List, Some, None, Result, Ok, Err, refl, sym, ◌∙◌, ap, subst, arith}
 use Rattle.sq_port.specs.Ports.{Content}
 use Rattle.sq_text.specs.declared.code.Phase.{Phase}
-use Rattle.sq_text.specs.declared.code.Phase.TheVariants.{Program, Types, Machine, Mapping, Resolve, Race, Capacity, Order, Input}
+use Rattle.sq_text.specs.declared.code.Phase.TheVariants.{Program, Types, Machine, Mapping, Resolve, Race, Capacity, Plan, Cost, Order, Input}
 use Rattle.sq_text.specs.declared.fault.Fault.{Fault}
 use Rattle.sq_ast.specs.declared.program.Program.{Program as Tree}
 use Rattle.sq_ast.specs.Modes.{is_read}
@@ -176,6 +176,8 @@ module _ (laws : DemoLaws) (c : Content) (n : ℕ) where
   no_fault Resolve its h = no_resolve its h
   no_fault Race its h = no_race its h
   no_fault Capacity its h = no_lack its h
+  no_fault Plan its h = h
+  no_fault Cost its h = h
   no_fault Order its h = no_order its h
   no_fault Input its h = no_input its h
 

@@ -2,7 +2,7 @@
 use Rattle.std.proofs.Common.{◌≡◌, ◌⊎◌, inl, inr, ℕ, List, Option, Some, None, refl, ◌∙◌, subst}
 use Rattle.sq_port.specs.Ports.{Content}
 use Rattle.sq_text.specs.declared.code.Phase.{Phase}
-use Rattle.sq_text.specs.declared.code.Phase.TheVariants.{Program, Types, Machine, Mapping, Resolve, Race, Capacity, Order, Input}
+use Rattle.sq_text.specs.declared.code.Phase.TheVariants.{Program, Types, Machine, Mapping, Resolve, Race, Capacity, Plan, Cost, Order, Input}
 use Rattle.sq_words.specs.Words.{Command, demo_of}
 use Rattle.sq_demo_laws.specs.Laws.{DemoLaws}
 use Rattle.sq_driver.specs.declared.outside.status.Status.{Status}
@@ -23,6 +23,8 @@ no_file n Mapping name is = let none : None ≡ Some name = is in cc
 no_file n Resolve name is = let none : None ≡ Some name = is in cc
 no_file n Race name is = let none : None ≡ Some name = is in cc
 no_file n Capacity name is = let none : None ≡ Some name = is in cc
+no_file n Plan name is = let none : None ≡ Some name = is in cc
+no_file n Cost name is = let none : None ≡ Some name = is in cc
 no_file n Order name is = let none : None ≡ Some name = is in cc
 no_file n Input name is = let none : None ≡ Some name = is in cc
 

@@ -2,7 +2,7 @@
 use Rattle.std.proofs.Common.{◌≡◌, inl, inr, ⊎_elim, ℕ, ◌≤◌, Bool, true, false, List, [], ◌∷◌, take, Option, Some, None, Result, Ok, Err, refl, sym, ◌∙◌, ap, subst, arith, ℤ}
 use Rattle.sq_port.specs.Ports.{Content, Gains, Rose}
 use Rattle.sq_text.specs.declared.code.Phase.{Phase}
-use Rattle.sq_text.specs.declared.code.Phase.TheVariants.{Program, Types, Machine, Mapping, Resolve, Race, Capacity, Order, Input}
+use Rattle.sq_text.specs.declared.code.Phase.TheVariants.{Program, Types, Machine, Mapping, Resolve, Race, Capacity, Plan as PlanPhase, Cost, Order, Input}
 use Rattle.sq_leaf.specs.declared.trap.Trap.{Trap}
 use Rattle.sq_ir.specs.Events.{Event}
 use Rattle.sq_ir.specs.declared.plan.Plan.{Plan}
@@ -50,6 +50,8 @@ no_file n Mapping = refl
 no_file n Resolve = refl
 no_file n Race = refl
 no_file n Capacity = refl
+no_file n PlanPhase = refl
+no_file n Cost = refl
 no_file n Order = refl
 no_file n Input = refl
 

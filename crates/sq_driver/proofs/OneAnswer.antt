@@ -2,7 +2,7 @@
 use Rattle.std.proofs.Common.{◌≡◌, ◌⊎◌, inl, inr, ⊎_elim, ℕ, List, [], ◌∷◌, ◌++◌, Option, Some, None, refl, sym, ◌∙◌, ap, subst}
 use Rattle.sq_port.specs.Ports.{Content}
 use Rattle.sq_text.specs.declared.code.Phase.{Phase}
-use Rattle.sq_text.specs.declared.code.Phase.TheVariants.{Program, Types, Machine, Mapping, Resolve, Race, Capacity, Order, Input}
+use Rattle.sq_text.specs.declared.code.Phase.TheVariants.{Program, Types, Machine, Mapping, Resolve, Race, Capacity, Plan, Cost, Order, Input}
 use Rattle.sq_text.specs.declared.fault.Fault.{Fault}
 use Rattle.sq_words.specs.Words.{Role, program, mapping, machine, input, order, Command}
 use Rattle.sq_driver.specs.Phases.{phases, role_of, file_for, file_of, Inputs, own_inputs, text_or, inputs_of}
@@ -85,6 +85,8 @@ fault_there Mapping inputs its role is reads none = not_there inputs mapping rol
 fault_there Resolve inputs its role is reads none = no_name role reads
 fault_there Race inputs its role is reads none = no_name role reads
 fault_there Capacity inputs its role is reads none = no_name role reads
+fault_there Plan inputs its role is reads none = no_name role reads
+fault_there Cost inputs its role is reads none = no_name role reads
 fault_there Order inputs its role is reads none = not_there inputs order role is.0 reads is.1 none
 fault_there Input inputs its role is reads none = not_there inputs input role is.bytes reads is.there none
 

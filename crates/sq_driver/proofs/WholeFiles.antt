@@ -2,7 +2,7 @@
 use Rattle.std.proofs.Common.{◌≡◌, ◌⊎◌, inl, inr, ℕ, ◌<◌, ◌≤◌, List, length, Option, Some, None, Ok, Err, refl, sym, ◌∙◌, subst, arith}
 use Rattle.sq_port.specs.Ports.{Content}
 use Rattle.sq_text.specs.declared.code.Phase.{Phase}
-use Rattle.sq_text.specs.declared.code.Phase.TheVariants.{Program, Types, Machine, Mapping, Resolve, Race, Capacity, Order, Input}
+use Rattle.sq_text.specs.declared.code.Phase.TheVariants.{Program, Types, Machine, Mapping, Resolve, Race, Capacity, Plan, Cost, Order, Input}
 use Rattle.sq_text.specs.declared.fault.Fault.{Fault}
 use Rattle.sq_text.specs.declared.fault.Stop.{Stop}
 use Rattle.sq_text.specs.declared.fault.Stop.TheVariants.{Refused as Refusal}
@@ -24,6 +24,8 @@ not_both Types text fits long = long
 not_both Resolve text fits long = long
 not_both Race text fits long = long
 not_both Capacity text fits long = long
+not_both Plan text fits long = omega (arith, fits, long)
+not_both Cost text fits long = omega (arith, fits, long)
 not_both Order text fits long = long
 not_both Input text fits long = long
 

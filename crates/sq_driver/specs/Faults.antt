@@ -1,6 +1,6 @@
 -- The first fault of each phase, by what the files of the words hold.
 use Rattle.sq_text.specs.declared.code.Phase.{Phase}
-use Rattle.sq_text.specs.declared.code.Phase.TheVariants.{Program, Types, Machine, Mapping, Resolve, Race, Capacity, Order, Input}
+use Rattle.sq_text.specs.declared.code.Phase.TheVariants.{Program, Types, Machine, Mapping, Resolve, Race, Capacity, Plan, Cost, Order, Input}
 use Rattle.sq_text.specs.declared.fault.Fault.{Fault}
 use Rattle.sq_ast.specs.declared.program.Program.{Program as Tree}
 use Rattle.sq_words.specs.Words.{program}
@@ -23,7 +23,7 @@ pub record IsFirstOfTypes (inputs : Inputs) (its : Fault) : Type 0 where
   pub program_is : Holds IsProgramText (inputs program) tree
   pub first : IsFirstTypeFault tree its
 
--- the phase has this fault before all others
+-- the phase has this fault before all others; no command has the phases of plan files and costs
 abbrev pub IsFirstOf : Phase → Inputs → Fault → Type 0
 IsFirstOf Program inputs its = IsFirstOfProgram inputs its
 IsFirstOf Types inputs its = IsFirstOfTypes inputs its
@@ -32,5 +32,7 @@ IsFirstOf Mapping inputs its = IsFirstOfMapping inputs its
 IsFirstOf Resolve inputs its = IsFirstOfResolve inputs its
 IsFirstOf Race inputs its = IsFirstOfRace inputs its
 IsFirstOf Capacity inputs its = IsFirstOfCapacity inputs its
+IsFirstOf Plan inputs its = ⊥
+IsFirstOf Cost inputs its = ⊥
 IsFirstOf Order inputs its = IsFirstOfOrder inputs its
 IsFirstOf Input inputs its = IsFirstOfInput inputs its

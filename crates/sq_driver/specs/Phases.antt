@@ -2,7 +2,7 @@
 use Rattle.std.specs.Prelude.{◌≡◌, ◌⊎◌, ℕ, List, [], ◌∷◌, Bool, true, false, ◌&&◌, Option, Some, None}
 use Rattle.sq_port.specs.Ports.{Content}
 use Rattle.sq_text.specs.declared.code.Phase.{Phase}
-use Rattle.sq_text.specs.declared.code.Phase.TheVariants.{Program, Types, Machine, Mapping, Resolve, Race, Capacity, Order, Input}
+use Rattle.sq_text.specs.declared.code.Phase.TheVariants.{Program, Types, Machine, Mapping, Resolve, Race, Capacity, Plan as PlanPhase, Cost, Order, Input}
 use Rattle.sq_words.specs.declared.words.Kind.{Kind}
 use Rattle.sq_words.specs.declared.words.Kind.TheVariants.{Check, Fmt, Plan, Eval, Run, Demo}
 use Rattle.sq_words.specs.Words.{Role, program, mapping, machine, input, order, Way, first, last, seed, list, Files, no_files, named, Command}
@@ -29,6 +29,8 @@ role_of Types = None
 role_of Resolve = None
 role_of Race = None
 role_of Capacity = None
+role_of PlanPhase = None
+role_of Cost = None
 
 -- whether a command opens the bank
 abbrev pub opens : Kind → Bool
@@ -49,6 +51,8 @@ is_late Mapping = false
 is_late Resolve = false
 is_late Race = false
 is_late Capacity = false
+is_late PlanPhase = false
+is_late Cost = false
 is_late Order = false
 
 abbrev pub is_open_at : Kind → Phase → Bool

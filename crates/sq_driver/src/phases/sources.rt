@@ -1,10 +1,10 @@
 //! The program, the machine and the mapping of a command, read in the order of their phases.
-ghost use Rattle.std.specs.Prelude.{◌≡◌, ℕ, List, None, Option, IfOk, IfErr, OnOk};
+ghost use Rattle.std.specs.Prelude.{◌≡◌, ℕ, List, None, Some, Option, IfOk, IfErr, OnOk};
 ghost use Rattle.sq_port.specs.Ports.{Content};
 ghost use Rattle.sq_text.specs.declared.fault.Fault.{Fault as SpecFault};
 ghost use Rattle.sq_ast.specs.Given.{IsGiven};
 ghost use Rattle.sq_types.specs.Sites.{TypeFault};
-ghost use Rattle.sq_lexer.specs.Faults.{ReadsTokens};
+ghost use Rattle.sq_lexer.specs.Faults.{file_limit, most_bytes};
 ghost use Rattle.sq_machfile.specs.Machines.{WithinLimits};
 ghost use Rattle.sq_mapfile.specs.Sound.{Sound};
 ghost use Rattle.sq_forms.specs.Forms.{AreForms, IsFirstMet};
@@ -159,7 +159,7 @@ fn read_fitting<'a, F: Files>(
     name: &'a str,
     phase: Phase,
 ) -> Result<Bytes, End<'a>>
-    requires { ReadsTokens phase }
+    requires { file_limit phase ≡ Some most_bytes }
     ensures content { F.content files.new ≡ F.content files.old }
     ensures told { ReadsFitting phase (F.content files.old) name.now result }
     ensures cause { FileCauses (F.faults files.old) (F.faults files.new) (F.misses files.old) (F.misses files.new)
