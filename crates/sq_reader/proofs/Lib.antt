@@ -16,3 +16,4 @@ pub mod Runs
 pub mod Ready
 pub mod Places
 pub mod Levels
+pub mod LeavesAlone

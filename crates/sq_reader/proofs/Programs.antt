@@ -335,7 +335,7 @@ module _ (most d left : ℕ) (eq : left + d ≡ most) where
       (λ w l le2. fixed (c.Sign g.Path) tt (omega arith) _ l (omega arith)
       (λ q u le3. gives_more (variant left w u) (λ v a b h. make_task h) (variant_reads w n u K (omega arith)))))
 
-  task_reads : (n : ℕ) (i : List Symbol) (K : List Owed) → length i ≤ suc n
+  pub task_reads : (n : ℕ) (i : List Symbol) (K : List Owed) → length i ≤ suc n
       → Reading n most (One grammar.Task d ∷ K) K (λ v a b. Derives (grammar.One grammar.Task d v) a b) i (task left i)
   unfolding task task_named
   task_reads n [] K le = record { is = refl }

@@ -663,6 +663,18 @@ task_named n = do
 unfoldable pub task : ℕ → Parser Variant
 task n = λ i. if sees (c.Key k.Void) i then (take_token >> task_named n) i else task_named n i
 
+-- a leaf alone, from the word `task` on
+unfoldable pub leaf_named : ℕ → Parser Variant
+leaf_named n = do
+  expect (c.Key k.Task)
+  w ← expect_word
+  expect (c.Sign g.Path)
+  expect (c.Key k.Leaf)
+  leaf_task n w
+
+unfoldable pub leaf : ℕ → Parser Variant
+leaf n = λ i. if sees (c.Key k.Void) i then (take_token >> leaf_named n) i else leaf_named n i
+
 abbrev pub begins_task : Class → Bool
 begins_task (c.Key k.Void) = true
 begins_task (c.Key k.Task) = true

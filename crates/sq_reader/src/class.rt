@@ -56,6 +56,7 @@ fn keyword_of(word: &[u8]) -> Option<Keyword>
     look_up(word, &keywords)
 }
 
+/// What the grammar sees of a token.
 pub fn class_of(kind: &Kind) -> Class
     ensures { result ≡ spec.class_of kind.now }
 {

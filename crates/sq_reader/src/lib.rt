@@ -13,6 +13,8 @@ mod stmt;
 mod tables;
 mod tokens;
 
+pub use class::class_of;
 pub use error::ParseError;
-pub use program::read_program;
+pub use program::{read_leaf, read_program};
+pub use tables::{elem_of, mode_of, reduction_of};
 pub use tokens::Tokens;

@@ -476,6 +476,33 @@ fn task(alloc: Global, tokens: &mut Tokens<'_>, depth: usize) -> Result<Variant,
     task_named(alloc, tokens, depth)
 }
 
+// From the word `task` on.
+#[tactic(auto, unfolding(crate::specs::Reading::leaf_named))]
+fn leaf_named(alloc: Global, tokens: &mut Tokens<'_>, depth: usize) -> Result<Variant, ParseError>
+    ensures { Reads (spec.leaf_named depth (symbols tokens.old)) result tokens.new }
+{
+    tokens.expect(Class::Key(Keyword::Task))?;
+    let task = tokens.word(alloc)?;
+    tokens.expect(Class::Sign(Sign::Path))?;
+    tokens.expect(Class::Key(Keyword::Leaf))?;
+    leaf_task(alloc, tokens, depth, task)
+}
+
+/// A leaf variant, with so many levels of nesting at most.
+#[tactic(auto, unfolding(crate::specs::Reading::leaf))]
+pub fn read_leaf(
+    alloc: Global,
+    tokens: &mut Tokens<'_>,
+    depth: usize,
+) -> Result<Variant, ParseError>
+    ensures { Reads (spec.leaf depth (symbols tokens.old)) result tokens.new }
+{
+    if tokens.sees(Class::Key(Keyword::Void)) {
+        tokens.take();
+    }
+    leaf_named(alloc, tokens, depth)
+}
+
 /// A variant of a task.
 struct TaskVariant;
 

@@ -96,7 +96,8 @@ pub fn start_of(constant: bool, class: Class) -> Start
     }
 }
 
-fn mode_of(class: Class) -> Option<Mode>
+/// The mode that the token is.
+pub fn mode_of(class: Class) -> Option<Mode>
     ensures { result ≡ grammar.mode_of class }
 {
     match class {
@@ -107,7 +108,8 @@ fn mode_of(class: Class) -> Option<Mode>
     }
 }
 
-fn elem_of(class: Class) -> Option<Elem>
+/// The element type that the token is.
+pub fn elem_of(class: Class) -> Option<Elem>
     ensures { result ≡ grammar.elem_of class }
 {
     match class {
@@ -129,7 +131,8 @@ pub fn map_of(class: Class) -> Option<MapKind>
     }
 }
 
-fn reduction_of(class: Class) -> Option<RedOp>
+/// The operator that the token is.
+pub fn reduction_of(class: Class) -> Option<RedOp>
     ensures { result ≡ grammar.reduction_of class }
 {
     match class {
