@@ -32,6 +32,9 @@ pub data Matches : Pattern → Kind → Type 0 where
   blocked : Matches s.Blocked (k.Word (codes "blocked"))
   inner : Matches s.Inner (k.Word (codes "inner"))
   leaf : Matches s.Leaf (k.Word (codes "leaf"))
+  cost : Matches s.Cost (k.Word (codes "cost"))
+  row : Matches s.Row (k.Word (codes "row"))
+  byte : Matches s.Byte (k.Word (codes "byte"))
   a_word : {name : List ℕ} → Matches s.AnyWord (k.Word name)
   a_number : {n : ℕ} → Matches s.AnyNumber (k.Number (pos n))
   exactly : (n : ℕ) → Matches (s.Exactly n) (k.Number (pos n))
@@ -86,6 +89,9 @@ matching s.Cyclic kind e = of_word s.Cyclic (codes "cyclic") cyclic kind e
 matching s.Blocked kind e = of_word s.Blocked (codes "blocked") blocked kind e
 matching s.Inner kind e = of_word s.Inner (codes "inner") inner kind e
 matching s.Leaf kind e = of_word s.Leaf (codes "leaf") leaf kind e
+matching s.Cost kind e = of_word s.Cost (codes "cost") cost kind e
+matching s.Row kind e = of_word s.Row (codes "row") row kind e
+matching s.Byte kind e = of_word s.Byte (codes "byte") byte kind e
 matching s.AnyWord kind e = of_any_word kind e
 matching s.AnyNumber kind e = of_any_number kind e
 matching (s.Exactly value) kind e = of_exactly value kind e

@@ -5,7 +5,7 @@ ghost use Rattle.sq_patterns.specs.Patterns as spec;
 
 use sq_lexer::{Kind, Sign};
 
-/// The tokens that grammars name. Those up to `Leaf` are words, and `Exactly` is any number token of that value.
+/// The tokens that grammars name. Those up to `Byte` are words, and `Exactly` is any number token of that value.
 #[derive(Clone, Copy, Debug)]
 pub enum Pattern {
     Machine,
@@ -24,6 +24,9 @@ pub enum Pattern {
     Blocked,
     Inner,
     Leaf,
+    Cost,
+    Row,
+    Byte,
     AnyWord,
     AnyNumber,
     Exactly(u32),
@@ -61,6 +64,9 @@ pub fn fits(pattern: Pattern, kind: &Kind) -> bool
         Pattern::Blocked => is_word(kind, b"blocked"),
         Pattern::Inner => is_word(kind, b"inner"),
         Pattern::Leaf => is_word(kind, b"leaf"),
+        Pattern::Cost => is_word(kind, b"cost"),
+        Pattern::Row => is_word(kind, b"row"),
+        Pattern::Byte => is_word(kind, b"byte"),
         Pattern::AnyWord => matches!(kind, Kind::Word(_)),
         Pattern::AnyNumber => matches!(kind, Kind::Number(number) if *number >= 0),
         Pattern::Exactly(value) => matches!(kind, Kind::Number(number) if *number == value as i64),
