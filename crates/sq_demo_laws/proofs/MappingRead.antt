@@ -29,7 +29,7 @@ use Rattle.sq_mapfile.specs.Names.{of_each, instance_of, level_of}
 use Rattle.sq_mapfile.specs.Required.{Required, required_by, tasks_of, tasks_step, each_once, with_tunable, tunables_of, sizes_of}
 use Rattle.sq_mapfile.specs.Faults.{Rule, Scope, scope, head_rules, item_rules, no_instance, entry_skip, size_missing, size_rules, level_at, name_rules, NameFault}
 use Rattle.sq_mapfile.specs.Cycles.{CallText, Calls, Leads, here, further, CycleFault, calls_of}
-use Rattle.sq_mapfile.specs.Grammar.{IsText, a_mapping, first_size, next_size, no_more_sizes, one_more_instance, no_instance as none_more, an_instance, inner, leaf, an_item, no_item, a_tunable, a_call, one, plain}
+use Rattle.sq_mapfile.specs.Grammar.{IsText, a_mapping, first_size, next_size, no_more_sizes, one_more_instance, no_instance as none_more, an_instance, inner, leaf, an_item, no_item, no_other, a_tunable, a_call, one, plain}
 use Rattle.sq_mapfile.specs.Mappings.{Resolves, Writes, StandsFor, BreaksRule, MappingFault}
 use Rattle.sq_mapfile.specs.Sound.{Sound}
 use Rattle.sq_mapfile.proofs.Texts.{mapping_format}
@@ -51,11 +51,11 @@ mapping_derived = record {
   text = a_mapping {version = First}
       (first_size (next_size (next_size (no_more_sizes))))
       (one_more_instance (an_instance inner
-      (an_item (a_tunable (one plain))
-      (an_item (a_tunable (one plain)) (an_item (a_tunable (one plain)) (an_item (a_call) (no_item))))))
+      (an_item (a_tunable (one plain) no_other)
+      (an_item (a_tunable (one plain) no_other) (an_item (a_tunable (one plain) no_other) (an_item (a_call) (no_item))))))
       (one_more_instance (an_instance inner
-      (an_item (a_tunable (one plain))
-      (an_item (a_tunable (one plain)) (an_item (a_tunable (one plain)) (an_item (a_call) (no_item))))))
+      (an_item (a_tunable (one plain) no_other)
+      (an_item (a_tunable (one plain) no_other) (an_item (a_tunable (one plain) no_other) (an_item (a_call) (no_item))))))
       (one_more_instance (an_instance leaf (no_item)) (none_more))));
 }
 

@@ -16,7 +16,7 @@ use Rattle.sq_mapfile.specs.declared.text.InstanceText.{InstanceText}
 use Rattle.sq_mapfile.specs.declared.text.ItemText.{ItemText}
 use Rattle.sq_mapfile.specs.declared.text.ItemText.TheVariants.{Tunable, Call}
 use Rattle.sq_mapfile.specs.declared.text.MappingText.{MappingText}
-use Rattle.sq_mapfile.specs.Grammar.{size, instance, mapping}
+use Rattle.sq_mapfile.specs.Grammar.{size, values, instance, mapping}
 use Rattle.sq_demo_laws.specs.Texts.{at}
 
 -- ---- the machine
@@ -105,7 +105,7 @@ demo_mapped = record {
 
 -- as it is written
 abbrev pub tunable_at : (line col : ℕ) → List ℕ → ℕ → ItemText
-tunable_at line col name n = Tunable (word (at line col) name) (One (pos n))
+tunable_at line col name n = Tunable (word (at line col) name) (values (One (pos n)) [])
 
 abbrev pub top_text : InstanceText
 top_text =

@@ -35,7 +35,7 @@ call_text i callee name = record { caller = i; callee = callee; name = name }
 origin : (instances : List InstanceText) (caller : ℕ) (items : List ItemText) (k : ℕ) (rest : List ItemText) (later : List CallText) (j : ℕ) (c : CallText)
     → slice_get (items_calls instances caller items k rest later) j ≡ Some c → Origin instances caller rest later c
 origin instances caller items k [] later j c h = of_later j h
-origin instances caller items k (Tunable name setting ∷ rest) later j c h = one_on (Tunable name setting) (origin instances caller items (suc k) rest later j c h)
+origin instances caller items k (Tunable name values ∷ rest) later j c h = one_on (Tunable name values) (origin instances caller items (suc k) rest later j c h)
 origin instances caller items k (Spread word rule ∷ rest) later j c h = one_on (Spread word rule) (origin instances caller items (suc k) rest later j c h)
 origin instances caller items k (Call task name ∷ rest) later j c h =
     go (λ j h. one_on (Call task name) (origin instances caller items (suc k) rest later j c h)) (stands_before (call_index items task.name) k) (index_of instances name.name) refl j h

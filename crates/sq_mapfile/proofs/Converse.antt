@@ -7,7 +7,7 @@ use Rattle.sq_text.specs.declared.word.Word.{Word}
 use Rattle.sq_ast.specs.declared.program.VariantKind.{VariantKind}
 use Rattle.sq_ast.specs.declared.program.Variant.{Variant}
 use Rattle.sq_machfile.specs.declared.level.Level.{Level}
-use Rattle.sq_mapfile.specs.declared.mapping.Setting.{Setting}
+use Rattle.sq_mapfile.specs.declared.text.Alternatives.{Alternatives}
 use Rattle.sq_mapfile.specs.declared.mapping.Tuning.{Tuning}
 use Rattle.sq_mapfile.specs.declared.mapping.Route.{Route}
 use Rattle.sq_mapfile.specs.declared.mapping.Instance.{Instance}
@@ -190,21 +190,21 @@ route_at {instances} (a_route {task = t} {name = n} {i = j} {routes = routes} e 
     named _ = none
 route_at (a_route e p) (suc i) task name at = let r = route_at p i task name at in record { index = suc r.index; route = r.route; there = r.there; task_is = r.task_is; to = r.to }
 
-pub record TuningAt (items : List ItemText) (name : Word) (setting : Setting) : Type 0 where
+pub record TuningAt (items : List ItemText) (name : Word) (values : Alternatives) : Type 0 where
   pub index : ℕ
-  pub there : slice_get (tunings_of items) index ≡ Some (record { name = name.name; setting = setting })
+  pub there : slice_get (tunings_of items) index ≡ Some (record { name = name.name; setting = values.first })
 
-pub tuning_at : (items : List ItemText) (i : ℕ) (name : Word) (setting : Setting) → slice_get items i ≡ Some (Tunable name setting) → TuningAt items name setting
+pub tuning_at : (items : List ItemText) (i : ℕ) (name : Word) (values : Alternatives) → slice_get items i ≡ Some (Tunable name values) → TuningAt items name values
 tuning_at [] i name setting at = absurd (cc)
-tuning_at (Tunable m x ∷ rest) zero name setting at =
-    let e : Tunable m x ≡ Tunable name setting = cc in
+tuning_at (Tunable m x ∷ rest) zero name values at =
+    let e : Tunable m x ≡ Tunable name values = cc in
     record { index = 0; there = ap tuning e }
   where
     tuning : ItemText → Option Tuning
-    tuning (Tunable m x) = Some (record { name = m.name; setting = x })
+    tuning (Tunable m x) = Some (record { name = m.name; setting = x.first })
     tuning _ = None
-tuning_at (Call t m ∷ rest) zero name setting at = absurd (cc)
-tuning_at (Spread w r ∷ rest) zero name setting at = absurd (cc)
-tuning_at (Tunable m x ∷ rest) (suc i) name setting at = let t = tuning_at rest i name setting at in record { index = suc t.index; there = t.there }
-tuning_at (Call t m ∷ rest) (suc i) name setting at = let t = tuning_at rest i name setting at in record { index = t.index; there = t.there }
-tuning_at (Spread w r ∷ rest) (suc i) name setting at = let t = tuning_at rest i name setting at in record { index = t.index; there = t.there }
+tuning_at (Call t m ∷ rest) zero name values at = absurd (cc)
+tuning_at (Spread w r ∷ rest) zero name values at = absurd (cc)
+tuning_at (Tunable m x ∷ rest) (suc i) name values at = let t = tuning_at rest i name values at in record { index = suc t.index; there = t.there }
+tuning_at (Call t m ∷ rest) (suc i) name values at = let t = tuning_at rest i name values at in record { index = t.index; there = t.there }
+tuning_at (Spread w r ∷ rest) (suc i) name values at = let t = tuning_at rest i name values at in record { index = t.index; there = t.there }

@@ -28,11 +28,14 @@ use Rattle.sq_lexer.specs.Tokens.{token}
 use Rattle.sq_lexer.specs.declared.token.Kind.TheVariants as k
 use Rattle.sq_mapfile.specs.declared.text.Version.{Version}
 use Rattle.sq_mapfile.specs.declared.text.Version.TheVariants.{First, Second}
-use Rattle.sq_mapfile.specs.Grammar.{Derives, IsText, number_of}
+use Rattle.sq_mapfile.specs.declared.text.Tunables.{Tunables}
+use Rattle.sq_mapfile.specs.declared.text.Tunables.TheVariants.{Fixed, Varied}
+use Rattle.sq_mapfile.specs.declared.text.Alternatives.{Alternatives}
+use Rattle.sq_mapfile.specs.Grammar.{Derives, IsTextOf, number_of, values}
 use Rattle.sq_mapfile.specs.Grammar as grammar
 use Rattle.sq_mapfile.specs.Reading.{size_patterns, next_size_patterns, size_at, minus_patterns, tunable_patterns, call_patterns, spread_patterns, instance_patterns, level_patterns, head_patterns, sizes_end, instance_of}
 use Rattle.sq_mapfile.specs.Reading as reading
-use Rattle.sq_mapfile.proofs.Points.{Point, Sizes, MoreSizes, AValue, Values, MoreValues, ASetting, ARule, AnItem, Items, AKind, Instances, AVersion, tunable_owes, call_owes, spread_owes, instance_owes, version_owes, ways, start}
+use Rattle.sq_mapfile.proofs.Points.{Point, Sizes, MoreSizes, AValue, Values, MoreValues, ASetting, Others, ARule, AnItem, Items, AKind, Instances, AVersion, setting_ends, tunable_owes, call_owes, spread_owes, instance_owes, version_owes, ways, start}
 
 -- ---- sizes
 
@@ -127,13 +130,52 @@ setting_reads n i K le = choice_reads (At ASetting ∷ K) (Want (s.Sign g.Bracke
     (λ us m few3 closing. given (Many xs) m few3 (many_front opening d closing)))))
     (phrase (reading.value i) _ (value_reads n i K le) (λ x j few d. given (One x) j few (grammar.one d)))
 
+-- ---- alternatives
+
+another_front : {i ts j l m : List Token} {x : Setting} {rest : List Setting} → Front (s.Sign g.Bar ∷ []) i ts j → Derives (grammar.ASetting x) j l → Derives (grammar.Others Varied rest) l m
+    → Derives (grammar.Others Varied (x ∷ rest)) i m
+another_front (next (a_sign _) none) d more = grammar.another d more
+
+abbrev AreOthers : List Setting → List Token → List Token → Type 0
+AreOthers xs i j = Derives (grammar.Others Varied xs) i j
+
+next_setting_reads : (n : ℕ) (i : List Token) (K : List (Owed Point)) → length i ≤ suc n
+    → Reading ways n (Want (s.Sign g.Bar) ∷ At ASetting ∷ K) K (λ x j. (rest : List Setting) (l : List Token) → AreOthers rest j l → AreOthers (x ∷ rest) i l) i (reading.next_setting i)
+next_setting_reads n i K le = phrase (all (s.Sign g.Bar ∷ []) i) _ (patterns_read (s.Sign g.Bar ∷ []) n i (At ASetting ∷ K) refl (omega arith))
+    (λ ts j few front. gives_more (reading.setting j) (λ x l d rest m more. another_front front d more) (setting_reads n j K (omega arith)))
+
+more_settings_read : (n : ℕ) (i : List Token) (K : List (Owed Point)) → length i ≤ n
+    → Reading ways n (At Others ∷ K) (Want (s.Sign g.Semi) ∷ K) (λ xs j. AreOthers xs i j) i (reading.more_settings i)
+unfolding reading.more_settings
+more_settings_read n i K le = weaken (length i) (until (s.Sign g.Semi) reading.next_setting (length i) [] i) le
+    (gives_more (until (s.Sign g.Semi) reading.next_setting (length i) [] i) (λ every j added. subst (λ every. AreOthers every i j) (sym added.1) added.2)
+    (until_reads AreOthers (λ i. grammar.no_other) (s.Sign g.Semi) reading.next_setting (At Others ∷ K) (Want (s.Sign g.Semi) ∷ K)
+    (Want (s.Sign g.Bar) ∷ At ASetting ∷ At Others ∷ K) (λ t. refl) refl refl (λ n i le. next_setting_reads n i (At Others ∷ K) le) (length i) [] i (omega arith)))
+
+others_read : (tunables : Tunables) (n : ℕ) (i : List Token) (K : List (Owed Point)) → length i ≤ n
+    → Reading ways n (setting_ends tunables ∷ K) (Want (s.Sign g.Semi) ∷ K) (λ xs j. Derives (grammar.Others tunables xs) i j) i (reading.others tunables i)
+others_read Fixed n i K le = given [] i le grammar.no_other
+others_read Varied n i K le = more_settings_read n i K le
+
+-- the first setting, and then the others
+pub record AreAlternatives (tunables : Tunables) (i : List Token) (x : Alternatives) (j : List Token) : Type 0 where
+  pub between : List Token
+  pub first : Derives (grammar.ASetting x.first) i between
+  pub others : Derives (grammar.Others tunables x.others) between j
+
+alternatives_read : (tunables : Tunables) (n : ℕ) (i : List Token) (K : List (Owed Point)) → length i ≤ suc n
+    → Reading ways n (At ASetting ∷ setting_ends tunables ∷ K) (Want (s.Sign g.Semi) ∷ K) (AreAlternatives tunables i) i (reading.alternatives tunables i)
+alternatives_read tunables n i K le = phrase (reading.setting i) _ (setting_reads n i (setting_ends tunables ∷ K) le)
+    (λ x j few d. phrase (reading.others tunables j) _ (others_read tunables n j K few)
+    (λ xs l few2 more. given (values x xs) l few2 (record { between = j; first = d; others = more })))
+
 -- ---- items
 
-tunable_front : {version : Version} {i ts j l us m : List Token} {x : Setting} → Front tunable_patterns i ts j → Derives (grammar.ASetting x) j l → Front (s.Sign g.Semi ∷ []) l us m
-    → Derives (grammar.AnItem version (Tunable (word_in (slice_get ts 1)) x)) i m
-tunable_front (next tunable (next a_word (next (a_sign _) none))) d (next (a_sign _) none) = grammar.a_tunable d
+tunable_front : {tunables : Tunables} {version : Version} {i ts j l us m : List Token} {x : Alternatives} → Front tunable_patterns i ts j → AreAlternatives tunables j x l → Front (s.Sign g.Semi ∷ []) l us m
+    → Derives (grammar.AnItem tunables version (Tunable (word_in (slice_get ts 1)) x)) i m
+tunable_front (next tunable (next a_word (next (a_sign _) none))) d (next (a_sign _) none) = grammar.a_tunable d.first d.others
 
-call_front : {version : Version} {i ts j : List Token} → Front call_patterns i ts j → Derives (grammar.AnItem version (Call (word_in (slice_get ts 1)) (word_in (slice_get ts 3)))) i j
+call_front : {tunables : Tunables} {version : Version} {i ts j : List Token} → Front call_patterns i ts j → Derives (grammar.AnItem tunables version (Call (word_in (slice_get ts 1)) (word_in (slice_get ts 3)))) i j
 call_front (next call (next a_word (next (a_sign _) (next a_word (next (a_sign _) none))))) = grammar.a_call
 
 cyclic_front : {i ts j : List Token} → Front (s.Cyclic ∷ []) i ts j → Derives (grammar.ARule spreading.Cyclic) i j
@@ -147,53 +189,55 @@ rule_reads n i K le = choice_reads (At ARule ∷ K) (Want s.Cyclic ∷ K) (Want 
     (phrase (all (s.Cyclic ∷ []) i) _ (patterns_read (s.Cyclic ∷ []) n i K refl (omega arith)) (λ ts j few front. given spreading.Cyclic j few (cyclic_front front)))
     (phrase (all (s.Blocked ∷ []) i) _ (patterns_read (s.Blocked ∷ []) n i K refl (omega arith)) (λ ts j few front. given spreading.Blocked j few (blocked_front front)))
 
-spread_front : {i ts j l us m : List Token} {x : SpreadRule} → Front spread_patterns i ts j → Derives (grammar.ARule x) j l → Front (s.Sign g.Semi ∷ []) l us m
-    → Derives (grammar.AnItem Second (Spread (word_in (slice_get ts 0)) x)) i m
+spread_front : {tunables : Tunables} {i ts j l us m : List Token} {x : SpreadRule} → Front spread_patterns i ts j → Derives (grammar.ARule x) j l → Front (s.Sign g.Semi ∷ []) l us m
+    → Derives (grammar.AnItem tunables Second (Spread (word_in (slice_get ts 0)) x)) i m
 spread_front (next spread (next (a_sign _) none)) d (next (a_sign _) none) = grammar.a_spread d
 
-spread_reads : (n : ℕ) (i : List Token) (K : List (Owed Point)) → length i ≤ suc n
-    → Reading ways n (Want s.Spread ∷ (spread_owes ++ K)) K (λ x j. Derives (grammar.AnItem Second x) i j) i (reading.spread i)
-spread_reads n i K le = phrase (all spread_patterns i) _ (patterns_read spread_patterns n i (At ARule ∷ Want (s.Sign g.Semi) ∷ K) refl (omega arith))
+spread_reads : (tunables : Tunables) (n : ℕ) (i : List Token) (K : List (Owed Point)) → length i ≤ suc n
+    → Reading ways n (Want s.Spread ∷ (spread_owes ++ K)) K (λ x j. Derives (grammar.AnItem tunables Second x) i j) i (reading.spread i)
+spread_reads tunables n i K le = phrase (all spread_patterns i) _ (patterns_read spread_patterns n i (At ARule ∷ Want (s.Sign g.Semi) ∷ K) refl (omega arith))
     (λ ts j few front. phrase (reading.rule j) _ (rule_reads n j (Want (s.Sign g.Semi) ∷ K) (omega arith))
     (λ x l few2 d. phrase (all (s.Sign g.Semi ∷ []) l) _ (patterns_read (s.Sign g.Semi ∷ []) n l K refl (omega arith))
     (λ us m few3 semi. given (Spread (word_in (slice_get ts 0)) x) m few3 (spread_front front d semi))))
 
-plain_reads : (version : Version) (n : ℕ) (i : List Token) (K : List (Owed Point)) → length i ≤ suc n
-    → Reading ways n (At (AnItem First) ∷ K) K (λ x j. Derives (grammar.AnItem version x) i j) i (reading.plain_item i)
-plain_reads version n i K le = choice_reads (At (AnItem First) ∷ K) (Want s.Tunable ∷ (tunable_owes ++ K)) (Want s.Call ∷ (call_owes ++ K)) s.Tunable reading.tunable reading.call i (λ t. refl) refl
-    (phrase (all tunable_patterns i) _ (patterns_read tunable_patterns n i (At ASetting ∷ Want (s.Sign g.Semi) ∷ K) refl (omega arith))
-    (λ ts j few front. phrase (reading.setting j) _ (setting_reads n j (Want (s.Sign g.Semi) ∷ K) (omega arith))
+plain_reads : (tunables : Tunables) (version : Version) (n : ℕ) (i : List Token) (K : List (Owed Point)) → length i ≤ suc n
+    → Reading ways n (At (AnItem tunables First) ∷ K) K (λ x j. Derives (grammar.AnItem tunables version x) i j) i (reading.plain_item tunables i)
+plain_reads tunables version n i K le =
+    choice_reads (At (AnItem tunables First) ∷ K) (Want s.Tunable ∷ (tunable_owes tunables ++ K)) (Want s.Call ∷ (call_owes ++ K)) s.Tunable (reading.tunable tunables) reading.call i (λ t. refl) refl
+    (phrase (all tunable_patterns i) _ (patterns_read tunable_patterns n i (At ASetting ∷ setting_ends tunables ∷ K) refl (omega arith))
+    (λ ts j few front. phrase (reading.alternatives tunables j) _ (alternatives_read tunables n j K (omega arith))
     (λ x l few2 d. phrase (all (s.Sign g.Semi ∷ []) l) _ (patterns_read (s.Sign g.Semi ∷ []) n l K refl (omega arith))
     (λ us m few3 semi. given (Tunable (word_in (slice_get ts 1)) x) m few3 (tunable_front front d semi)))))
     (phrase (all call_patterns i) _ (patterns_read call_patterns n i K refl (omega arith))
     (λ ts j few front. given (Call (word_in (slice_get ts 1)) (word_in (slice_get ts 3))) j few (call_front front)))
 
-item_reads : (version : Version) (n : ℕ) (i : List Token) (K : List (Owed Point)) → length i ≤ suc n
-    → Reading ways n (At (AnItem version) ∷ K) K (λ x j. Derives (grammar.AnItem version x) i j) i (reading.item version i)
-item_reads First n i K le = plain_reads First n i K le
-item_reads Second n i K le = choice_reads (At (AnItem Second) ∷ K) (Want s.Spread ∷ (spread_owes ++ K)) (At (AnItem First) ∷ K) s.Spread reading.spread reading.plain_item i (λ t. refl) refl
-    (spread_reads n i K le) (plain_reads Second n i K le)
+item_reads : (tunables : Tunables) (version : Version) (n : ℕ) (i : List Token) (K : List (Owed Point)) → length i ≤ suc n
+    → Reading ways n (At (AnItem tunables version) ∷ K) K (λ x j. Derives (grammar.AnItem tunables version x) i j) i (reading.item tunables version i)
+item_reads tunables First n i K le = plain_reads tunables First n i K le
+item_reads tunables Second n i K le =
+    choice_reads (At (AnItem tunables Second) ∷ K) (Want s.Spread ∷ (spread_owes ++ K)) (At (AnItem tunables First) ∷ K) s.Spread reading.spread (reading.plain_item tunables) i (λ t. refl) refl
+    (spread_reads tunables n i K le) (plain_reads tunables Second n i K le)
 
-abbrev AreItems : Version → List ItemText → List Token → List Token → Type 0
-AreItems version xs i j = Derives (grammar.Items version xs) i j
+abbrev AreItems : Tunables → Version → List ItemText → List Token → List Token → Type 0
+AreItems tunables version xs i j = Derives (grammar.Items tunables version xs) i j
 
 -- the ways on within a list of items
-abbrev EndsOrGoesOn : Version → Type 0
-EndsOrGoesOn version = (K : List (Owed Point)) (t : Kind)
-    → settle ways (At (Items version) ∷ K) t ≡ (if fits (s.Sign g.BraceClose) t then settle ways (Want (s.Sign g.BraceClose) ∷ K) t else settle ways (At (AnItem version) ∷ At (Items version) ∷ K) t)
+abbrev EndsOrGoesOn : Tunables → Version → Type 0
+EndsOrGoesOn tunables version = (K : List (Owed Point)) (t : Kind)
+    → settle ways (At (Items tunables version) ∷ K) t ≡ (if fits (s.Sign g.BraceClose) t then settle ways (Want (s.Sign g.BraceClose) ∷ K) t else settle ways (At (AnItem tunables version) ∷ At (Items tunables version) ∷ K) t)
 
-ends_or_goes_on : (version : Version) → EndsOrGoesOn version
-ends_or_goes_on First = λ K t. refl
-ends_or_goes_on Second = λ K t. refl
+ends_or_goes_on : (tunables : Tunables) (version : Version) → EndsOrGoesOn tunables version
+ends_or_goes_on tunables First = λ K t. refl
+ends_or_goes_on tunables Second = λ K t. refl
 
-items_read : (version : Version) (n : ℕ) (i : List Token) (K : List (Owed Point)) → length i ≤ n
-    → Reading ways n (At (Items version) ∷ K) (Want (s.Sign g.BraceClose) ∷ K) (λ xs j. Derives (grammar.Items version xs) i j) i (reading.items version i)
+items_read : (tunables : Tunables) (version : Version) (n : ℕ) (i : List Token) (K : List (Owed Point)) → length i ≤ n
+    → Reading ways n (At (Items tunables version) ∷ K) (Want (s.Sign g.BraceClose) ∷ K) (λ xs j. Derives (grammar.Items tunables version xs) i j) i (reading.items tunables version i)
 unfolding reading.items
-items_read version n i K le = weaken (length i) (until (s.Sign g.BraceClose) (reading.item version) (length i) [] i) le
-    (gives_more (until (s.Sign g.BraceClose) (reading.item version) (length i) [] i) (λ every j added. subst (λ every. Derives (grammar.Items version every) i j) (sym added.1) added.2)
-    (until_reads (AreItems version) (λ i. grammar.no_item) (s.Sign g.BraceClose) (reading.item version) (At (Items version) ∷ K) (Want (s.Sign g.BraceClose) ∷ K)
-    (At (AnItem version) ∷ At (Items version) ∷ K) (ends_or_goes_on version K) refl refl
-    (λ n i le. gives_more (reading.item version i) (λ x j d rest l more. grammar.an_item d more) (item_reads version n i (At (Items version) ∷ K) le)) (length i) [] i (omega arith)))
+items_read tunables version n i K le = weaken (length i) (until (s.Sign g.BraceClose) (reading.item tunables version) (length i) [] i) le
+    (gives_more (until (s.Sign g.BraceClose) (reading.item tunables version) (length i) [] i) (λ every j added. subst (λ every. Derives (grammar.Items tunables version every) i j) (sym added.1) added.2)
+    (until_reads (AreItems tunables version) (λ i. grammar.no_item) (s.Sign g.BraceClose) (reading.item tunables version) (At (Items tunables version) ∷ K) (Want (s.Sign g.BraceClose) ∷ K)
+    (At (AnItem tunables version) ∷ At (Items tunables version) ∷ K) (ends_or_goes_on tunables version K) refl refl
+    (λ n i le. gives_more (reading.item tunables version i) (λ x j d rest l more. grammar.an_item d more) (item_reads tunables version n i (At (Items tunables version) ∷ K) le)) (length i) [] i (omega arith)))
 
 -- ---- instances
 
@@ -208,31 +252,31 @@ kind_reads n i K le = choice_reads (At AKind ∷ K) (Want s.Inner ∷ K) (Want s
     (phrase (all (s.Inner ∷ []) i) _ (patterns_read (s.Inner ∷ []) n i K refl (omega arith)) (λ ts j few front. given variant.Inner j few (inner_front front)))
     (phrase (all (s.Leaf ∷ []) i) _ (patterns_read (s.Leaf ∷ []) n i K refl (omega arith)) (λ ts j few front. given variant.Leaf j few (leaf_front front)))
 
-instance_front : {version : Version} {i ts j l us m o vs q : List Token} {x : VariantKind} {xs : List ItemText} → Front instance_patterns i ts j → Derives (grammar.AKind x) j l → Front level_patterns l us m
-    → Derives (grammar.Items version xs) m o → Front (s.Sign g.BraceClose ∷ []) o vs q → Derives (grammar.AnInstance version (instance_of ts x us xs)) i q
+instance_front : {tunables : Tunables} {version : Version} {i ts j l us m o vs q : List Token} {x : VariantKind} {xs : List ItemText} → Front instance_patterns i ts j → Derives (grammar.AKind x) j l → Front level_patterns l us m
+    → Derives (grammar.Items tunables version xs) m o → Front (s.Sign g.BraceClose ∷ []) o vs q → Derives (grammar.AnInstance tunables version (instance_of ts x us xs)) i q
 instance_front (next instance (next a_word (next (a_sign _) (next a_word (next (a_sign _) none))))) kind (next (a_sign _) (next a_word (next (a_sign _) none))) items (next (a_sign _) none) =
     grammar.an_instance kind items
 
-instance_reads : (version : Version) (n : ℕ) (i : List Token) (K : List (Owed Point)) → length i ≤ suc n
-    → Reading ways n (Want s.Instance ∷ (instance_owes version ++ K)) K (λ x j. Derives (grammar.AnInstance version x) i j) i (reading.instance version i)
-instance_reads version n i K le = phrase (all instance_patterns i) _ (patterns_read instance_patterns n i (At AKind ∷ wants level_patterns (At (Items version) ∷ K)) refl (omega arith))
-    (λ ts j few head. phrase (reading.kind j) _ (kind_reads n j (wants level_patterns (At (Items version) ∷ K)) (omega arith))
-    (λ x l few2 kind. phrase (all level_patterns l) _ (patterns_read level_patterns n l (At (Items version) ∷ K) refl (omega arith))
-    (λ us m few3 level. phrase (reading.items version m) _ (items_read version n m K few3)
+instance_reads : (tunables : Tunables) (version : Version) (n : ℕ) (i : List Token) (K : List (Owed Point)) → length i ≤ suc n
+    → Reading ways n (Want s.Instance ∷ (instance_owes tunables version ++ K)) K (λ x j. Derives (grammar.AnInstance tunables version x) i j) i (reading.instance tunables version i)
+instance_reads tunables version n i K le = phrase (all instance_patterns i) _ (patterns_read instance_patterns n i (At AKind ∷ wants level_patterns (At (Items tunables version) ∷ K)) refl (omega arith))
+    (λ ts j few head. phrase (reading.kind j) _ (kind_reads n j (wants level_patterns (At (Items tunables version) ∷ K)) (omega arith))
+    (λ x l few2 kind. phrase (all level_patterns l) _ (patterns_read level_patterns n l (At (Items tunables version) ∷ K) refl (omega arith))
+    (λ us m few3 level. phrase (reading.items tunables version m) _ (items_read tunables version n m K few3)
     (λ xs o few4 items. phrase (all (s.Sign g.BraceClose ∷ []) o) _ (patterns_read (s.Sign g.BraceClose ∷ []) n o K refl (omega arith))
     (λ vs q few5 closing. given (instance_of ts x us xs) q few5 (instance_front head kind level items closing))))))
 
-abbrev AreInstances : Version → List InstanceText → List Token → List Token → Type 0
-AreInstances version xs i j = Derives (grammar.Instances version xs) i j
+abbrev AreInstances : Tunables → Version → List InstanceText → List Token → List Token → Type 0
+AreInstances tunables version xs i j = Derives (grammar.Instances tunables version xs) i j
 
-instances_read : (version : Version) (n : ℕ) (i : List Token) → length i ≤ n
-    → Reading ways n (At (Instances version) ∷ []) (Want s.End ∷ []) (λ xs j. Derives (grammar.Instances version xs) i j) i (reading.instances version i)
+instances_read : (tunables : Tunables) (version : Version) (n : ℕ) (i : List Token) → length i ≤ n
+    → Reading ways n (At (Instances tunables version) ∷ []) (Want s.End ∷ []) (λ xs j. Derives (grammar.Instances tunables version xs) i j) i (reading.instances tunables version i)
 unfolding reading.instances
-instances_read version n i le = weaken (length i) (until s.End (reading.instance version) (length i) [] i) le
-    (gives_more (until s.End (reading.instance version) (length i) [] i) (λ every j added. subst (λ every. Derives (grammar.Instances version every) i j) (sym added.1) added.2)
-    (until_reads (AreInstances version) (λ i. grammar.no_instance) s.End (reading.instance version) (At (Instances version) ∷ []) (Want s.End ∷ [])
-    (Want s.Instance ∷ (instance_owes version ++ At (Instances version) ∷ [])) (λ t. refl) refl refl
-    (λ n i le. gives_more (reading.instance version i) (λ x j d rest l more. grammar.one_more_instance d more) (instance_reads version n i (At (Instances version) ∷ []) le)) (length i) [] i (omega arith)))
+instances_read tunables version n i le = weaken (length i) (until s.End (reading.instance tunables version) (length i) [] i) le
+    (gives_more (until s.End (reading.instance tunables version) (length i) [] i) (λ every j added. subst (λ every. Derives (grammar.Instances tunables version every) i j) (sym added.1) added.2)
+    (until_reads (AreInstances tunables version) (λ i. grammar.no_instance) s.End (reading.instance tunables version) (At (Instances tunables version) ∷ []) (Want s.End ∷ [])
+    (Want s.Instance ∷ (instance_owes tunables version ++ At (Instances tunables version) ∷ [])) (λ t. refl) refl refl
+    (λ n i le. gives_more (reading.instance tunables version i) (λ x j d rest l more. grammar.one_more_instance d more) (instance_reads tunables version n i (At (Instances tunables version) ∷ []) le)) (length i) [] i (omega arith)))
 
 -- ---- the whole
 
@@ -240,43 +284,43 @@ abbrev mapping_word : Place → Token
 mapping_word p = token (k.Word (codes "mapping")) p
 
 -- the name of the entry and its sizes, and whatever stands after them
-abbrev IsEntry : Version → List Token → Word × List SizeText → List Token → Type 0
-IsEntry version i x j = (p : Place) (instances : List InstanceText) (l : List Token)
-    → Derives (grammar.Instances version instances) j l → Derives (grammar.AMapping (grammar.mapping x.0 x.1 instances)) (mapping_word p ∷ i) l
+abbrev IsEntry : Tunables → Version → List Token → Word × List SizeText → List Token → Type 0
+IsEntry tunables version i x j = (p : Place) (instances : List InstanceText) (l : List Token)
+    → Derives (grammar.Instances tunables version instances) j l → Derives (grammar.AMapping tunables (grammar.mapping x.0 x.1 instances)) (mapping_word p ∷ i) l
 
-entry_front : (version : Version) {p : Place} {i ts j l us m o : List Token} {xs : List SizeText} {ys : List InstanceText} → Front (s.Exactly (number_of version) ∷ head_patterns) i ts j
-    → Derives (grammar.Sizes xs) j l → Front sizes_end l us m → Derives (grammar.Instances version ys) m o
-    → Derives (grammar.AMapping (grammar.mapping (word_in (slice_get ts 3)) xs ys)) (mapping_word p ∷ i) o
-entry_front version (next (exactly _) (next (a_sign _) (next entry (next a_word (next (a_sign _) none))))) sizes (next (a_sign _) (next (a_sign _) none)) instances =
+entry_front : (tunables : Tunables) (version : Version) {p : Place} {i ts j l us m o : List Token} {xs : List SizeText} {ys : List InstanceText} → Front (s.Exactly (number_of version) ∷ head_patterns) i ts j
+    → Derives (grammar.Sizes xs) j l → Front sizes_end l us m → Derives (grammar.Instances tunables version ys) m o
+    → Derives (grammar.AMapping tunables (grammar.mapping (word_in (slice_get ts 3)) xs ys)) (mapping_word p ∷ i) o
+entry_front tunables version (next (exactly _) (next (a_sign _) (next entry (next a_word (next (a_sign _) none))))) sizes (next (a_sign _) (next (a_sign _) none)) instances =
     grammar.a_mapping {version = version} sizes instances
 
-entry_reads : (version : Version) (n : ℕ) (i : List Token) (K : List (Owed Point)) → length i ≤ suc n
-    → Reading ways n (Want (s.Exactly (number_of version)) ∷ wants head_patterns (At Sizes ∷ Want (s.Sign g.Semi) ∷ K)) K (IsEntry version i) i (reading.entry version i)
-entry_reads version n i K le = phrase (reading.head version i) _ (patterns_read (s.Exactly (number_of version) ∷ head_patterns) n i (At Sizes ∷ Want (s.Sign g.Semi) ∷ K) refl (omega arith))
+entry_reads : (tunables : Tunables) (version : Version) (n : ℕ) (i : List Token) (K : List (Owed Point)) → length i ≤ suc n
+    → Reading ways n (Want (s.Exactly (number_of version)) ∷ wants head_patterns (At Sizes ∷ Want (s.Sign g.Semi) ∷ K)) K (IsEntry tunables version i) i (reading.entry version i)
+entry_reads tunables version n i K le = phrase (reading.head version i) _ (patterns_read (s.Exactly (number_of version) ∷ head_patterns) n i (At Sizes ∷ Want (s.Sign g.Semi) ∷ K) refl (omega arith))
     (λ ts j few head. phrase (reading.sizes j) _ (sizes_read n j (Want (s.Sign g.Semi) ∷ K) few)
     (λ xs l few2 sizes. phrase (all sizes_end l) _ (patterns_read sizes_end n l K refl (omega arith))
-    (λ us m few3 closing. given (word_in (slice_get ts 3), xs) m few3 (λ p ys o instances. entry_front version head sizes closing instances))))
+    (λ us m few3 closing. given (word_in (slice_get ts 3), xs) m few3 (λ p ys o instances. entry_front tunables version head sizes closing instances))))
 
-is_text : {i j : List Token} {x : MappingText} → Derives (grammar.AMapping x) i j → IsLast j → IsText i x
-is_text {i} {x = x} d (p, is) = record { end = p; text = subst (λ j. Derives (grammar.AMapping x) i j) is d }
+is_text : {tunables : Tunables} {i j : List Token} {x : MappingText} → Derives (grammar.AMapping tunables x) i j → IsLast j → IsTextOf tunables i x
+is_text {tunables} {i} {x = x} d (p, is) = record { end = p; text = subst (λ j. Derives (grammar.AMapping tunables x) i j) is d }
 
 -- these tokens behind the word `mapping` are a text
-abbrev IsBody : List Token → MappingText → Type 0
-IsBody i x = (p : Place) → IsText (mapping_word p ∷ i) x
+abbrev IsBody : Tunables → List Token → MappingText → Type 0
+IsBody tunables i x = (p : Place) → IsTextOf tunables (mapping_word p ∷ i) x
 
-body_reads : (version : Version) (n : ℕ) (i : List Token) → length i ≤ suc n
-    → Reading ways n (Want (s.Exactly (number_of version)) ∷ version_owes version) [] (λ x j. IsBody i x) i (reading.body version i)
+body_reads : (tunables : Tunables) (version : Version) (n : ℕ) (i : List Token) → length i ≤ suc n
+    → Reading ways n (Want (s.Exactly (number_of version)) ∷ version_owes tunables version) [] (λ x j. IsBody tunables i x) i (reading.body tunables version i)
 unfolding reading.body
-body_reads version n i le = phrase (reading.entry version i) _ (entry_reads version n i (At (Instances version) ∷ []) le)
-    (λ x j few head. phrase (reading.instances version j) _ (instances_read version n j few)
+body_reads tunables version n i le = phrase (reading.entry version i) _ (entry_reads tunables version n i (At (Instances tunables version) ∷ []) le)
+    (λ x j few head. phrase (reading.instances tunables version j) _ (instances_read tunables version n j few)
     (λ xs l few2 instances. phrase (all (s.End ∷ []) l) _ (all_reads (s.End ∷ []) n l [] (refl, tt) (omega arith))
     (λ us m few3 last. finish_reads n (grammar.mapping x.0 x.1 xs) m few3 (λ e p. is_text (head p xs l instances) (last_front last e)))))
 
-mapping_front : {i ts j : List Token} {x : MappingText} → Front (s.Mapping ∷ []) i ts j → IsBody j x → IsText i x
+mapping_front : {tunables : Tunables} {i ts j : List Token} {x : MappingText} → Front (s.Mapping ∷ []) i ts j → IsBody tunables j x → IsTextOf tunables i x
 mapping_front (next mapping none) d = d _
 
-pub mapping_reads : (i : List Token) → Reading ways (length i) start [] (λ x j. IsText i x) i (reading.mapping i)
-mapping_reads i = phrase (all (s.Mapping ∷ []) i) _ (patterns_read (s.Mapping ∷ []) (length i) i (At AVersion ∷ []) refl (omega arith))
-    (λ ts j few front. gives_more (choice (s.Exactly 1) (reading.body First) (reading.body Second) j) (λ x l d. mapping_front front d)
-    (choice_reads (At AVersion ∷ []) (Want (s.Exactly 1) ∷ version_owes First) (Want (s.Exactly 2) ∷ version_owes Second) (s.Exactly 1) (reading.body First) (reading.body Second) j
-    (λ t. refl) refl (body_reads First (length i) j (omega (arith, few))) (body_reads Second (length i) j (omega (arith, few)))))
+pub mapping_reads : (tunables : Tunables) (i : List Token) → Reading ways (length i) (start tunables) [] (λ x j. IsTextOf tunables i x) i (reading.mapping tunables i)
+mapping_reads tunables i = phrase (all (s.Mapping ∷ []) i) _ (patterns_read (s.Mapping ∷ []) (length i) i (At (AVersion tunables) ∷ []) refl (omega arith))
+    (λ ts j few front. gives_more (choice (s.Exactly 1) (reading.body tunables First) (reading.body tunables Second) j) (λ x l d. mapping_front front d)
+    (choice_reads (At (AVersion tunables) ∷ []) (Want (s.Exactly 1) ∷ version_owes tunables First) (Want (s.Exactly 2) ∷ version_owes tunables Second) (s.Exactly 1) (reading.body tunables First) (reading.body tunables Second) j
+    (λ t. refl) refl (body_reads tunables First (length i) j (omega (arith, few))) (body_reads tunables Second (length i) j (omega (arith, few)))))

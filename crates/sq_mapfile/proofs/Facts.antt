@@ -56,12 +56,12 @@ known s i x h =
 -- ---- names of tunables, calls and sizes
 
 abbrev pub call_name : ItemText → Option Bytes
-call_name (Tunable name setting) = None
+call_name (Tunable name values) = None
 call_name (Call task name) = Some task.name
 call_name (Spread word rule) = None
 
 abbrev pub tunable_name : ItemText → Option Bytes
-tunable_name (Tunable name setting) = Some name.name
+tunable_name (Tunable name values) = Some name.name
 tunable_name (Call task name) = None
 tunable_name (Spread word rule) = None
 
@@ -72,12 +72,12 @@ abbrev pub instance_name : InstanceText → Option Bytes
 instance_name x = Some x.name.name
 
 is_call_named : (n : Bytes) (x : ItemText) → is_call n x ≡ has_name (call_name x) n
-is_call_named n (Tunable name setting) = refl
+is_call_named n (Tunable name values) = refl
 is_call_named n (Call task name) = refl
 is_call_named n (Spread word rule) = refl
 
 is_tunable_named : (n : Bytes) (x : ItemText) → is_tunable n x ≡ has_name (tunable_name x) n
-is_tunable_named n (Tunable name setting) = refl
+is_tunable_named n (Tunable name values) = refl
 is_tunable_named n (Call task name) = refl
 is_tunable_named n (Spread word rule) = refl
 
@@ -98,13 +98,13 @@ has_size_among sizes n = some_first size_name 0 sizes n
 
 pub route_tasks : (instances : List InstanceText) (items : List ItemText) → map (λ route. route.task) (routes_of instances items) ≡ names call_name items
 route_tasks instances [] = refl
-route_tasks instances (Tunable name setting ∷ rest) = route_tasks instances rest
+route_tasks instances (Tunable name values ∷ rest) = route_tasks instances rest
 route_tasks instances (Spread word rule ∷ rest) = route_tasks instances rest
 route_tasks instances (Call task name ∷ rest) = ap (λ ns. task.name ∷ ns) (route_tasks instances rest)
 
 pub tuning_names : (items : List ItemText) → map (λ tuning. tuning.name) (tunings_of items) ≡ names tunable_name items
 tuning_names [] = refl
-tuning_names (Tunable name setting ∷ rest) = ap (λ ns. name.name ∷ ns) (tuning_names rest)
+tuning_names (Tunable name values ∷ rest) = ap (λ ns. name.name ∷ ns) (tuning_names rest)
 tuning_names (Call task name ∷ rest) = tuning_names rest
 tuning_names (Spread word rule ∷ rest) = tuning_names rest
 
@@ -117,7 +117,7 @@ calls_once n h = all_once call_name n.items (λ k x m at is. cases x m k (item_a
   where
     cases : (x : ItemText) (m : Bytes) (k : ℕ) → ItemKeeps n (0 + k) x → call_name x ≡ Some m
         → stands_before (first_from (λ y. has_name (call_name y) m) 0 n.items) (0 + k) ≡ false
-    cases (Tunable name setting) m k h e = absurd (cc)
+    cases (Tunable name values) m k h e = absurd (cc)
     cases (Spread word rule) m k h e = absurd (cc)
     cases (Call task name) m k h e =
         let is : task.name ≡ m = cc in
@@ -131,7 +131,7 @@ tunables_once n h = all_once tunable_name n.items (λ k x m at is. cases x m k (
         → stands_before (first_from (λ y. has_name (tunable_name y) m) 0 n.items) (0 + k) ≡ false
     cases (Call task name) m k h e = absurd (cc)
     cases (Spread word rule) m k h e = absurd (cc)
-    cases (Tunable name setting) m k h e =
+    cases (Tunable name values) m k h e =
         let is : name.name ≡ m = cc in
         subst (λ m. stands_before (first_from (λ y. has_name (tunable_name y) m) 0 n.items) (0 + k) ≡ false) is
         (ap (λ o. stands_before o (0 + k)) (sym (tunable_first n.items name.name)) ∙ unbroken code.DupItem name (stands_before (tunable_index n.items name.name) (0 + k)) h.again)
@@ -154,7 +154,7 @@ instances_once s h = all_once instance_name s.instances (λ k x m at e.
 pub calls_known : (n : Inside) (r : Required) (i : ℕ) (items : List ItemText) → n.required ≡ Some r → ItemsKeep n i items
     → (name : Bytes) → is_among (names call_name items) name ≡ true → is_among r.calls name ≡ true
 calls_known n r i [] e h name given = absurd (true≢false (sym given))
-calls_known n r i (Tunable m setting ∷ rest) e h name given = calls_known n r (suc i) rest e h.1 name given
+calls_known n r i (Tunable m values ∷ rest) e h name given = calls_known n r (suc i) rest e h.1 name given
 calls_known n r i (Spread word rule ∷ rest) e h name given = calls_known n r (suc i) rest e h.1 name given
 calls_known n r i (Call task m ∷ rest) e h name given = elim (among_cases task.name (names call_name rest) name given) [
   | inl is ↦ ap (is_among r.calls) is ∙ not_false (is_among r.calls task.name)
@@ -170,7 +170,7 @@ pub tunables_known : (n : Inside) (r : Required) (i : ℕ) (items : List ItemTex
 tunables_known n r i [] e h name given = absurd (true≢false (sym given))
 tunables_known n r i (Call task m ∷ rest) e h name given = tunables_known n r (suc i) rest e h.1 name given
 tunables_known n r i (Spread word rule ∷ rest) e h name given = tunables_known n r (suc i) rest e h.1 name given
-tunables_known n r i (Tunable m setting ∷ rest) e h name given = elim (among_cases m.name (names tunable_name rest) name given) [
+tunables_known n r i (Tunable m values ∷ rest) e h name given = elim (among_cases m.name (names tunable_name rest) name given) [
   | inl is ↦ ap (is_among (map (λ t. t.0) r.tunables)) is ∙ tunable_there r m.name
       (subst (λ o. is_no_tunable o m.name ≡ false) e (unbroken code.TunableUnknown m (is_no_tunable n.required m.name) h.0.unknown))
   | inr later ↦ tunables_known n r (suc i) rest e h.1 name later
@@ -194,20 +194,20 @@ kind_of setting (Some wants) some h = ap Some ((booleans_Decides wants (is_list 
 pub kinds_fit : (n : Inside) (r : Required) (i : ℕ) (items : List ItemText) → n.required ≡ Some r → ItemsKeep n i items
     → (k : ℕ) (tuning : Tuning) → slice_get (tunings_of items) k ≡ Some tuning → lookup (same_name tuning.name) r.tunables ≡ Some (is_list tuning.setting)
 kinds_fit n r i [] e h k tuning at = absurd (cc)
-kinds_fit n r i (Tunable name setting ∷ rest) e h zero tuning at =
-    let the_tuning : Tuning = record { name = name.name; setting = setting } in
+kinds_fit n r i (Tunable name values ∷ rest) e h zero tuning at =
+    let the_tuning : Tuning = record { name = name.name; setting = values.first } in
     let is : the_tuning ≡ tuning = cc in
     let kind = lookup (same_name name.name) r.tunables in
     subst (λ t. lookup (same_name t.name) r.tunables ≡ Some (is_list t.setting)) is
-    (kind_of setting kind (subst (λ o. is_no_tunable o name.name ≡ false) e (unbroken code.TunableUnknown name (is_no_tunable n.required name.name) h.0.unknown))
-    (subst (λ o. is_other_kind o name.name setting ≡ false) e (unbroken code.TunableKind name (is_other_kind n.required name.name setting) h.0.kind)))
-kinds_fit n r i (Tunable name setting ∷ rest) e h (suc k) tuning at = kinds_fit n r (suc i) rest e h.1 k tuning at
+    (kind_of values.first kind (subst (λ o. is_no_tunable o name.name ≡ false) e (unbroken code.TunableUnknown name (is_no_tunable n.required name.name) h.0.unknown))
+    (subst (λ o. is_other_kind o name.name values.first ≡ false) e (unbroken code.TunableKind name (is_other_kind n.required name.name values.first) h.0.kind)))
+kinds_fit n r i (Tunable name values ∷ rest) e h (suc k) tuning at = kinds_fit n r (suc i) rest e h.1 k tuning at
 kinds_fit n r i (Call task name ∷ rest) e h k tuning at = kinds_fit n r (suc i) rest e h.1 k tuning at
 kinds_fit n r i (Spread word rule ∷ rest) e h k tuning at = kinds_fit n r (suc i) rest e h.1 k tuning at
 
 pub leaf_goes_round : (n : Inside) (i : ℕ) (items : List ItemText) → n.kind ≡ Leaf → ItemsKeep n i items → spread_of items ≡ Cyclic
 leaf_goes_round n i [] leaf h = refl
-leaf_goes_round n i (Tunable name setting ∷ rest) leaf h = leaf_goes_round n (suc i) rest leaf h.1
+leaf_goes_round n i (Tunable name values ∷ rest) leaf h = leaf_goes_round n (suc i) rest leaf h.1
 leaf_goes_round n i (Call task name ∷ rest) leaf h = leaf_goes_round n (suc i) rest leaf h.1
 leaf_goes_round n i (Spread word rule ∷ rest) leaf h =
     absurd (true≢false (sym (ap is_leaf leaf) ∙ not_there code.SpreadLeaf word.place (is_leaf n.kind) h.0.kind))
@@ -263,7 +263,7 @@ pub routes_fit : (n : Inside) (level : ℕ) (i : ℕ) (items : List ItemText) �
     → InstancesKeep n.scope 0 n.scope.instances → ItemsKeep n i items
     → (k : ℕ) (route : Route) → slice_get (routes_of n.scope.instances items) k ≡ Some route → RouteTo n.scope level route
 routes_fit n level i [] e few fit keep h k route at = absurd (cc)
-routes_fit n level i (Tunable name setting ∷ rest) e few fit keep h k route at = routes_fit n level (suc i) rest e few fit keep h.1 k route at
+routes_fit n level i (Tunable name values ∷ rest) e few fit keep h k route at = routes_fit n level (suc i) rest e few fit keep h.1 k route at
 routes_fit n level i (Spread word rule ∷ rest) e few fit keep h k route at = routes_fit n level (suc i) rest e few fit keep h.1 k route at
 routes_fit n level i (Call task name ∷ rest) e few fit keep h zero route at =
     let s = n.scope in

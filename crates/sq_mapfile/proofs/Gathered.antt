@@ -39,7 +39,7 @@ chosen n false xs ys p q = q
 items_within : (instances : List InstanceText) (caller : ℕ) (items : List ItemText) (k : ℕ) (rest : List ItemText) (later : List CallText) → caller < length instances → All (IsWithin (length instances)) later
     → All (IsWithin (length instances)) (items_calls instances caller items k rest later)
 items_within instances caller items k [] later lt h = h
-items_within instances caller items k (Tunable name setting ∷ rest) later lt h = items_within instances caller items (suc k) rest later lt h
+items_within instances caller items k (Tunable name values ∷ rest) later lt h = items_within instances caller items (suc k) rest later lt h
 items_within instances caller items k (Spread word rule ∷ rest) later lt h = items_within instances caller items (suc k) rest later lt h
 items_within instances caller items k (Call task name ∷ rest) later lt h =
     let more = items_within instances caller items (suc k) rest later lt h in

@@ -31,7 +31,7 @@ no_fault : (o : Rule) → ((g : Fault) → option_map (fault_by phase.Mapping) o
 no_fault None h = refl
 no_fault (Some b) h = absurd (h (fault_by phase.Mapping b) refl)
 
-all_none : (os : List Rule) → ((g : Fault) → BreaksIn breach_of phase.Mapping os g → ⊥) → AllNone os
+pub all_none : (os : List Rule) → ((g : Fault) → BreaksIn breach_of phase.Mapping os g → ⊥) → AllNone os
 all_none [] h = tt
 all_none (o ∷ os) h = (no_fault o (λ g e. h g (inl e)), all_none os (λ g e. h g (inr e)))
 
@@ -66,7 +66,7 @@ pub record SpreadKeeps (n : Inside) (i : ℕ) (word : Word) : Type 0 where
   pub kind : f.spread_leaf n.kind word ≡ None
 
 abbrev pub ItemKeeps : Inside → ℕ → ItemText → Type 0
-ItemKeeps n i (Tunable name setting) = TunableKeeps n i name setting
+ItemKeeps n i (Tunable name values) = TunableKeeps n i name values.first
 ItemKeeps n i (Call task name) = CallKeeps n i task name
 ItemKeeps n i (Spread word rule) = SpreadKeeps n i word
 
@@ -76,7 +76,7 @@ ItemsKeep n i (x ∷ rest) = ItemKeeps n i x × ItemsKeep n (suc i) rest
 
 items_keep : (n : Inside) (i : ℕ) (items : List ItemText) (later : List Rule) → AllNone (notes.items_rules n i items later) → ItemsKeep n i items × AllNone later
 items_keep n i [] later h = (tt, h)
-items_keep n i (Tunable name setting ∷ rest) later h =
+items_keep n i (Tunable name values ∷ rest) later h =
     let more = items_keep n (suc i) rest later h.1.1.1 in ((record { again = h.0; unknown = h.1.0; kind = h.1.1.0 }, more.0), more.1)
 items_keep n i (Call task name ∷ rest) later h =
     let more = items_keep n (suc i) rest later h.1.1.1.1.1 in

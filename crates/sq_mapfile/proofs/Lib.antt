@@ -1,10 +1,13 @@
 pub mod Acyclic
+pub mod Alone
 pub mod ByKind
 pub mod Callees
 pub mod Complete
 pub mod Converse
+pub mod Counted
 pub mod Derived
 pub mod Facts
+pub mod Files
 pub mod Falling
 pub mod FirstOnCycle
 pub mod Gathered
@@ -16,14 +19,20 @@ pub mod Once
 pub mod Onces
 pub mod OpenedCalls
 pub mod Paths
+pub mod Picks
 pub mod Points
+pub mod Products
+pub mod Readable
 pub mod Resolved
 pub mod Seen
 pub mod Sizes
 pub mod Sounds
 pub mod Texts
 pub mod Unbroken
+pub mod Unchanged
+pub mod Unfaulted
 pub mod Walks
 pub mod Whole
+pub mod Written
 -- Lemmas of crates below, passed on.
 pub use Rattle.sq_types.proofs as Types

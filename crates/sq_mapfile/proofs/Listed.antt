@@ -20,7 +20,7 @@ use Rattle.sq_mapfile.specs.Graph.{calls_from, gathered}
 
 items_listed : (n : Inside) (i : ℕ) (items : List ItemText) (later : List Rule) → notes.items_rules n i items later ≡ of_each (item_rules n) i items ++ later
 items_listed n i [] later = refl
-items_listed n i (Tunable name setting ∷ rest) later = ap (notes.item_rules n i (Tunable name setting)) (items_listed n (suc i) rest later)
+items_listed n i (Tunable name values ∷ rest) later = ap (notes.item_rules n i (Tunable name values)) (items_listed n (suc i) rest later)
 items_listed n i (Call task name ∷ rest) later = ap (notes.item_rules n i (Call task name)) (items_listed n (suc i) rest later)
 items_listed n i (Spread word rule ∷ rest) later = ap (notes.item_rules n i (Spread word rule)) (items_listed n (suc i) rest later)
 
@@ -53,7 +53,7 @@ one_listed false caller (Some callee) name later = refl
 calls_listed : (instances : List InstanceText) (caller : ℕ) (items : List ItemText) (k : ℕ) (rest : List ItemText) (later : List CallText)
     → walk.items_calls instances caller items k rest later ≡ of_each (item_calls instances caller items) k rest ++ later
 calls_listed instances caller items k [] later = refl
-calls_listed instances caller items k (Tunable name setting ∷ rest) later = calls_listed instances caller items (suc k) rest later
+calls_listed instances caller items k (Tunable name values ∷ rest) later = calls_listed instances caller items (suc k) rest later
 calls_listed instances caller items k (Spread word rule ∷ rest) later = calls_listed instances caller items (suc k) rest later
 calls_listed instances caller items k (Call task name ∷ rest) later =
     let one = item_calls instances caller items k (Call task name) in

@@ -46,7 +46,7 @@ module _ (n : Inside) (fit : length n.scope.instances < 2 ^ 32) (i : ℕ) (later
 
   calls_later : (k : ℕ) (items : List ItemText) {a b : ℕ} → ItemsKeep n k items → Calls later a b → Calls (item_list k items) a b
   calls_later k [] h c = c
-  calls_later k (Tunable name setting ∷ rest) h c = calls_later (suc k) rest h.1 c
+  calls_later k (Tunable name values ∷ rest) h c = calls_later (suc k) rest h.1 c
   calls_later k (Spread word rule ∷ rest) h c = calls_later (suc k) rest h.1 c
   calls_later k (Call task name ∷ rest) h c =
       let index = index_of n.scope.instances name.name in
@@ -57,7 +57,7 @@ module _ (n : Inside) (fit : length n.scope.instances < 2 ^ 32) (i : ℕ) (later
   calls_there : (k : ℕ) (items : List ItemText) → ItemsKeep n k items → (j : ℕ) (route : Route) → slice_get (routes_of n.scope.instances items) j ≡ Some route
       → Calls (item_list k items) i route.instance
   calls_there k [] h j route at = absurd (cc)
-  calls_there k (Tunable name setting ∷ rest) h j route at = calls_there (suc k) rest h.1 j route at
+  calls_there k (Tunable name values ∷ rest) h j route at = calls_there (suc k) rest h.1 j route at
   calls_there k (Spread word rule ∷ rest) h j route at = calls_there (suc k) rest h.1 j route at
   calls_there k (Call task name ∷ rest) h zero route at =
       let index = index_of n.scope.instances name.name in

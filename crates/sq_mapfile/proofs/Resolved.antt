@@ -36,7 +36,7 @@ level_index levels name few h = index_is (λ level. same_name name.name level.na
 pub are_routes : (n : Inside) (i : ℕ) (items : List ItemText) → length n.scope.instances < 2 ^ 32
     → ItemsKeep n i items → AreRoutes n.scope.instances items (routes_of n.scope.instances items)
 are_routes n i [] fit h = no_route
-are_routes n i (Tunable name setting ∷ rest) fit h = no_call (are_routes n (suc i) rest fit h.1)
+are_routes n i (Tunable name values ∷ rest) fit h = no_call (are_routes n (suc i) rest fit h.1)
 are_routes n i (Spread word rule ∷ rest) fit h = no_rule (are_routes n (suc i) rest fit h.1)
 are_routes n i (Call task name ∷ rest) fit h = a_route (instance_index n.scope.instances name fit h.0.there) (are_routes n (suc i) rest fit h.1)
 
@@ -72,7 +72,7 @@ index_or (Some i) = i
 
 abbrev the_routes : List InstanceText → List ItemText → List Route
 the_routes instances [] = []
-the_routes instances (Tunable name setting ∷ rest) = the_routes instances rest
+the_routes instances (Tunable name values ∷ rest) = the_routes instances rest
 the_routes instances (Spread word rule ∷ rest) = the_routes instances rest
 the_routes instances (Call task name ∷ rest) = record { task = task.name; instance = index_or (index_of instances name.name) } ∷ the_routes instances rest
 

@@ -10,11 +10,12 @@ use Rattle.sq_lexer.specs.Faults.{most_bytes}
 use Rattle.sq_lexer.specs.Tokens.{Stands, a_blank, a_line, a_comment, a_word, a_number, a_sign, TokensFrom, at_end, after_gap, after_token}
 use Rattle.sq_lexer.proofs.SignLemmas.{Shape, of_two, of_one, shape}
 use Rattle.sq_mapfile.specs.declared.text.Version.{Version}
+use Rattle.sq_mapfile.specs.declared.text.Tunables.{Tunables}
 use Rattle.sq_mapfile.specs.declared.text.InstanceText.{InstanceText}
 use Rattle.sq_mapfile.specs.declared.text.MappingText.{MappingText}
-use Rattle.sq_mapfile.specs.Grammar.{Phrase, Instances, AMapping, AnInstance, Derives, IsText}
+use Rattle.sq_mapfile.specs.Grammar.{Phrase, Instances, AMapping, AnInstance, Derives}
 use Rattle.sq_mapfile.specs.Grammar as g
-use Rattle.sq_mapfile.specs.Mappings.{Writes}
+use Rattle.sq_mapfile.specs.Mappings.{WritesAs}
 
 -- ---- tokens
 
@@ -59,7 +60,9 @@ shorter g.no_more_values = omega arith
 shorter (g.next_value d e) = omega (arith, shorter d, shorter e)
 shorter (g.one d) = shorter d
 shorter (g.many d) = omega (arith, shorter d)
-shorter (g.a_tunable d) = omega (arith, shorter d)
+shorter g.no_other = omega arith
+shorter (g.another d e) = omega (arith, shorter d, shorter e)
+shorter (g.a_tunable d e) = omega (arith, shorter d, shorter e)
 shorter g.a_call = omega arith
 shorter g.cyclic = omega arith
 shorter g.blocked = omega arith
@@ -74,22 +77,22 @@ shorter (g.one_more_instance d e) = omega (arith, shorter d, shorter e)
 shorter (g.a_mapping d e) = omega (arith, shorter d, shorter e)
 
 abbrev Few : Phrase → List Token → Type 0
-Few (AnInstance version x) i = Unit {0}
-Few (Instances version xs) i = length xs ≤ length i
-Few (AMapping m) i = length m.instances ≤ length i
+Few (AnInstance tunables version x) i = Unit {0}
+Few (Instances tunables version xs) i = length xs ≤ length i
+Few (AMapping tunables m) i = length m.instances ≤ length i
 Few _ i = Unit {0}
 
 -- how many tokens an instance has at least
-some_instance : {p : Phrase} {i j : List Token} → Derives p i j → (version : Version) (x : InstanceText) → p ≡ AnInstance version x → suc (length j) ≤ length i
-some_instance (g.an_instance d e) version x is = omega (arith, shorter d, shorter e)
-some_instance _ version x is = cc
+some_instance : {p : Phrase} {i j : List Token} → Derives p i j → (tunables : Tunables) (version : Version) (x : InstanceText) → p ≡ AnInstance tunables version x → suc (length j) ≤ length i
+some_instance (g.an_instance d e) tunables version x is = omega (arith, shorter d, shorter e)
+some_instance _ tunables version x is = cc
 
 few : {p : Phrase} {i j : List Token} → Derives p i j → Few p i
 few g.no_instance = omega arith
-few (g.one_more_instance d e) = omega (arith, some_instance d _ _ refl, few e)
+few (g.one_more_instance d e) = omega (arith, some_instance d _ _ _ refl, few e)
 few (g.a_mapping d e) = omega (arith, shorter d, few e)
 few _ = tt
 
-pub few_instances : (text : List ℕ) (m : MappingText) → Writes text m → length m.instances < 2 ^ 32
+pub few_instances : (tunables : Tunables) (text : List ℕ) (m : MappingText) → WritesAs tunables text m → length m.instances < 2 ^ 32
 unfolding most_bytes
-few_instances text m w = let fits = w.fits in omega (arith, few w.grammar.text, few_tokens w.tokens_of, fits)
+few_instances tunables text m w = let fits = w.fits in omega (arith, few w.grammar.text, few_tokens w.tokens_of, fits)

@@ -14,7 +14,7 @@ use Rattle.sq_text.specs.declared.word.Word.{Word}
 use Rattle.sq_text.specs.Found.{at_word, at_lack, at_place, BreaksIn}
 use Rattle.sq_ast.specs.declared.program.Program.{Program}
 use Rattle.sq_machfile.specs.declared.level.Level.{Level}
-use Rattle.sq_mapfile.specs.declared.mapping.Setting.{Setting}
+use Rattle.sq_mapfile.specs.declared.text.Alternatives.{Alternatives}
 use Rattle.sq_mapfile.specs.declared.mapping.Instance.{Instance}
 use Rattle.sq_mapfile.specs.declared.mapping.Mapping.{Mapping}
 use Rattle.sq_mapfile.specs.declared.text.SizeText.{SizeText}
@@ -50,7 +50,7 @@ no_lack c w o e = rw e refl
 no_place : (c : Code) (p : Place) (b : Bool) → b ≡ false → at_place c p b ≡ None
 no_place c p b e = rw e refl
 
-no_faults : (rules : List Rule) → AllNone rules → (g : Fault) → BreaksIn breach_of phase.Mapping rules g → ⊥
+pub no_faults : (rules : List Rule) → AllNone rules → (g : Fault) → BreaksIn breach_of phase.Mapping rules g → ⊥
 no_faults [] h g b = b
 no_faults (rule ∷ rules) h g (inl e) = let none : None ≡ Some g = sym (ap (option_map _) h.0) ∙ e in absurd (cc)
 no_faults (rule ∷ rules) h g (inr b) = no_faults rules h.1 g b
@@ -113,18 +113,18 @@ module _ (program : Program) (levels : List Level) (m : MappingText) (mapping : 
     tunable_given : (n : Bytes) → is_among (map (λ t. t.0) r.tunables) n ≡ true → has_tunable x.items n ≡ true
     tunable_given n w = has_tunable_among x.items n ∙ subst (λ ns. is_among ns n ≡ true) tunings (fits.tunables.all n w)
 
-    kind_there : (k : ℕ) (name : Word) (setting : Setting) → slice_get x.items k ≡ Some (Tunable name setting) → lookup (same_name name.name) r.tunables ≡ Some (is_list setting)
-    kind_there k name setting there =
-        let t = tuning_at x.items k name setting there in
-        fits.kinds t.index (record { name = name.name; setting = setting }) (ap (λ ts. slice_get ts t.index) d.tunings ∙ t.there)
+    kind_there : (k : ℕ) (name : Word) (values : Alternatives) → slice_get x.items k ≡ Some (Tunable name values) → lookup (same_name name.name) r.tunables ≡ Some (is_list values.first)
+    kind_there k name values there =
+        let t = tuning_at x.items k name values there in
+        fits.kinds t.index (record { name = name.name; setting = values.first }) (ap (λ ts. slice_get ts t.index) d.tunings ∙ t.there)
 
     item_none : (k : ℕ) (y : ItemText) → slice_get x.items k ≡ Some y → (later : List Rule) → AllNone later → AllNone (notes.item_rules (inside s x) k y later)
-    item_none k (Tunable name setting) there later h =
+    item_none k (Tunable name values) there later h =
         let again = ap (λ o. stands_before o k) (tunable_first x.items name.name)
-        ∙ none_named_before tunable_name x.items (subst EachOnce tunings fits.tunables.once) k (Tunable name setting) name.name there refl in
-        let kind = kind_there k name setting there in
+        ∙ none_named_before tunable_name x.items (subst EachOnce tunings fits.tunables.once) k (Tunable name values) name.name there refl in
+        let kind = kind_there k name values there in
         let known = ap (λ o. is_no_tunable o name.name) required ∙ ap is_none kind in
-        let same_kind = ap (λ o. is_other_kind o name.name setting) required ∙ (ap (λ o. is_other o setting) kind ∙ same_setting (is_list setting)) in
+        let same_kind = ap (λ o. is_other_kind o name.name values.first) required ∙ (ap (λ o. is_other o values.first) kind ∙ same_setting (is_list values.first)) in
         (no_word code.DupItem name _ again, (no_word code.TunableUnknown name _ known, (no_word code.TunableKind name _ same_kind, h)))
     item_none k (Spread word rule) there later h =
         let again = ap (λ o. stands_before o k) (spreads.once i k x word rule at there) ∙ not_itself k in

@@ -215,8 +215,8 @@ inside s x = record { scope = s; required = required_of s x; level = level_of s.
 
 -- the i-th item
 abbrev pub item_rules : Inside → ℕ → ItemText → List Rule
-item_rules n i (Tunable name setting) =
-    dup_item (tunable_index n.items name.name) i name ∷ tunable_unknown n.required name ∷ tunable_kind n.required name setting ∷ []
+item_rules n i (Tunable name values) =
+    dup_item (tunable_index n.items name.name) i name ∷ tunable_unknown n.required name ∷ tunable_kind n.required name values.first ∷ []
 item_rules n i (Call task name) =
     dup_item (call_index n.items task.name) i task ∷ call_unknown n.required task ∷ no_instance n.scope.instances name
     ∷ call_task (instance_of n.scope.instances name.name) task.name name ∷ level_skip n.level (level_at n.scope (instance_of n.scope.instances name.name)) name ∷ []

@@ -1,4 +1,5 @@
--- The grammar of mapping files. Every word may be a name.
+-- The grammar of mapping files. Every word may be a name. Where tunables are varied, alternatives may stand behind their
+-- values.
 use Rattle.std.specs.Prelude.{ℕ, ℤ, pos, List, [], ◌∷◌, codes}
 use Rattle.std.proofs.Math.IntN.{neg_ℤ}
 use Rattle.sq_text.specs.declared.place.Place.{Place}
@@ -15,6 +16,9 @@ use Rattle.sq_mapfile.specs.declared.mapping.Setting.{Setting}
 use Rattle.sq_mapfile.specs.declared.mapping.Setting.TheVariants.{One, Many}
 use Rattle.sq_mapfile.specs.declared.text.Version.{Version}
 use Rattle.sq_mapfile.specs.declared.text.Version.TheVariants.{First, Second}
+use Rattle.sq_mapfile.specs.declared.text.Tunables.{Tunables}
+use Rattle.sq_mapfile.specs.declared.text.Tunables.TheVariants.{Fixed, Varied}
+use Rattle.sq_mapfile.specs.declared.text.Alternatives.{Alternatives}
 use Rattle.sq_mapfile.specs.declared.text.SizeText.{SizeText}
 use Rattle.sq_mapfile.specs.declared.text.ItemText.{ItemText}
 use Rattle.sq_mapfile.specs.declared.text.ItemText.TheVariants.{Tunable, Call, Spread}
@@ -26,6 +30,9 @@ word place name = record { place = place; name = name }
 
 abbrev pub size : Placed → ℕ → SizeText
 size name value = record { name = name; value = pos value }
+
+abbrev pub values : Setting → List Setting → Alternatives
+values first others = record { first = first; others = others }
 
 abbrev pub instance : Placed → Placed → VariantKind → Placed → List ItemText → InstanceText
 instance name task kind level items = record { name = name; task = task; kind = kind; level = level; items = items }
@@ -44,13 +51,14 @@ pub data Phrase : Type 0 where
   Values : List ℤ → Phrase  -- all values of a list
   MoreValues : List ℤ → Phrase  -- those behind the first
   ASetting : Setting → Phrase
+  Others : Tunables → List Setting → Phrase  -- the alternatives behind the first
   ARule : SpreadRule → Phrase
-  AnItem : Version → ItemText → Phrase
-  Items : Version → List ItemText → Phrase
+  AnItem : Tunables → Version → ItemText → Phrase
+  Items : Tunables → Version → List ItemText → Phrase
   AKind : VariantKind → Phrase
-  AnInstance : Version → InstanceText → Phrase
-  Instances : Version → List InstanceText → Phrase
-  AMapping : MappingText → Phrase
+  AnInstance : Tunables → Version → InstanceText → Phrase
+  Instances : Tunables → Version → List InstanceText → Phrase
+  AMapping : Tunables → MappingText → Phrase
 
 -- The first tokens begin with the phrase, and the second are left after it. A number `1` or `2` is any number token of
 -- that value.
@@ -75,42 +83,50 @@ pub data Derives : Phrase → List Token → List Token → Type 0 where
   one : {x : ℤ} {i j : List Token} → Derives (AValue x) i j → Derives (ASetting (One x)) i j
   many : {p q : Place} {xs : List ℤ} {i j : List Token}
       → Derives (Values xs) i (token (Sign sign.BracketClose) q ∷ j) → Derives (ASetting (Many xs)) (token (Sign sign.BracketOpen) p ∷ i) j
-  -- `tunable NAME = VALUE;`
-  a_tunable : {version : Version} {p q r s : Place} {name : List ℕ} {setting : Setting} {i j : List Token}
-      → Derives (ASetting setting) i (token (Sign sign.Semi) s ∷ j)
-      → Derives (AnItem version (Tunable (word q name) setting)) (token (Word (codes "tunable")) p ∷ token (Word name) q ∷ token (Sign sign.Set) r ∷ i) j
+  no_other : {tunables : Tunables} {i : List Token} → Derives (Others tunables []) i i
+  -- `| VALUE`, where tunables are varied
+  another : {p : Place} {x : Setting} {rest : List Setting} {i j l : List Token}
+      → Derives (ASetting x) i j → Derives (Others Varied rest) j l → Derives (Others Varied (x ∷ rest)) (token (Sign sign.Bar) p ∷ i) l
+  -- `tunable NAME = VALUE;`, with alternatives
+  a_tunable : {tunables : Tunables} {version : Version} {p q r s : Place} {name : List ℕ} {setting : Setting} {others : List Setting} {i j l : List Token}
+      → Derives (ASetting setting) i j → Derives (Others tunables others) j (token (Sign sign.Semi) s ∷ l)
+      → Derives (AnItem tunables version (Tunable (word q name) (values setting others))) (token (Word (codes "tunable")) p ∷ token (Word name) q ∷ token (Sign sign.Set) r ∷ i) l
   -- `call TASK -> INSTANCE;`
-  a_call : {version : Version} {p q r s t : Place} {task name : List ℕ} {i : List Token}
-      → Derives (AnItem version (Call (word q task) (word s name)))
+  a_call : {tunables : Tunables} {version : Version} {p q r s t : Place} {task name : List ℕ} {i : List Token}
+      → Derives (AnItem tunables version (Call (word q task) (word s name)))
       (token (Word (codes "call")) p ∷ token (Word task) q ∷ token (Sign sign.Arrow) r ∷ token (Word name) s ∷ token (Sign sign.Semi) t ∷ i) i
   cyclic : {p : Place} {i : List Token} → Derives (ARule Cyclic) (token (Word (codes "cyclic")) p ∷ i) i
   blocked : {p : Place} {i : List Token} → Derives (ARule Blocked) (token (Word (codes "blocked")) p ∷ i) i
   -- `spread = RULE;`, in version 2 alone
-  a_spread : {p q r : Place} {rule : SpreadRule} {i j : List Token}
+  a_spread : {tunables : Tunables} {p q r : Place} {rule : SpreadRule} {i j : List Token}
       → Derives (ARule rule) i (token (Sign sign.Semi) r ∷ j)
-      → Derives (AnItem Second (Spread (word p (codes "spread")) rule)) (token (Word (codes "spread")) p ∷ token (Sign sign.Set) q ∷ i) j
-  no_item : {version : Version} {i : List Token} → Derives (Items version []) i i
-  an_item : {version : Version} {x : ItemText} {rest : List ItemText} {i j l : List Token}
-      → Derives (AnItem version x) i j → Derives (Items version rest) j l → Derives (Items version (x ∷ rest)) i l
+      → Derives (AnItem tunables Second (Spread (word p (codes "spread")) rule)) (token (Word (codes "spread")) p ∷ token (Sign sign.Set) q ∷ i) j
+  no_item : {tunables : Tunables} {version : Version} {i : List Token} → Derives (Items tunables version []) i i
+  an_item : {tunables : Tunables} {version : Version} {x : ItemText} {rest : List ItemText} {i j l : List Token}
+      → Derives (AnItem tunables version x) i j → Derives (Items tunables version rest) j l → Derives (Items tunables version (x ∷ rest)) i l
   inner : {p : Place} {i : List Token} → Derives (AKind Inner) (token (Word (codes "inner")) p ∷ i) i
   leaf : {p : Place} {i : List Token} → Derives (AKind Leaf) (token (Word (codes "leaf")) p ∷ i) i
   -- `instance NAME = TASK::KIND @ LEVEL { ITEMS }`
-  an_instance : {version : Version} {p q r s t u v w x : Place} {name task level : List ℕ} {kind : VariantKind} {items : List ItemText} {i j l : List Token}
+  an_instance : {tunables : Tunables} {version : Version} {p q r s t u v w x : Place} {name task level : List ℕ} {kind : VariantKind} {items : List ItemText} {i j l : List Token}
       → Derives (AKind kind) i (token (Sign sign.At) u ∷ token (Word level) v ∷ token (Sign sign.BraceOpen) w ∷ j)
-      → Derives (Items version items) j (token (Sign sign.BraceClose) x ∷ l)
-      → Derives (AnInstance version (instance (word q name) (word s task) kind (word v level) items))
+      → Derives (Items tunables version items) j (token (Sign sign.BraceClose) x ∷ l)
+      → Derives (AnInstance tunables version (instance (word q name) (word s task) kind (word v level) items))
       (token (Word (codes "instance")) p ∷ token (Word name) q ∷ token (Sign sign.Set) r ∷ token (Word task) s ∷ token (Sign sign.Path) t ∷ i) l
-  no_instance : {version : Version} {i : List Token} → Derives (Instances version []) i i
-  one_more_instance : {version : Version} {x : InstanceText} {rest : List InstanceText} {i j l : List Token}
-      → Derives (AnInstance version x) i j → Derives (Instances version rest) j l → Derives (Instances version (x ∷ rest)) i l
+  no_instance : {tunables : Tunables} {version : Version} {i : List Token} → Derives (Instances tunables version []) i i
+  one_more_instance : {tunables : Tunables} {version : Version} {x : InstanceText} {rest : List InstanceText} {i j l : List Token}
+      → Derives (AnInstance tunables version x) i j → Derives (Instances tunables version rest) j l → Derives (Instances tunables version (x ∷ rest)) i l
   -- `mapping VERSION; entry NAME(SIZES);`, and the instances
-  a_mapping : {version : Version} {p q r s t u v w : Place} {name : List ℕ} {sizes : List SizeText} {instances : List InstanceText} {i j l : List Token}
+  a_mapping : {tunables : Tunables} {version : Version} {p q r s t u v w : Place} {name : List ℕ} {sizes : List SizeText} {instances : List InstanceText} {i j l : List Token}
       → Derives (Sizes sizes) i (token (Sign sign.ParenClose) v ∷ token (Sign sign.Semi) w ∷ j)
-      → Derives (Instances version instances) j l
-      → Derives (AMapping (mapping (word t name) sizes instances))
+      → Derives (Instances tunables version instances) j l
+      → Derives (AMapping tunables (mapping (word t name) sizes instances))
       (token (Word (codes "mapping")) p ∷ token (Number (pos (number_of version))) q ∷ token (Sign sign.Semi) r ∷ token (Word (codes "entry")) s ∷ token (Word name) t ∷ token (Sign sign.ParenOpen) u ∷ i) l
 
--- the tokens are a text of this mapping
-pub record IsText (tokens : List Token) (m : MappingText) : Type 0 where
+-- the tokens are a text of this mapping, with alternatives where tunables are varied
+pub record IsTextOf (tunables : Tunables) (tokens : List Token) (m : MappingText) : Type 0 where
   pub end : Place
-  pub text : Derives (AMapping m) tokens (token End end ∷ [])
+  pub text : Derives (AMapping tunables m) tokens (token End end ∷ [])
+
+-- the tokens are a text of this mapping
+abbrev pub IsText : List Token → MappingText → Type 0
+IsText = IsTextOf Fixed

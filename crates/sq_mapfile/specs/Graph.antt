@@ -25,7 +25,7 @@ call_to caller (Some callee) name later = record { caller = caller; callee = cal
 
 -- the call of the k-th of these items: of two items for one task the first counts
 abbrev pub item_calls : List InstanceText → ℕ → List ItemText → ℕ → ItemText → Part
-item_calls instances caller items k (Tunable name setting) later = later
+item_calls instances caller items k (Tunable name values) later = later
 item_calls instances caller items k (Call task name) later =
     if stands_before (call_index items task.name) k then later else call_to caller (index_of instances name.name) name later
 item_calls instances caller items k (Spread word rule) later = later

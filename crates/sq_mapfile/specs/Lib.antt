@@ -5,6 +5,10 @@ pub mod Faults
 pub mod Cycles
 pub mod Grammar
 pub mod Mappings
+pub mod Choices
+pub mod Digits
+pub mod Chosen
+pub mod Made
 pub mod Sound
 pub mod Ranks
 pub mod Reading

@@ -13,7 +13,6 @@ use Rattle.sq_patterns.specs.Texts as texts
 use Rattle.sq_ast.specs.declared.program.VariantKind.TheVariants.{Inner}
 use Rattle.sq_ast.specs.declared.program.Program.{Program}
 use Rattle.sq_machfile.specs.declared.level.Level.{Level}
-use Rattle.sq_mapfile.specs.declared.mapping.Setting.{Setting}
 use Rattle.sq_mapfile.specs.declared.mapping.Tuning.{Tuning}
 use Rattle.sq_mapfile.specs.declared.mapping.Route.{Route}
 use Rattle.sq_mapfile.specs.declared.mapping.Instance.{Instance}
@@ -24,8 +23,11 @@ use Rattle.sq_mapfile.specs.declared.text.ItemText.{ItemText}
 use Rattle.sq_mapfile.specs.declared.text.ItemText.TheVariants.{Tunable, Call, Spread}
 use Rattle.sq_mapfile.specs.declared.text.InstanceText.{InstanceText}
 use Rattle.sq_mapfile.specs.declared.text.MappingText.{MappingText}
+use Rattle.sq_mapfile.specs.declared.text.Alternatives.{Alternatives}
+use Rattle.sq_mapfile.specs.declared.text.Tunables.{Tunables}
+use Rattle.sq_mapfile.specs.declared.text.Tunables.TheVariants.{Fixed}
 use Rattle.sq_mapfile.specs.Names.{index_of, spread_index, level_of}
-use Rattle.sq_mapfile.specs.Grammar.{IsText}
+use Rattle.sq_mapfile.specs.Grammar.{IsTextOf}
 use Rattle.sq_mapfile.specs.Faults.{NameFault}
 use Rattle.sq_mapfile.specs.Cycles.{CycleFault}
 
@@ -33,7 +35,7 @@ use Rattle.sq_mapfile.specs.Cycles.{CycleFault}
 
 abbrev pub tunings_of : List ItemText → List Tuning
 tunings_of [] = []
-tunings_of (Tunable name setting ∷ rest) = record { name = name.name; setting = setting } ∷ tunings_of rest
+tunings_of (Tunable name values ∷ rest) = record { name = name.name; setting = values.first } ∷ tunings_of rest
 tunings_of (_ ∷ rest) = tunings_of rest
 
 -- the first rule that is chosen; where none is, the iterations go round
@@ -45,8 +47,8 @@ spread_of (_ ∷ rest) = spread_of rest
 -- the routes of the calls, in the order of the text, each to the instance of the name
 pub data AreRoutes (instances : List InstanceText) : List ItemText → List Route → Type 0 where
   no_route : AreRoutes instances [] []
-  no_call : {name : Word} {setting : Setting} {items : List ItemText} {routes : List Route}
-      → AreRoutes instances items routes → AreRoutes instances (Tunable name setting ∷ items) routes
+  no_call : {name : Word} {values : Alternatives} {items : List ItemText} {routes : List Route}
+      → AreRoutes instances items routes → AreRoutes instances (Tunable name values ∷ items) routes
   no_rule : {word : Word} {rule : SpreadRule} {items : List ItemText} {routes : List Route}
       → AreRoutes instances items routes → AreRoutes instances (Spread word rule ∷ items) routes
   a_route : {task name : Word} {i : ℕ} {items : List ItemText} {routes : List Route}
@@ -83,35 +85,45 @@ pub record SpreadsOnce (m : MappingText) : Type 0 where
 
 -- ---- texts
 
--- the text, which is no longer than a mapping file may be, is written by the grammar as this mapping
-pub record Writes (text : List ℕ) (m : MappingText) : Type 0 where
+-- The text, which is no longer than a mapping file may be, is written by the grammar as this mapping, with alternatives
+-- where tunables are varied.
+pub record WritesAs (tunables : Tunables) (text : List ℕ) (m : MappingText) : Type 0 where
   pub tokens : List Token
   pub tokens_of : AreTokens text tokens
   pub fits : FitsFile phase.Mapping text
-  pub grammar : IsText tokens m
+  pub grammar : IsTextOf tunables tokens m
+
+-- it is written as this mapping
+abbrev pub Writes : List ℕ → MappingText → Type 0
+Writes = WritesAs Fixed
 
 -- the first token with which no text of the grammar begins
-abbrev pub IsSyntaxFault : List Token → Fault → Type 0
-IsSyntaxFault = texts.IsSyntaxFault IsText phase.Mapping
+abbrev pub IsSyntaxFaultOf : Tunables → List Token → Fault → Type 0
+IsSyntaxFaultOf tunables = texts.IsSyntaxFault (IsTextOf tunables) phase.Mapping
 
-pub record SyntaxFault (text : List ℕ) (f : Fault) : Type 0 where
+pub record SyntaxFault (tunables : Tunables) (text : List ℕ) (f : Fault) : Type 0 where
   pub tokens : List Token
   pub tokens_of : AreTokens text tokens
-  pub faulty : IsSyntaxFault tokens f
+  pub faulty : IsSyntaxFaultOf tunables tokens f
 
 -- a rule of the mapping is broken: one of names, or that no call lies on a cycle
 abbrev pub BreaksRule : Program → List Level → MappingText → Fault → Type 0
 BreaksRule program levels m f = NameFault program levels m f ⊎ CycleFault m f
 
-pub record RuleFault (program : Program) (levels : List Level) (text : List ℕ) (f : Fault) : Type 0 where
+-- what the text is written as breaks a rule
+pub record RuleFault (tunables : Tunables) (Breaks : MappingText → Fault → Type 0) (text : List ℕ) (f : Fault) : Type 0 where
   pub mapping : MappingText
-  pub writes : Writes text mapping
-  pub broken : BreaksRule program levels mapping f
+  pub writes : WritesAs tunables text mapping
+  pub broken : Breaks mapping f
 
--- Every fault of a mapping file, for a program and a machine of these levels: of the file and its tokens; where there
--- is none, of the grammar; and where there is none, of the rules.
+-- Every fault of a file: of its length and its tokens; where there is none, of the grammar; and where there is none, of
+-- these rules.
+abbrev pub FileFault : Tunables → (MappingText → Fault → Type 0) → List ℕ → Fault → Type 0
+FileFault tunables Breaks text = InTurn (HasFault phase.Mapping text) (InTurn (SyntaxFault tunables text) (RuleFault tunables Breaks text))
+
+-- every fault of a mapping file, for a program and a machine of these levels
 abbrev pub MappingFault : Program → List Level → List ℕ → Fault → Type 0
-MappingFault program levels text = InTurn (HasFault phase.Mapping text) (InTurn (SyntaxFault text) (RuleFault program levels text))
+MappingFault program levels = FileFault Fixed (BreaksRule program levels)
 
 -- the text stands for this mapping onto a machine of these levels
 pub record StandsFor (levels : List Level) (text : List ℕ) (mapping : Mapping) : Type 0 where

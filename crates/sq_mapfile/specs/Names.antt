@@ -47,7 +47,7 @@ instance_of instances name = at_index instances (index_of instances name)
 -- ---- items and sizes
 
 abbrev pub is_tunable : Bytes → ItemText → Bool
-is_tunable name (Tunable word setting) = same_name name word.name
+is_tunable name (Tunable word values) = same_name name word.name
 is_tunable name _ = false
 
 abbrev pub is_call : Bytes → ItemText → Bool

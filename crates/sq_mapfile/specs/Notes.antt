@@ -17,8 +17,8 @@ Rules = List Rule → List Rule
 
 -- the i-th item
 abbrev pub item_rules : Inside → ℕ → ItemText → Rules
-item_rules n i (Tunable name setting) later =
-    dup_item (tunable_index n.items name.name) i name ∷ tunable_unknown n.required name ∷ tunable_kind n.required name setting ∷ later
+item_rules n i (Tunable name values) later =
+    dup_item (tunable_index n.items name.name) i name ∷ tunable_unknown n.required name ∷ tunable_kind n.required name values.first ∷ later
 item_rules n i (Call task name) later =
     dup_item (call_index n.items task.name) i task ∷ call_unknown n.required task ∷ no_instance n.scope.instances name
     ∷ call_task (instance_of n.scope.instances name.name) task.name name ∷ level_skip n.level (level_at n.scope (instance_of n.scope.instances name.name)) name ∷ later

@@ -12,11 +12,14 @@ use Rattle.sq_text.specs.declared.spread.SpreadRule.{SpreadRule}
 use Rattle.sq_text.specs.declared.spread.SpreadRule.TheVariants as spreading
 use Rattle.sq_text.specs.declared.word.Word.{Word}
 use Rattle.sq_patterns.specs.Reading.{Reader, ◌>>=◌, pure, all, choice, until, finish, word_in, number_in}
-use Rattle.sq_mapfile.specs.Grammar.{number_of}
+use Rattle.sq_mapfile.specs.Grammar.{number_of, values as alternatives_of}
 use Rattle.sq_mapfile.specs.declared.mapping.Setting.{Setting}
 use Rattle.sq_mapfile.specs.declared.mapping.Setting.TheVariants.{One, Many}
 use Rattle.sq_mapfile.specs.declared.text.Version.{Version}
 use Rattle.sq_mapfile.specs.declared.text.Version.TheVariants.{First, Second}
+use Rattle.sq_mapfile.specs.declared.text.Tunables.{Tunables}
+use Rattle.sq_mapfile.specs.declared.text.Tunables.TheVariants.{Fixed, Varied}
+use Rattle.sq_mapfile.specs.declared.text.Alternatives.{Alternatives}
 use Rattle.sq_mapfile.specs.declared.text.SizeText.{SizeText}
 use Rattle.sq_mapfile.specs.declared.text.ItemText.{ItemText}
 use Rattle.sq_mapfile.specs.declared.text.ItemText.TheVariants.{Tunable, Call, Spread}
@@ -100,18 +103,37 @@ one = do
 abbrev pub setting : Reader Setting
 setting = choice (s.Sign g.BracketOpen) many one
 
+abbrev pub next_setting : Reader Setting
+next_setting = do
+  bar ← all (s.Sign g.Bar ∷ [])
+  setting
+
+unfoldable pub more_settings : Reader (List Setting)
+more_settings = λ i. until (s.Sign g.Semi) next_setting (length i) [] i
+
+-- the settings behind the first one
+abbrev pub others : Tunables → Reader (List Setting)
+others Fixed = pure []
+others Varied = more_settings
+
+abbrev pub alternatives : Tunables → Reader Alternatives
+alternatives tunables = do
+  first ← setting
+  others ← others tunables
+  pure (alternatives_of first others)
+
 abbrev pub tunable_patterns : List Pattern
 tunable_patterns = s.Tunable ∷ s.AnyWord ∷ s.Sign g.Set ∷ []
 
 abbrev pub call_patterns : List Pattern
 call_patterns = s.Call ∷ s.AnyWord ∷ s.Sign g.Arrow ∷ s.AnyWord ∷ s.Sign g.Semi ∷ []
 
-abbrev pub tunable : Reader ItemText
-tunable = do
+abbrev pub tunable : Tunables → Reader ItemText
+tunable tunables = do
   read ← all tunable_patterns
-  setting ← setting
+  values ← alternatives tunables
   semi ← all (s.Sign g.Semi ∷ [])
-  pure (Tunable (word_in (slice_get read 1)) setting)
+  pure (Tunable (word_in (slice_get read 1)) values)
 
 abbrev pub call : Reader ItemText
 call = do
@@ -141,15 +163,15 @@ spread = do
   semi ← all (s.Sign g.Semi ∷ [])
   pure (Spread (word_in (slice_get read 0)) rule)
 
-abbrev pub plain_item : Reader ItemText
-plain_item = choice s.Tunable tunable call
+abbrev pub plain_item : Tunables → Reader ItemText
+plain_item tunables = choice s.Tunable (tunable tunables) call
 
-abbrev pub item : Version → Reader ItemText
-item First = plain_item
-item Second = choice s.Spread spread plain_item
+abbrev pub item : Tunables → Version → Reader ItemText
+item tunables First = plain_item tunables
+item tunables Second = choice s.Spread spread (plain_item tunables)
 
-unfoldable pub items : Version → Reader (List ItemText)
-items version = λ i. until (s.Sign g.BraceClose) (item version) (length i) [] i
+unfoldable pub items : Tunables → Version → Reader (List ItemText)
+items tunables version = λ i. until (s.Sign g.BraceClose) (item tunables version) (length i) [] i
 
 abbrev pub inner : Reader VariantKind
 inner = do
@@ -174,17 +196,17 @@ abbrev pub instance_of : List Token → VariantKind → List Token → List Item
 instance_of head kind level items =
     record { name = word_in (slice_get head 1); task = word_in (slice_get head 3); kind = kind; level = word_in (slice_get level 1); items = items }
 
-abbrev pub instance : Version → Reader InstanceText
-instance version = do
+abbrev pub instance : Tunables → Version → Reader InstanceText
+instance tunables version = do
   head ← all instance_patterns
   kind ← kind
   level ← all level_patterns
-  items ← items version
+  items ← items tunables version
   closing ← all (s.Sign g.BraceClose ∷ [])
   pure (instance_of head kind level items)
 
-unfoldable pub instances : Version → Reader (List InstanceText)
-instances version = λ i. until s.End (instance version) (length i) [] i
+unfoldable pub instances : Tunables → Version → Reader (List InstanceText)
+instances tunables version = λ i. until s.End (instance tunables version) (length i) [] i
 
 abbrev pub head_patterns : List Pattern
 head_patterns = s.Sign g.Semi ∷ s.Entry ∷ s.AnyWord ∷ s.Sign g.ParenOpen ∷ []
@@ -203,15 +225,15 @@ entry version = do
   closing ← all sizes_end
   pure (word_in (slice_get head 3), sizes)
 
-unfoldable pub body : Version → Reader MappingText
-body version = do
+unfoldable pub body : Tunables → Version → Reader MappingText
+body tunables version = do
   entry ← entry version
-  instances ← instances version
+  instances ← instances tunables version
   end ← all (s.End ∷ [])
   finish (record { entry = entry.0; sizes = entry.1; instances = instances })
 
 -- the number of the version decides
-abbrev pub mapping : Reader MappingText
-mapping = do
+abbrev pub mapping : Tunables → Reader MappingText
+mapping tunables = do
   word ← all (s.Mapping ∷ [])
-  choice (s.Exactly 1) (body First) (body Second)
+  choice (s.Exactly 1) (body tunables First) (body tunables Second)

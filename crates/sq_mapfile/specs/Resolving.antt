@@ -18,7 +18,7 @@ or_zero (Some i) = if ltb i (2 ^ 32) then i else 0
 
 abbrev pub routes_of : List InstanceText → List ItemText → List Route
 routes_of instances [] = []
-routes_of instances (Tunable name setting ∷ rest) = routes_of instances rest
+routes_of instances (Tunable name values ∷ rest) = routes_of instances rest
 routes_of instances (Spread word rule ∷ rest) = routes_of instances rest
 routes_of instances (Call task name ∷ rest) = record { task = task.name; instance = or_zero (index_of instances name.name) } ∷ routes_of instances rest
 

@@ -89,8 +89,8 @@ impl<'a> Inside<'a> {
         ensures { OnOk result (Finds breach_of found.old found.new (spec.item_rules (inside_of self.now) i item.now)) }
     {
         match item {
-            ItemText::Tunable { name, setting } => {
-                self.tunable(found, i, name, setting)?;
+            ItemText::Tunable { name, values } => {
+                self.tunable(found, i, name, &values.first)?;
                 Ok(())
             }
             ItemText::Call { task, instance } => {

@@ -1,9 +1,12 @@
 //! Mapping files: which variant of which task runs at which level, with its tunables and calls.
 #![tactic(auto)]
 
+mod alternatives;
 mod calls;
+mod choices;
 mod components;
 mod cycle;
+mod digits;
 mod entry;
 mod given;
 mod graph;
@@ -21,11 +24,13 @@ mod scope;
 mod table;
 mod tasks;
 mod text;
+mod tunings;
 mod walk;
 
+pub use choices::Choices;
 pub use mapping::{
     Instance, Instances, Mapping, Numbers, Route, Routes, Setting, SizeSet, SizeSets, Tuning,
     Tunings,
 };
-pub use reader::read_mapping;
+pub use reader::{read_choices, read_mapping};
 pub use sq_machfile::{Machine, Node};

@@ -1,6 +1,6 @@
 //! Reading mappings.
 
-ghost use Rattle.std.specs.Prelude.{◌≡◌, IfOk};
+ghost use Rattle.std.specs.Prelude.{◌≡◌, ◌<◌, ℕ, IfOk};
 ghost use Rattle.sq_text.specs.declared.fault.Fault.{Fault};
 ghost use Rattle.sq_text.specs.Faults.{IsFirst};
 ghost use Rattle.sq_text.specs.Answers.{Answers, Gives};
@@ -9,15 +9,19 @@ ghost use Rattle.sq_mapfile.specs.declared.text.MappingText.{MappingText};
 ghost use Rattle.sq_mapfile.specs.Resolving.{mapping_with};
 ghost use Rattle.sq_mapfile.specs.Mappings.{BreaksRule, MappingFault, Resolves, SpreadsOnce, StandsFor, Writes};
 ghost use Rattle.sq_mapfile.specs.Sound.{Sound};
+ghost use Rattle.sq_mapfile.specs.Choices.{BreaksChoices, ChoicesFault, instances_count};
+ghost use Rattle.sq_mapfile.specs.Made.{AreChoices, AreReadAlone, StandFor, mapping_of};
 
+use crate::choices::{Choices, made};
 use crate::cycle::note_cycle;
 use crate::mapping::Mapping;
 use crate::reading::parse;
 use crate::resolve::resolve;
 use crate::table::InstanceTable;
-use crate::text::MappingText;
-use crate::walk::note_names;
+use crate::text::{MappingText, Tunables};
+use crate::walk::{note_choices, note_names};
 use sq_ast::Program;
+use sq_lexer::laws::each_text_has_tokens_or_breaks;
 use sq_lexer::tokens;
 use sq_machfile::{Level, Machine};
 use sq_text::{Fault, FirstFault, Phase, Stop};
@@ -83,9 +87,85 @@ pub fn read_mapping(
         Ok(tokens) => tokens,
         Err(stop) => return Err(stop),
     };
-    let written = match parse(alloc, tokens.as_slice()) {
+    let written = match parse(alloc, tokens.as_slice(), Tunables::Fixed) {
         Ok(written) => written,
         Err(stop) => return Err(stop),
     };
     judged(alloc, typed.program(), machine.levels(), &written)
+}
+
+// What the choices break first, and how many they are, as far as one more than there may be.
+#[derive(Drop)]
+struct ChoicesJudged {
+    fault: Option<Fault>,
+    count: u64,
+}
+
+// The first rule that the choices break.
+fn first_fault_of_choices(
+    alloc: Global,
+    program: &Program,
+    table: &InstanceTable<'_>,
+    mapping: &MappingText,
+) -> Result<ChoicesJudged, AllocError>
+    requires { table.now.instances.now ≡ mapping.now.instances }
+    ensures fault { IfOk result (λ its. IsFirst (BreaksChoices program.now table.now.levels.now mapping.now) its.fault) }
+    ensures count { IfOk result (λ its. its.count ≡ instances_count 1 mapping.now.instances) }
+{
+    let mut found = FirstFault::new(alloc, Phase::Mapping);
+    note_names(alloc, &mut found, program, table, mapping)?;
+    let count = note_choices(alloc, &mut found, program, table, mapping)?;
+    note_cycle(alloc, &mut found, table)?;
+    Ok(ChoicesJudged {
+        fault: found.finish(),
+        count,
+    })
+}
+
+// The choices, where they keep every rule.
+fn judged_choices(
+    alloc: Global,
+    program: &Program,
+    levels: &[Level],
+    written: &MappingText,
+) -> Result<Choices, Stop>
+    ensures answers { Answers (BreaksChoices program.now levels.now written.now) result }
+    ensures found { IfOk result (λ choices. AreChoices levels.now written.now choices) }
+{
+    let table = InstanceTable::new(alloc, levels, written.instances.as_slice())?;
+    let ChoicesJudged { fault, count } = first_fault_of_choices(alloc, program, &table, written)?;
+    if let Some(fault) = fault {
+        return Err(Stop::Refused(fault));
+    }
+    let choices = made(alloc, &table, written, count)?;
+    Ok(choices)
+}
+
+/// The choices that a text with alternatives stands for, or its first fault. The faults are those of a mapping, of every
+/// alternative, and too many choices.
+pub fn read_choices(
+    alloc: Global,
+    text: &[u8],
+    typed: &Typed,
+    machine: &Machine,
+) -> Result<Choices, Stop>
+    // Ok exactly where no fault holds; else the first one.
+    ensures answers { Answers (ChoicesFault typed.now machine.now.levels text.now) result }
+    ensures found { IfOk result (λ choices. StandFor machine.now.levels text.now choices) }
+    // Each choice's mapping is what `read_mapping` gives of the text with its alternatives alone.
+    ensures alone { IfOk result (λ choices. AreReadAlone typed.now machine.now.levels text.now choices) }
+    // And it is what the program and the machine want.
+    ensures sound { IfOk result (λ choices. (n : ℕ) → n < choices.number → Sound typed.now machine.now.levels
+        (mapping_of choices n)) }
+{
+    each_text_has_tokens_or_breaks();
+    let tokens = match tokens(alloc, Phase::Mapping, text) {
+        Ok(tokens) => tokens,
+        Err(stop) => return Err(stop),
+    };
+    let written = match parse(alloc, tokens.as_slice(), Tunables::Varied) {
+        Ok(written) => written,
+        Err(stop) => return Err(stop),
+    };
+    judged_choices(alloc, typed.program(), machine.levels(), &written)
 }

@@ -3,13 +3,13 @@
 ghost use Rattle.std.specs.Prelude.{◌≡◌, ◌≤◌, IfOk};
 ghost use Rattle.sq_text.specs.Answers.{IfRefused};
 ghost use Rattle.sq_lexer.specs.Tokens.{HasEnd};
-ghost use Rattle.sq_mapfile.specs.Grammar.{IsText};
-ghost use Rattle.sq_mapfile.specs.Mappings.{IsSyntaxFault};
+ghost use Rattle.sq_mapfile.specs.Grammar.{IsTextOf};
+ghost use Rattle.sq_mapfile.specs.Mappings.{IsSyntaxFaultOf};
 ghost use Rattle.sq_mapfile.specs.Reading as spec;
 ghost use Rattle.sq_patterns.specs.Reading.{Reads, ReadsFront};
 
 use crate::mapping::{Numbers, Setting};
-use crate::text::{InstanceText, ItemText, MappingText, SizeText, Version};
+use crate::text::{Alternatives, InstanceText, ItemText, MappingText, SizeText, Tunables, Version};
 use sq_ast::VariantKind;
 use sq_lexer::{Sign, Token};
 use sq_patterns::{Pattern, ReadError, Tokens, number_at, syntax_fault, word_at};
@@ -213,16 +213,68 @@ fn setting(alloc: Global, tokens: &mut Tokens<'_>) -> Result<Setting, ReadError>
     Ok(Setting::One(number))
 }
 
+fn next_setting(alloc: Global, tokens: &mut Tokens<'_>) -> Result<Setting, ReadError>
+    ensures { Reads (spec.next_setting tokens.old) result tokens.new }
+{
+    let _bar = tokens.all(&[Pattern::Sign(Sign::Bar)])?;
+    setting(alloc, tokens)
+}
+
+// The settings behind the first one, up to the semicolon.
+#[tactic(auto, unfolding(crate::specs::Reading::more_settings, sq_patterns::specs::Reading::until))]
+fn more_settings(alloc: Global, tokens: &mut Tokens<'_>) -> Result<Items<Setting>, ReadError>
+    ensures { Reads (spec.more_settings tokens.old) result tokens.new }
+{
+    let mut found = Items::new(alloc);
+    for _turn in 0..tokens.len() {
+        if tokens.sees(Pattern::Sign(Sign::Semi)) {
+            return Ok(found);
+        }
+        let next = next_setting(alloc, tokens)?;
+        found.push(next)?;
+    }
+    Ok(found)
+}
+
+fn others(
+    alloc: Global,
+    tokens: &mut Tokens<'_>,
+    tunables: Tunables,
+) -> Result<Items<Setting>, ReadError>
+    ensures { Reads (spec.others tunables tokens.old) result tokens.new }
+{
+    match tunables {
+        Tunables::Fixed => Ok(Items::new(alloc)),
+        Tunables::Varied => more_settings(alloc, tokens),
+    }
+}
+
+fn alternatives(
+    alloc: Global,
+    tokens: &mut Tokens<'_>,
+    tunables: Tunables,
+) -> Result<Alternatives, ReadError>
+    ensures { Reads (spec.alternatives tunables tokens.old) result tokens.new }
+{
+    let first = setting(alloc, tokens)?;
+    let others = others(alloc, tokens, tunables)?;
+    Ok(Alternatives { first, others })
+}
+
 // ---- instances
 
-fn tunable(alloc: Global, tokens: &mut Tokens<'_>) -> Result<ItemText, ReadError>
-    ensures { Reads (spec.tunable tokens.old) result tokens.new }
+fn tunable(
+    alloc: Global,
+    tokens: &mut Tokens<'_>,
+    tunables: Tunables,
+) -> Result<ItemText, ReadError>
+    ensures { Reads (spec.tunable tunables tokens.old) result tokens.new }
 {
     let read = tokens.all(&TUNABLE)?;
-    let setting = setting(alloc, tokens)?;
+    let values = alternatives(alloc, tokens, tunables)?;
     let _semi = tokens.all(&[Pattern::Sign(Sign::Semi)])?;
     let name = word_at(alloc, read, 1)?;
-    Ok(ItemText::Tunable { name, setting })
+    Ok(ItemText::Tunable { name, values })
 }
 
 fn call(alloc: Global, tokens: &mut Tokens<'_>) -> Result<ItemText, ReadError>
@@ -256,25 +308,34 @@ fn spread(alloc: Global, tokens: &mut Tokens<'_>) -> Result<ItemText, ReadError>
 }
 
 // An item of either version.
-fn plain_item(alloc: Global, tokens: &mut Tokens<'_>) -> Result<ItemText, ReadError>
-    ensures { Reads (spec.plain_item tokens.old) result tokens.new }
+fn plain_item(
+    alloc: Global,
+    tokens: &mut Tokens<'_>,
+    tunables: Tunables,
+) -> Result<ItemText, ReadError>
+    ensures { Reads (spec.plain_item tunables tokens.old) result tokens.new }
 {
     if tokens.sees(Pattern::Tunable) {
-        return tunable(alloc, tokens);
+        return tunable(alloc, tokens, tunables);
     }
     call(alloc, tokens)
 }
 
-fn item(alloc: Global, tokens: &mut Tokens<'_>, version: Version) -> Result<ItemText, ReadError>
-    ensures { Reads (spec.item version tokens.old) result tokens.new }
+fn item(
+    alloc: Global,
+    tokens: &mut Tokens<'_>,
+    tunables: Tunables,
+    version: Version,
+) -> Result<ItemText, ReadError>
+    ensures { Reads (spec.item tunables version tokens.old) result tokens.new }
 {
     match version {
-        Version::First => plain_item(alloc, tokens),
+        Version::First => plain_item(alloc, tokens, tunables),
         Version::Second => {
             if tokens.sees(Pattern::Spread) {
                 return spread(alloc, tokens);
             }
-            plain_item(alloc, tokens)
+            plain_item(alloc, tokens, tunables)
         }
     }
 }
@@ -283,16 +344,17 @@ fn item(alloc: Global, tokens: &mut Tokens<'_>, version: Version) -> Result<Item
 fn items(
     alloc: Global,
     tokens: &mut Tokens<'_>,
+    tunables: Tunables,
     version: Version,
 ) -> Result<Items<ItemText>, ReadError>
-    ensures { Reads (spec.items version tokens.old) result tokens.new }
+    ensures { Reads (spec.items tunables version tokens.old) result tokens.new }
 {
     let mut found = Items::new(alloc);
     for _turn in 0..tokens.len() {
         if tokens.sees(Pattern::Sign(Sign::BraceClose)) {
             return Ok(found);
         }
-        let next = item(alloc, tokens, version)?;
+        let next = item(alloc, tokens, tunables, version)?;
         found.push(next)?;
     }
     Ok(found)
@@ -334,14 +396,15 @@ fn instance_of(
 fn instance(
     alloc: Global,
     tokens: &mut Tokens<'_>,
+    tunables: Tunables,
     version: Version,
 ) -> Result<InstanceText, ReadError>
-    ensures { Reads (spec.instance version tokens.old) result tokens.new }
+    ensures { Reads (spec.instance tunables version tokens.old) result tokens.new }
 {
     let head = tokens.all(&INSTANCE)?;
     let kind = kind(tokens)?;
     let level = tokens.all(&LEVEL)?;
-    let items = items(alloc, tokens, version)?;
+    let items = items(alloc, tokens, tunables, version)?;
     let _close = tokens.all(&[Pattern::Sign(Sign::BraceClose)])?;
     let instance = instance_of(alloc, head, kind, level, items)?;
     Ok(instance)
@@ -351,16 +414,17 @@ fn instance(
 fn instances(
     alloc: Global,
     tokens: &mut Tokens<'_>,
+    tunables: Tunables,
     version: Version,
 ) -> Result<Items<InstanceText>, ReadError>
-    ensures { Reads (spec.instances version tokens.old) result tokens.new }
+    ensures { Reads (spec.instances tunables version tokens.old) result tokens.new }
 {
     let mut found = Items::new(alloc);
     for _turn in 0..tokens.len() {
         if tokens.sees(Pattern::End) {
             return Ok(found);
         }
-        let next = instance(alloc, tokens, version)?;
+        let next = instance(alloc, tokens, tunables, version)?;
         found.push(next)?;
     }
     Ok(found)
@@ -395,11 +459,16 @@ fn entry(
 
 // What stands behind the word `mapping`.
 #[tactic(auto, unfolding(crate::specs::Reading::body))]
-fn body(alloc: Global, tokens: &mut Tokens<'_>, version: Version) -> Result<MappingText, ReadError>
-    ensures { Reads (spec.body version tokens.old) result tokens.new }
+fn body(
+    alloc: Global,
+    tokens: &mut Tokens<'_>,
+    tunables: Tunables,
+    version: Version,
+) -> Result<MappingText, ReadError>
+    ensures { Reads (spec.body tunables version tokens.old) result tokens.new }
 {
     let (entry, sizes) = entry(alloc, tokens, version)?;
-    let instances = instances(alloc, tokens, version)?;
+    let instances = instances(alloc, tokens, tunables, version)?;
     let _end = tokens.all(&[Pattern::End])?;
     if tokens.len() > 0 {
         return Err(ReadError::Syntax(tokens.len()));
@@ -411,24 +480,28 @@ fn body(alloc: Global, tokens: &mut Tokens<'_>, version: Version) -> Result<Mapp
     })
 }
 
-fn mapping(alloc: Global, tokens: &mut Tokens<'_>) -> Result<MappingText, ReadError>
-    ensures { Reads (spec.mapping tokens.old) result tokens.new }
+fn mapping(
+    alloc: Global,
+    tokens: &mut Tokens<'_>,
+    tunables: Tunables,
+) -> Result<MappingText, ReadError>
+    ensures { Reads (spec.mapping tunables tokens.old) result tokens.new }
 {
     let _word = tokens.all(&[Pattern::Mapping])?;
     if tokens.sees(Pattern::Exactly(1)) {
-        return body(alloc, tokens, Version::First);
+        return body(alloc, tokens, tunables, Version::First);
     }
-    body(alloc, tokens, Version::Second)
+    body(alloc, tokens, tunables, Version::Second)
 }
 
 /// What the tokens write, or the first token with which no text of the grammar begins.
-pub fn parse(alloc: Global, tokens: &[Token]) -> Result<MappingText, Stop>
+pub fn parse(alloc: Global, tokens: &[Token], tunables: Tunables) -> Result<MappingText, Stop>
     requires { HasEnd tokens.now }
-    ensures found { IfOk result (λ m. IsText tokens.now m) }
-    ensures refused { IfRefused result (λ f. IsSyntaxFault tokens.now f) }
+    ensures found { IfOk result (λ m. IsTextOf tunables tokens.now m) }
+    ensures refused { IfRefused result (λ f. IsSyntaxFaultOf tunables tokens.now f) }
 {
     let mut rest = Tokens::new(tokens);
-    match mapping(alloc, &mut rest) {
+    match mapping(alloc, &mut rest, tunables) {
         Ok(found) => Ok(found),
         Err(ReadError::NoMemory) => Err(Stop::NoMemory),
         Err(ReadError::Syntax(left)) => {

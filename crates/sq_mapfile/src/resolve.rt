@@ -23,7 +23,8 @@ fn or_zero(index: Option<usize>) -> u32
     }
 }
 
-fn copied(alloc: Global, setting: &Setting) -> Result<Setting, AllocError>
+/// The same setting once more.
+pub fn copied(alloc: Global, setting: &Setting) -> Result<Setting, AllocError>
     ensures { IfOk result (λ copy. copy ≡ setting.now) }
 {
     match setting {
@@ -37,9 +38,9 @@ fn tunings(alloc: Global, items: &[ItemText]) -> Result<Tunings, AllocError>
 {
     let mut found = Items::new(alloc);
     for item in items {
-        if let ItemText::Tunable { name, setting } = item {
+        if let ItemText::Tunable { name, values } = item {
             let name = name.name.copy(alloc)?;
-            let setting = copied(alloc, setting)?;
+            let setting = copied(alloc, &values.first)?;
             found.push(Tuning { name, setting })?;
         }
     }

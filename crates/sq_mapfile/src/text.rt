@@ -12,6 +12,13 @@ pub enum Version {
     Second,
 }
 
+/// Whether a tunable has one value, as in each mapping, or may have alternatives, as where choices are read.
+#[derive(Clone, Copy, Debug)]
+pub enum Tunables {
+    Fixed,
+    Varied,
+}
+
 /// `NAME = NUMBER`
 #[derive(Drop)]
 pub struct SizeText {
@@ -19,10 +26,17 @@ pub struct SizeText {
     pub value: i64,
 }
 
+/// `VALUE | VALUE ..`, where a value is a number or a list of numbers in brackets.
+#[derive(Drop)]
+pub struct Alternatives {
+    pub first: Setting,
+    pub others: Items<Setting>,
+}
+
 #[derive(Drop)]
 pub enum ItemText {
-    /// `tunable NAME = VALUE;`, where the value is a number or a list of numbers in brackets.
-    Tunable { name: Word, setting: Setting },
+    /// `tunable NAME = ALTERNATIVES;`
+    Tunable { name: Word, values: Alternatives },
     /// `call TASK -> INSTANCE;`
     Call { task: Word, instance: Word },
     /// `spread = RULE;`, where the name of the word is `spread`.

@@ -1,5 +1,9 @@
 use Rattle.std.proofs.Common.{arith}
-use Rattle.sq_mapfile.proofs.Whole.{lexed_by, syntax_answer, rules_answer, rules_stand, rules_sound, one_stands, refused_gives, lexer_gives, lexer_refuses, syntax_gives, sound_given}
+use Rattle.sq_mapfile.specs.declared.text.Tunables.TheVariants.{Fixed}
+use Rattle.sq_mapfile.specs.declared.mapping.Mapping.{Mapping}
+use Rattle.sq_mapfile.specs.Mappings.{BreaksRule}
+use Rattle.sq_mapfile.proofs.Files.{lexed_by, syntax_answer, rules_answer, none_written, none_lexed}
+use Rattle.sq_mapfile.proofs.Whole.{rules_stand, rules_sound, one_stands, refused_gives, lexer_gives, sound_given}
 use Rattle.sq_mapfile.proofs.reader.read_mapping.Goals as goal
 
 pub returns-in-Err-clause-only : goal.returns-in-Err-clause-only
@@ -7,21 +11,21 @@ returns-in-Err-clause-only c = λ mapping s none. lexer_gives c.args.typed.now c
 
 pub returns-in-Err-parse-clause-answers : goal.returns-in-Err-parse-clause-answers
 returns-in-Err-parse-clause-answers c =
-    syntax_answer c.args.typed.now c.args.machine.now.levels c.args.text.now c.in-Ok.tokens c.in-Err-parse.stop
+    syntax_answer Fixed c.args.text.now (BreaksRule c.args.typed.now c.args.machine.now.levels) Mapping c.in-Ok.tokens c.in-Err-parse.stop
     (lexed_by c.args.text.now c.in-Ok.tokens c.in-Ok.ensures.found c.in-Ok.ensures.fits c.in-Ok.ensures.refuses c.in-Ok.ensures.only)
     (rw c.as_slice.ensures at c.in-Err-parse.ensures.refused)
 
 pub returns-in-Err-parse-clause-only : goal.returns-in-Err-parse-clause-only
 returns-in-Err-parse-clause-only c = λ mapping s none.
     let answer =
-    syntax_answer c.args.typed.now c.args.machine.now.levels c.args.text.now c.in-Ok.tokens c.in-Err-parse.stop
+    syntax_answer Fixed c.args.text.now (BreaksRule c.args.typed.now c.args.machine.now.levels) Mapping c.in-Ok.tokens c.in-Err-parse.stop
     (lexed_by c.args.text.now c.in-Ok.tokens c.in-Ok.ensures.found c.in-Ok.ensures.fits c.in-Ok.ensures.refuses c.in-Ok.ensures.only)
     (rw c.as_slice.ensures at c.in-Err-parse.ensures.refused) in
     refused_gives c.args.typed.now c.args.machine.now.levels c.args.text.now c.in-Err-parse.stop answer mapping none
 
 pub returns-clause-answers : goal.returns-clause-answers
 returns-clause-answers c =
-    rules_answer c.args.typed.now c.args.machine.now.levels c.args.text.now c.in-Ok.tokens c.in-Ok-parse.written c.judged.result
+    rules_answer Fixed c.args.text.now (BreaksRule c.args.typed.now c.args.machine.now.levels) c.in-Ok.tokens c.in-Ok-parse.written c.judged.result
     (lexed_by c.args.text.now c.in-Ok.tokens c.in-Ok.ensures.found c.in-Ok.ensures.fits c.in-Ok.ensures.refuses c.in-Ok.ensures.only)
     (rw c.as_slice.ensures at c.in-Ok-parse.ensures.found)
     (rw c.levels.ensures.items at (rw c.program.ensures.same at c.judged.ensures.answers))
@@ -42,7 +46,7 @@ returns-clause-only c =
     let read = rw c.as_slice.ensures at c.in-Ok-parse.ensures.found in
     let answers = rw c.levels.ensures.items at (rw c.program.ensures.same at c.judged.ensures.answers) in
     one_stands c.args.typed.now c.args.machine.now.levels c.args.text.now c.in-Ok.tokens c.in-Ok-parse.written c.judged.result lexed read
-    (rules_answer c.args.typed.now c.args.machine.now.levels c.args.text.now c.in-Ok.tokens c.in-Ok-parse.written c.judged.result lexed read answers)
+    (rules_answer Fixed c.args.text.now (BreaksRule c.args.typed.now c.args.machine.now.levels) c.in-Ok.tokens c.in-Ok-parse.written c.judged.result lexed read answers)
     (rules_stand c.args.typed.now c.args.machine.now.levels c.args.text.now c.in-Ok.tokens c.in-Ok-parse.written c.judged.result (omega (arith, within)) lexed read answers
     (rw c.levels.ensures.items at c.judged.ensures.found))
 
@@ -57,11 +61,11 @@ returns-clause-sound c =
 
 pub returns-in-Err-clause-given : goal.returns-in-Err-clause-given
 returns-in-Err-clause-given c = λ m mapping w once resolves sound.
-    lexer_refuses c.args.typed.now c.args.machine.now.levels c.args.text.now c.in-Err.stop m mapping c.in-Err.ensures.only w
+    none_lexed Fixed c.args.text.now c.in-Err.stop m mapping c.in-Err.ensures.only w
 
 pub returns-in-Err-parse-clause-given : goal.returns-in-Err-parse-clause-given
 returns-in-Err-parse-clause-given c = λ m mapping w once resolves sound.
-    syntax_gives c.args.typed.now c.args.machine.now.levels c.args.text.now c.in-Ok.tokens c.in-Err-parse.stop
+    none_written Fixed c.args.text.now c.in-Ok.tokens c.in-Err-parse.stop
     (lexed_by c.args.text.now c.in-Ok.tokens c.in-Ok.ensures.found c.in-Ok.ensures.fits c.in-Ok.ensures.refuses c.in-Ok.ensures.only)
     (rw c.as_slice.ensures at c.in-Err-parse.ensures.refused) m mapping w
 

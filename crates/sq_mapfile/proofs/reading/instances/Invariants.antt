@@ -5,4 +5,4 @@ use Rattle.sq_mapfile.specs.Reading as spec
 use Rattle.sq_mapfile.proofs.reading.instances.Given as goal
 
 abbrev pub invariant-loop-turn : goal.invariant-loop-turn
-invariant-loop-turn l = spec.instances l.version l.fn.tokens ≡ until s.End (spec.instance l.version) (l._turn-end - l._turn) l.found l.tokens
+invariant-loop-turn l = spec.instances l.tunables l.version l.fn.tokens ≡ until s.End (spec.instance l.tunables l.version) (l._turn-end - l._turn) l.found l.tokens

@@ -10,15 +10,15 @@ use Rattle.sq_mapfile.proofs.reading.items.Goals as goal
 pub returns-in_err-next : goal.returns-in_err-next
 unfolding until
 returns-in_err-next c =
-    let e = one_more (λ n. until (s.Sign g.BraceClose) (item c.args.version) n c.loop-turn.found c.loop-turn.tokens) _ c.loop-turn._turn c.loop-turn-test.true c.loop-turn.invariant in
+    let e = one_more (λ n. until (s.Sign g.BraceClose) (item c.args.tunables c.args.version) n c.loop-turn.found c.loop-turn.tokens) _ c.loop-turn._turn c.loop-turn-test.true c.loop-turn.invariant in
     first_of (search rules, grind (arith, common_steps))
 
 pub loop-turn-preserved : goal.loop-turn-preserved
 unfolding until
 loop-turn-preserved c =
-    let e = one_more (λ n. until (s.Sign g.BraceClose) (item c.args.version) n c.loop-turn.found c.loop-turn.tokens) _ c.loop-turn._turn c.loop-turn-test.true c.loop-turn.invariant in
+    let e = one_more (λ n. until (s.Sign g.BraceClose) (item c.args.tunables c.args.version) n c.loop-turn.found c.loop-turn.tokens) _ c.loop-turn._turn c.loop-turn-test.true c.loop-turn.invariant in
     first_of (search rules, grind (arith, common_steps))
 
 pub returns-then-sees : goal.returns-then-sees
 returns-then-sees c =
-    stops (s.Sign g.BraceClose) (item c.args.version) _ c.loop-turn._turn c.loop-turn.found c.loop-turn.tokens c.loop-turn-test.true c.loop-turn.invariant (sym c.sees.ensures ∙ c.if-sees.true)
+    stops (s.Sign g.BraceClose) (item c.args.tunables c.args.version) _ c.loop-turn._turn c.loop-turn.found c.loop-turn.tokens c.loop-turn-test.true c.loop-turn.invariant (sym c.sees.ensures ∙ c.if-sees.true)
