@@ -11,7 +11,7 @@ use Rattle.sq_text.proofs.Spreads.{spreads}
 use Rattle.sq_ast.specs.declared.program.Variant.{Variant}
 use Rattle.sq_machfile.specs.declared.node.Node.{Node}
 use Rattle.sq_machfile.specs.Machines.{WithinLimits}
-use Rattle.sq_forms.specs.Mapfile.declared.mapping.Instance.{Instance}
+use Rattle.sq_forms.specs.Mappings.declared.mapping.Instance.{Instance}
 use Rattle.sq_forms.specs.declared.form.Caller.{Caller}
 use Rattle.sq_forms.specs.declared.form.Form.{Form}
 use Rattle.sq_forms.specs.Resolving.{Resolving}

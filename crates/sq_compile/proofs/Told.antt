@@ -6,7 +6,7 @@ use Rattle.std.proofs.lemmas.Bool.Decides.{nat_tests}
 use Rattle.sq_ast.specs.declared.program.Program.{Program}
 use Rattle.sq_machfile.specs.declared.node.Node.{Node}
 use Rattle.sq_machfile.specs.Machines.{Hierarchy}
-use Rattle.sq_forms.specs.Mapfile.declared.mapping.Mapping.{Mapping}
+use Rattle.sq_forms.specs.Mappings.declared.mapping.Mapping.{Mapping}
 use Rattle.sq_forms.specs.declared.form.Form.{Form}
 use Rattle.sq_spec.specs.declared.resolved.Resolved.{Resolved}
 use Rattle.sq_spec_laws.specs.Needs.{Needs}

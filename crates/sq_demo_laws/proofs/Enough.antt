@@ -5,9 +5,9 @@ use Rattle.std.specs.Option.{option_map}
 use Rattle.std.proofs.lemmas.Option.{slice_get-map}
 use Rattle.sq_machfile.specs.declared.node.Node.{Node}
 use Rattle.sq_machfile.specs.Machines.{Hierarchy, WithinLimits}
-use Rattle.sq_mapfile.specs.declared.mapping.Mapping.{Mapping}
+use Rattle.sq_mapping.specs.declared.mapping.Mapping.{Mapping}
 use Rattle.sq_ast.specs.declared.program.Program.{Program}
-use Rattle.sq_mapfile.specs.Sound.{Sound}
+use Rattle.sq_mapping.specs.Sound.{Sound}
 use Rattle.sq_forms.specs.declared.form.Form.{Form}
 use Rattle.sq_spec_laws.specs.Needs.{Ended, ends, EndsAt, Needs, FormsRunAtTheirLevel}
 use Rattle.sq_demo_laws.specs.Tree.{demo_tree}

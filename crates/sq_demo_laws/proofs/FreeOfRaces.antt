@@ -6,7 +6,7 @@ use Rattle.sq_ast.specs.declared.stmt.MapKind.TheVariants.{Par, Seq}
 use Rattle.sq_ast.specs.declared.stmt.Stmt.TheVariants as s
 use Rattle.sq_ast.specs.declared.stmt.Stmt.TheOpen.{Stmt-F}
 use Rattle.sq_ast.specs.declared.program.Program.{Program}
-use Rattle.sq_mapfile.specs.declared.mapping.Mapping.{Mapping}
+use Rattle.sq_mapping.specs.declared.mapping.Mapping.{Mapping}
 use Rattle.sq_forms.specs.declared.form.Form.{Form}
 use Rattle.sq_forms.specs.declared.form.Use.{Use}
 use Rattle.sq_race.specs.declared.map.Map.{Map}

@@ -21,17 +21,17 @@ use Rattle.sq_ast.specs.declared.stmt.Range.{Range}
 use Rattle.sq_ast.specs.Grammar.{range_of}
 use Rattle.sq_text.specs.declared.place.Place.{Place}
 use Rattle.sq_machfile.specs.declared.level.Level.{Level}
-use Rattle.sq_mapfile.specs.declared.mapping.Mapping.{Mapping}
+use Rattle.sq_mapping.specs.declared.mapping.Mapping.{Mapping}
 use Rattle.sq_mapfile.specs.declared.text.InstanceText.{InstanceText}
 use Rattle.sq_mapfile.specs.declared.text.MappingText.{MappingText}
 use Rattle.sq_mapfile.specs.declared.text.Version.TheVariants.{First}
 use Rattle.sq_mapfile.specs.Names.{of_each, instance_of, level_of}
-use Rattle.sq_mapfile.specs.Required.{Required, required_by, tasks_of, tasks_step, each_once, with_tunable, tunables_of, sizes_of}
+use Rattle.sq_mapping.specs.Required.{Required, required_by, tasks_of, tasks_step, each_once, with_tunable, tunables_of, sizes_of}
 use Rattle.sq_mapfile.specs.Faults.{Rule, Scope, scope, head_rules, item_rules, no_instance, entry_skip, size_missing, size_rules, level_at, name_rules, NameFault}
 use Rattle.sq_mapfile.specs.Cycles.{CallText, Calls, Leads, here, further, CycleFault, calls_of}
 use Rattle.sq_mapfile.specs.Grammar.{IsText, a_mapping, first_size, next_size, no_more_sizes, one_more_instance, no_instance as none_more, an_instance, inner, leaf, an_item, no_item, no_other, a_tunable, a_call, one, plain}
 use Rattle.sq_mapfile.specs.Mappings.{Resolves, Writes, StandsFor, BreaksRule, MappingFault}
-use Rattle.sq_mapfile.specs.Sound.{Sound}
+use Rattle.sq_mapping.specs.Sound.{Sound}
 use Rattle.sq_mapfile.proofs.Texts.{mapping_format}
 use Rattle.sq_mapfile.proofs.Resolved.{resolved, one_resolved}
 use Rattle.sq_mapfile.proofs.Sounds.{sound}

@@ -11,8 +11,8 @@ use Rattle.sq_ast.specs.declared.program.Variant.{Variant}
 use Rattle.sq_blocks.specs.Constants.{fits}
 use Rattle.sq_blocks.specs.Names.{number_of}
 use Rattle.sq_blocks.specs.declared.chop.Chop.TheVariants.{Regular}
-use Rattle.sq_mapfile.specs.declared.mapping.Instance.{Instance}
-use Rattle.sq_mapfile.specs.declared.mapping.Tuning.{Tuning}
+use Rattle.sq_mapping.specs.declared.mapping.Instance.{Instance}
+use Rattle.sq_mapping.specs.declared.mapping.Tuning.{Tuning}
 use Rattle.sq_forms.specs.declared.form.Found.{Found}
 use Rattle.sq_forms.specs.Faults.{Value, and_then}
 use Rattle.sq_forms.specs.Steps.{Forms, Key, run, most_uses, most_forms}

@@ -14,9 +14,9 @@ use Rattle.sq_parser.specs.Programs as parsing
 use Rattle.sq_spec_laws.specs.Spec.declared.resolved.Resolved.{Resolved}
 use Rattle.sq_race.specs.Race.{IsFirstRace}
 use Rattle.sq_machfile.specs.Machines.{Hierarchy, StandsFor as IsHierarchyOf, MachineFault}
-use Rattle.sq_mapfile.specs.declared.mapping.Mapping.{Mapping}
+use Rattle.sq_mapping.specs.declared.mapping.Mapping.{Mapping}
 use Rattle.sq_mapfile.specs.Mappings.{StandsFor as IsMappingOf, MappingFault}
-use Rattle.sq_mapfile.specs.Sound.{Sound}
+use Rattle.sq_mapping.specs.Sound.{Sound}
 use Rattle.sq_types.specs.Sites.{TypeFault}
 use Rattle.sq_forms.specs.Resolving.{resolution}
 use Rattle.sq_leaf.specs.Source.{Arrays}

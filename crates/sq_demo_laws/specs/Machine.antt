@@ -8,10 +8,10 @@ use Rattle.sq_machfile.specs.declared.text.MachineText.{MachineText}
 use Rattle.sq_machfile.specs.declared.text.MachineText.TheVariants.{Levels}
 use Rattle.sq_machfile.specs.Grammar.{word, numeral, level_text, below_text, levels_text}
 use Rattle.sq_machfile.specs.Machines.{Hierarchy}
-use Rattle.sq_mapfile.specs.declared.mapping.Instance.{Instance}
-use Rattle.sq_mapfile.specs.declared.mapping.Mapping.{Mapping}
-use Rattle.sq_mapfile.specs.declared.mapping.Tuning.{Tuning}
-use Rattle.sq_mapfile.specs.declared.mapping.Setting.TheVariants.{One}
+use Rattle.sq_mapping.specs.declared.mapping.Instance.{Instance}
+use Rattle.sq_mapping.specs.declared.mapping.Mapping.{Mapping}
+use Rattle.sq_mapping.specs.declared.mapping.Tuning.{Tuning}
+use Rattle.sq_mapping.specs.declared.mapping.Setting.TheVariants.{One}
 use Rattle.sq_mapfile.specs.declared.text.InstanceText.{InstanceText}
 use Rattle.sq_mapfile.specs.declared.text.ItemText.{ItemText}
 use Rattle.sq_mapfile.specs.declared.text.ItemText.TheVariants.{Tunable, Call}

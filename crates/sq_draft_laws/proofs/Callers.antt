@@ -6,7 +6,7 @@ use Rattle.sq_ast.specs.declared.stmt.Call.{Call}
 use Rattle.sq_ast.specs.declared.program.Body.{Body as Text}
 use Rattle.sq_ast.specs.declared.program.Body.TheVariants as text
 use Rattle.sq_ast.specs.declared.program.Variant.{Variant}
-use Rattle.sq_mapfile.specs.declared.mapping.Instance.{Instance}
+use Rattle.sq_mapping.specs.declared.mapping.Instance.{Instance}
 use Rattle.sq_blocks.specs.declared.argument.Argument.{Argument}
 use Rattle.sq_forms.specs.declared.form.Caller.{Caller}
 use Rattle.sq_forms.specs.declared.form.Form.{Form}

@@ -20,10 +20,10 @@ use Rattle.sq_ast.specs.declared.stmt.Stmt.TheVariants as s
 use Rattle.sq_ast.specs.declared.stmt.Stmt.TheOpen.{Stmt-F}
 use Rattle.sq_ast.specs.declared.stmt.Stmt.TheFolds.{ind-Stmt, map-Stmt}
 use Rattle.sq_machfile.specs.declared.level.Level.{Level}
-use Rattle.sq_mapfile.specs.declared.mapping.Instance.{Instance}
-use Rattle.sq_mapfile.specs.declared.mapping.Mapping.{Mapping}
-use Rattle.sq_mapfile.specs.declared.mapping.SizeSet.{SizeSet}
-use Rattle.sq_mapfile.specs.Sound.{Sound}
+use Rattle.sq_mapping.specs.declared.mapping.Instance.{Instance}
+use Rattle.sq_mapping.specs.declared.mapping.Mapping.{Mapping}
+use Rattle.sq_mapping.specs.declared.mapping.SizeSet.{SizeSet}
+use Rattle.sq_mapping.specs.Sound.{Sound}
 use Rattle.sq_types.specs.Known.{Known, kind_of}
 use Rattle.sq_types.specs.Table.{same_elem, same_mode, array_of as array_known, indices_of, is_argument}
 use Rattle.sq_types.specs.Sites.{params_of as params_of_task, param_at as first_at, params_known, decls_known}

@@ -5,9 +5,9 @@ use Rattle.std.specs.Prelude.{slice_get}
 use Rattle.sq_ast.specs.declared.program.Program.{Program}
 use Rattle.sq_ast.specs.declared.program.Variant.{Variant}
 use Rattle.sq_machfile.specs.declared.level.Level.{Level}
-use Rattle.sq_mapfile.specs.declared.mapping.Instance.{Instance}
-use Rattle.sq_mapfile.specs.declared.mapping.Mapping.{Mapping}
-use Rattle.sq_mapfile.specs.Sound.{Sound}
+use Rattle.sq_mapping.specs.declared.mapping.Instance.{Instance}
+use Rattle.sq_mapping.specs.declared.mapping.Mapping.{Mapping}
+use Rattle.sq_mapping.specs.Sound.{Sound}
 use Rattle.sq_blocks.specs.declared.argument.Argument.{Argument}
 use Rattle.sq_forms.specs.declared.form.Found.{Found}
 use Rattle.sq_forms.specs.Args.{Names}

@@ -15,7 +15,7 @@ use Rattle.sq_ast.specs.declared.program.Extent.{Extent}
 use Rattle.sq_ast.specs.declared.program.Extent.TheVariants as extent
 use Rattle.sq_ast.specs.declared.program.Param.{Param}
 use Rattle.sq_ast.specs.declared.program.VariantKind.TheVariants.{Leaf as LeafKind}
-use Rattle.sq_mapfile.specs.declared.mapping.Tuning.{Tuning}
+use Rattle.sq_mapping.specs.declared.mapping.Tuning.{Tuning}
 use Rattle.sq_types.specs.declared.kind.Kind.{Kind}
 use Rattle.sq_types.specs.declared.kind.Kind.TheVariants as kind
 use Rattle.sq_types.specs.Known.{Known, kind_of, with_name}

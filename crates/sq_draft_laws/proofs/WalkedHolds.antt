@@ -16,14 +16,14 @@ use Rattle.sq_ast.specs.Grammar.{most_levels}
 use Rattle.sq_ast.specs.declared.program.Program.{Program}
 use Rattle.sq_ast.specs.declared.program.Variant.{Variant}
 use Rattle.sq_machfile.specs.declared.level.Level.{Level}
-use Rattle.sq_mapfile.specs.declared.mapping.Instance.{Instance}
-use Rattle.sq_mapfile.specs.declared.mapping.Mapping.{Mapping}
-use Rattle.sq_mapfile.specs.declared.mapping.Route.{Route}
-use Rattle.sq_mapfile.specs.declared.mapping.Tuning.{Tuning}
-use Rattle.sq_mapfile.specs.Faults.{is_list}
-use Rattle.sq_mapfile.specs.Names.{variant_of}
-use Rattle.sq_mapfile.specs.Required.{required_by}
-use Rattle.sq_mapfile.specs.Sound.{EachOnce, Exactly, RouteFits, InstanceFits, EntryFits, Sound}
+use Rattle.sq_mapping.specs.declared.mapping.Instance.{Instance}
+use Rattle.sq_mapping.specs.declared.mapping.Mapping.{Mapping}
+use Rattle.sq_mapping.specs.declared.mapping.Route.{Route}
+use Rattle.sq_mapping.specs.declared.mapping.Tuning.{Tuning}
+use Rattle.sq_mapping.specs.Sound.{is_list}
+use Rattle.sq_mapping.specs.Names.{variant_of}
+use Rattle.sq_mapping.specs.Required.{required_by}
+use Rattle.sq_mapping.specs.Sound.{EachOnce, Exactly, RouteFits, InstanceFits, EntryFits, Sound}
 use Rattle.sq_types.specs.Nesting.{HasLoops}
 use Rattle.sq_types.specs.Sound.{is_sound}
 use Rattle.sq_forms.specs.declared.form.Form.{Form}

@@ -8,7 +8,7 @@ use Rattle.sq_ast.specs.declared.program.Program.{Program as Tree}
 use Rattle.sq_ast.specs.Modes.{is_read}
 use Rattle.sq_types.specs.Sites.{TypeFault}
 use Rattle.sq_machfile.specs.Machines.{Hierarchy, WithinLimits}
-use Rattle.sq_mapfile.specs.declared.mapping.Mapping.{Mapping as Mapped}
+use Rattle.sq_mapping.specs.declared.mapping.Mapping.{Mapping as Mapped}
 use Rattle.sq_mapfile.specs.Mappings.{StandsFor as IsMappingOf, MappingFault}
 use Rattle.sq_arrays.specs.Arrays.{arrays_of}
 use Rattle.sq_leaf.specs.Source.{Arrays}

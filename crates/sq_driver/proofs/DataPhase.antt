@@ -6,7 +6,7 @@ use Rattle.sq_text.specs.declared.code.Phase.{Phase}
 use Rattle.sq_text.specs.declared.code.Phase.TheVariants.{Input}
 use Rattle.sq_text.specs.declared.fault.Fault.{Fault}
 use Rattle.sq_ast.specs.declared.program.Program.{Program as Tree}
-use Rattle.sq_mapfile.specs.declared.mapping.Mapping.{Mapping as Mapped}
+use Rattle.sq_mapping.specs.declared.mapping.Mapping.{Mapping as Mapped}
 use Rattle.sq_arrays.specs.Arrays.{DataFault, arrays_of}
 use Rattle.sq_leaf.specs.Source.{Arrays}
 use Rattle.sq_work.specs.Meaning.{Outcome, Trapped as Stopping}

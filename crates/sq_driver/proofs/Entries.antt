@@ -7,7 +7,7 @@ use Rattle.std.specs.Option.{option_map}
 use Rattle.std.proofs.lemmas.Bool.Decides.{nat_tests}
 use Rattle.sq_port.specs.Ports.{Gains, GainsPrefix}
 use Rattle.sq_ast.specs.declared.program.Param.{Param}
-use Rattle.sq_mapfile.specs.declared.mapping.SizeSet.{SizeSet}
+use Rattle.sq_mapping.specs.declared.mapping.SizeSet.{SizeSet}
 use Rattle.sq_spec.specs.Entry.{IsEntry}
 use Rattle.sq_text.specs.declared.fault.Fault.{Fault}
 use Rattle.sq_forms.specs.Faults.{Value, and_then}

@@ -7,7 +7,7 @@ use Rattle.sq_text.specs.declared.fault.Fault.{Fault}
 use Rattle.sq_num.specs.Elements.{width, value}
 use Rattle.sq_ast.specs.declared.program.Program.{Program as Tree}
 use Rattle.sq_machfile.specs.Machines.{Hierarchy}
-use Rattle.sq_mapfile.specs.declared.mapping.Mapping.{Mapping as Mapped}
+use Rattle.sq_mapping.specs.declared.mapping.Mapping.{Mapping as Mapped}
 use Rattle.sq_leaf.specs.declared.shape.Shape.{Shape}
 use Rattle.sq_leaf.specs.Source.{Arrays}
 use Rattle.sq_spec.specs.Entry.{IsEntry}

@@ -11,7 +11,7 @@ use Rattle.sq_text.specs.declared.fault.Fault.{Fault}
 use Rattle.sq_ast.specs.declared.program.Param.{Param}
 use Rattle.sq_ast.specs.declared.program.Program.{Program as Tree}
 use Rattle.sq_ast.specs.Modes.{is_read}
-use Rattle.sq_mapfile.specs.declared.mapping.Mapping.{Mapping}
+use Rattle.sq_mapping.specs.declared.mapping.Mapping.{Mapping}
 use Rattle.sq_arrays.specs.Arrays.{Wanted, arrays_of, size_of, AreValuesOf, DataFault}
 use Rattle.sq_arrays.specs.Targets.{cells_of}
 use Rattle.sq_forms.specs.Resolving.{entry_extents}

@@ -4,7 +4,7 @@ use Rattle.sq_port.specs.Ports.{Content}
 use Rattle.sq_text.specs.declared.code.Phase.TheVariants.{Program, Types, Machine, Mapping, Resolve, Race, Capacity, Order as OrderPhase, Input}
 use Rattle.sq_ast.specs.declared.program.Program.{Program as Tree}
 use Rattle.sq_machfile.specs.Machines.{Hierarchy}
-use Rattle.sq_mapfile.specs.declared.mapping.Mapping.{Mapping as Mapped}
+use Rattle.sq_mapping.specs.declared.mapping.Mapping.{Mapping as Mapped}
 use Rattle.sq_ir.specs.declared.plan.Plan.{Plan}
 use Rattle.sq_spec.specs.declared.resolved.Resolved.{Resolved}
 use Rattle.sq_race.specs.Race.{IsFirstRace}

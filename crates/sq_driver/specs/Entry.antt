@@ -5,7 +5,7 @@ use Rattle.sq_rect.specs.Extents.{product}
 use Rattle.sq_ast.specs.declared.program.Mode.{Mode}
 use Rattle.sq_ast.specs.declared.program.Param.{Param}
 use Rattle.sq_ast.specs.declared.program.Program.{Program as Tree}
-use Rattle.sq_mapfile.specs.declared.mapping.Mapping.{Mapping}
+use Rattle.sq_mapping.specs.declared.mapping.Mapping.{Mapping}
 use Rattle.sq_arrays.specs.Arrays.{Wanted, DataFault, arrays_of}
 use Rattle.sq_arrays.specs.Written.{array_text}
 use Rattle.sq_leaf.specs.Source.{Arrays}

@@ -7,7 +7,7 @@ use Rattle.sq_ast.specs.declared.program.Program.{Program as Tree}
 use Rattle.sq_types.specs.Sites.{TypeFault}
 use Rattle.sq_machfile.specs.declared.level.Level.{Level}
 use Rattle.sq_machfile.specs.Machines.{Hierarchy}
-use Rattle.sq_mapfile.specs.declared.mapping.Mapping.{Mapping}
+use Rattle.sq_mapping.specs.declared.mapping.Mapping.{Mapping}
 use Rattle.sq_tree.specs.Bank.{BankSeen}
 use Rattle.sq_leaf.specs.declared.shape.Shape.{Shape}
 use Rattle.sq_work.specs.Meaning.{Outcome}

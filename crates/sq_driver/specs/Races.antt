@@ -6,7 +6,7 @@ use Rattle.sq_text.specs.declared.fault.Arg.TheVariants.{Word, Number, Block}
 use Rattle.sq_text.specs.declared.fault.Fault.{Fault}
 use Rattle.sq_ast.specs.declared.program.Program.{Program as Tree}
 use Rattle.sq_machfile.specs.Machines.{Hierarchy}
-use Rattle.sq_mapfile.specs.declared.mapping.Mapping.{Mapping}
+use Rattle.sq_mapping.specs.declared.mapping.Mapping.{Mapping}
 use Rattle.sq_forms.specs.Forms.{AreForms, IsFirstMet}
 use Rattle.sq_forms.specs.Resolving.{resolution}
 use Rattle.sq_spec.specs.Works.{found_in}

@@ -5,7 +5,7 @@ use Rattle.sq_text.specs.Faults.{IsFirst}
 use Rattle.sq_ast.specs.declared.program.Program.{Program as Tree}
 use Rattle.sq_machfile.specs.declared.level.Level.{Level}
 use Rattle.sq_machfile.specs.Machines.{Hierarchy, WithinLimits, StandsFor as IsHierarchyOf, MachineFault}
-use Rattle.sq_mapfile.specs.declared.mapping.Mapping.{Mapping}
+use Rattle.sq_mapping.specs.declared.mapping.Mapping.{Mapping}
 use Rattle.sq_mapfile.specs.Mappings.{StandsFor as IsMappingOf, MappingFault}
 use Rattle.sq_words.specs.Words.{program, mapping, machine}
 use Rattle.sq_driver.specs.Phases.{Inputs}

@@ -8,8 +8,8 @@ use Rattle.std.proofs.Math.Path.{fun_ext}
 use Rattle.std.specs.Coded.{coded_list, coded_ℕ}
 use base.Stored.{Coded-set}
 use Rattle.sq_ast.specs.declared.program.Variant.{Variant}
-use Rattle.sq_spec.specs.Mapfile.declared.mapping.Instance.{Instance}
-use Rattle.sq_spec.specs.Mapfile.declared.mapping.Mapping.{Mapping}
+use Rattle.sq_spec.specs.Mappings.declared.mapping.Instance.{Instance}
+use Rattle.sq_spec.specs.Mappings.declared.mapping.Mapping.{Mapping}
 use Rattle.sq_leaf.specs.Source.{Arrays}
 use Rattle.sq_spec.specs.declared.statement.CallInstance.{CallInstance}
 use Rattle.sq_spec.specs.declared.body.FormBody.{FormBody}

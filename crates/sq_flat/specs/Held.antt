@@ -5,7 +5,7 @@ use Rattle.sq_rect.specs.declared.view.View.{View}
 use Rattle.sq_rect.specs.Placing.{IsIn}
 use Rattle.sq_ast.specs.declared.program.Param.{Param}
 use Rattle.sq_ast.specs.declared.program.Variant.{Variant}
-use Rattle.sq_spec.specs.Mapfile.declared.mapping.Mapping.{Mapping}
+use Rattle.sq_spec.specs.Mappings.declared.mapping.Mapping.{Mapping}
 use Rattle.sq_leaf.specs.declared.shape.Shape.{Shape}
 use Rattle.sq_leaf.specs.Source.{Arrays}
 use Rattle.sq_leaf.specs.Spots.{put_at}

@@ -1,7 +1,7 @@
 -- The work of forms by their codes, and what it is to follow its meaning.
 use Rattle.std.specs.Prelude.{◌≡◌, ℕ, List, map, length, slice_get, Option, Some, None, Result, Ok, Err, reverse}
 use Rattle.sq_ast.specs.declared.program.Variant.{Variant}
-use Rattle.sq_spec.specs.Mapfile.declared.mapping.Instance.{Instance}
+use Rattle.sq_spec.specs.Mappings.declared.mapping.Instance.{Instance}
 use Rattle.sq_rect.specs.declared.view.View.{View}
 use Rattle.sq_leaf.specs.Source.{Arrays}
 use Rattle.sq_leaf.specs.Views.{Shows, shape_of}

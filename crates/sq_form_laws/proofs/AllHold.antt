@@ -5,8 +5,8 @@ use Rattle.std.proofs.lemmas.Bool.Decides.{nat_tests}
 use Rattle.sq_text.specs.declared.place.Place.{Place}
 use Rattle.sq_text.specs.declared.fault.Fault.{Fault}
 use Rattle.sq_ast.specs.declared.program.Variant.{Variant}
-use Rattle.sq_forms.specs.Mapfile.declared.mapping.Instance.{Instance}
-use Rattle.sq_forms.specs.Mapfile.declared.mapping.Mapping.{Mapping}
+use Rattle.sq_forms.specs.Mappings.declared.mapping.Instance.{Instance}
+use Rattle.sq_forms.specs.Mappings.declared.mapping.Mapping.{Mapping}
 use Rattle.sq_forms.specs.declared.form.Found.{Found}
 use Rattle.sq_forms.specs.Faults.{Value, and_then}
 use Rattle.sq_forms.specs.Steps.{Step, State, Called, Forms, Key, Opens, Counts, Tests, Calls, run, after_count, after_test, after_entry, number_of, number_or_next, with_form, key_number, most_forms}

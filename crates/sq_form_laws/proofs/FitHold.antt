@@ -21,11 +21,11 @@ use Rattle.sq_ast.specs.declared.program.VariantKind.{VariantKind}
 use Rattle.sq_ast.specs.declared.program.Variant.{Variant}
 use Rattle.sq_ast.specs.declared.program.Program.{Program}
 use Rattle.sq_forms.specs.Machfile.declared.level.Level.{Level}
-use Rattle.sq_forms.specs.Mapfile.declared.mapping.Instance.{Instance}
-use Rattle.sq_forms.specs.Mapfile.declared.mapping.SizeSet.{SizeSet}
-use Rattle.sq_forms.specs.Mapfile.declared.mapping.Mapping.{Mapping}
-use Rattle.sq_forms.specs.Mapfile.Sound.{Sound}
-use Rattle.sq_forms.proofs.Mapfile.Once.{same}
+use Rattle.sq_forms.specs.Mappings.declared.mapping.Instance.{Instance}
+use Rattle.sq_forms.specs.Mappings.declared.mapping.SizeSet.{SizeSet}
+use Rattle.sq_forms.specs.Mappings.declared.mapping.Mapping.{Mapping}
+use Rattle.sq_forms.specs.Mappings.Sound.{Sound}
+use Rattle.sq_forms.proofs.Mappings.Same.{same}
 use Rattle.sq_forms.specs.Types.Known.{Known}
 use Rattle.sq_forms.specs.Types.Sites.{params_of as params_of_task, params_known, decls_known, ranges_known, is_seen, key_of, with_seen, VariantKey}
 use Rattle.sq_forms.specs.Types.Table.{count_of}

@@ -16,7 +16,7 @@ use Rattle.sq_ast.specs.declared.expr.ArgUse.{ArgUse, out-ArgUse}
 use Rattle.sq_ast.specs.declared.program.Decl.{Decl}
 use Rattle.sq_ast.specs.declared.program.Decl.TheVariants as decl
 use Rattle.sq_ast.specs.declared.program.Param.{Param}
-use Rattle.sq_forms.specs.Mapfile.declared.mapping.Tuning.{Tuning}
+use Rattle.sq_forms.specs.Mappings.declared.mapping.Tuning.{Tuning}
 use Rattle.sq_blocks.specs.Names.{Numbers, Lists, list_of, with_number, with_list}
 use Rattle.sq_blocks.specs.Spans as spans
 use Rattle.sq_blocks.specs.Blocks as blocks

@@ -7,7 +7,7 @@ use Rattle.std.proofs.lemmas.Bool.Decides.{nat_tests}
 use Rattle.std.proofs.lemmas.List.{map-append, get_or_append_left, append-nil}
 use Rattle.std.proofs.lemmas.List.Sums.{position_or_len_is, fails_before_first, passes_at_first}
 use Rattle.std.proofs.Math.Seq.{get_or-append_seam}
-use Rattle.sq_forms.proofs.Mapfile.Once.{same, itself}
+use Rattle.sq_forms.proofs.Mappings.Same.{same, itself}
 use Rattle.sq_text.specs.declared.place.Place.{Place}
 use Rattle.sq_forms.specs.declared.form.Found.{Found}
 use Rattle.sq_forms.specs.Faults.{and_then}

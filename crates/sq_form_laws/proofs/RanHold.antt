@@ -4,8 +4,8 @@ use Rattle.std.specs.Prelude.{slice_get, ◌==◌}
 use Rattle.sq_text.specs.Names.{Bytes}
 use Rattle.sq_ast.specs.declared.stmt.Call.{Call}
 use Rattle.sq_ast.specs.declared.program.Variant.{Variant}
-use Rattle.sq_forms.specs.Mapfile.declared.mapping.Instance.{Instance}
-use Rattle.sq_forms.specs.Mapfile.declared.mapping.Mapping.{Mapping}
+use Rattle.sq_forms.specs.Mappings.declared.mapping.Instance.{Instance}
+use Rattle.sq_forms.specs.Mappings.declared.mapping.Mapping.{Mapping}
 use Rattle.sq_blocks.specs.declared.argument.Argument.{Argument}
 use Rattle.sq_forms.specs.declared.form.Found.{Found}
 use Rattle.sq_forms.specs.Faults.{Value, and_then}

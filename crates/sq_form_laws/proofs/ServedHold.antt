@@ -16,10 +16,10 @@ use Rattle.sq_ast.specs.declared.program.Body.TheVariants as body
 use Rattle.sq_ast.specs.declared.program.VariantKind.{VariantKind}
 use Rattle.sq_ast.specs.declared.program.VariantKind.TheVariants.{Inner, Leaf}
 use Rattle.sq_ast.specs.declared.program.Variant.{Variant}
-use Rattle.sq_forms.specs.Mapfile.declared.mapping.Route.{Route}
-use Rattle.sq_forms.specs.Mapfile.Names as names
-use Rattle.sq_forms.specs.Mapfile.Required.{with_name, tasks_step, tasks_of, body_tasks, required_by}
-use Rattle.sq_forms.proofs.Mapfile.Once.{same, itself}
+use Rattle.sq_forms.specs.Mappings.declared.mapping.Route.{Route}
+use Rattle.sq_forms.specs.Mappings.Names as names
+use Rattle.sq_forms.specs.Mappings.Required.{with_name, tasks_step, tasks_of, body_tasks, required_by}
+use Rattle.sq_forms.proofs.Mappings.Same.{same, itself}
 use Rattle.sq_forms.specs.Tables.{same_kind, at_index, route_of, first_of_kind, variant_of}
 use Rattle.sq_forms.specs.Worlds.{Callee, callee_of, callee_at, served_by, as_callee}
 use Rattle.sq_forms.specs.Resolving.{frame_in}

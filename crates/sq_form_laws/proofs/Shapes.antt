@@ -11,7 +11,7 @@ use Rattle.sq_ast.specs.declared.program.Extent.{Extent}
 use Rattle.sq_ast.specs.declared.program.Extent.TheVariants as extent
 use Rattle.sq_ast.specs.declared.program.Param.{Param}
 use Rattle.sq_blocks.specs.Names.{Numbers, with_number}
-use Rattle.sq_forms.proofs.Mapfile.Once.{same, itself}
+use Rattle.sq_forms.proofs.Mappings.Same.{same, itself}
 use Rattle.sq_blocks.specs.declared.argument.Argument.{Argument}
 use Rattle.sq_forms.specs.Calls.{with_size, bind_extent, bind_there, bind_from, bind_there_all, misfit_or, shape_from}
 use Rattle.sq_blocks.specs.Arguments.{lengths}

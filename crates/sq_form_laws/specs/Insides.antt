@@ -1,8 +1,8 @@
 -- Each access of a form lies inside its array.
 use Rattle.std.specs.Prelude.{◌≡◌, ℕ, List, ◌++◌, map, length, Some, slice_get}
 use Rattle.sq_ast.specs.declared.program.Variant.{Variant}
-use Rattle.sq_forms.specs.Mapfile.declared.mapping.Instance.{Instance}
-use Rattle.sq_forms.specs.Mapfile.declared.mapping.Mapping.{Mapping}
+use Rattle.sq_forms.specs.Mappings.declared.mapping.Instance.{Instance}
+use Rattle.sq_forms.specs.Mappings.declared.mapping.Mapping.{Mapping}
 use Rattle.sq_text.specs.declared.place.Span.{Span}
 use Rattle.sq_blocks.specs.Insides.{AreSpansIn}
 use Rattle.sq_forms.specs.declared.form.Found.{Found}

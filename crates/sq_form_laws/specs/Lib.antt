@@ -6,4 +6,4 @@ pub mod Served
 pub use Rattle.sq_blocks.specs as Blocks
 pub use Rattle.sq_forms.specs as Forms
 pub use Rattle.sq_forms.specs.Machfile
-pub use Rattle.sq_forms.specs.Mapfile
+pub use Rattle.sq_forms.specs.Mappings

@@ -6,9 +6,9 @@ use Rattle.sq_text.specs.declared.fault.Stop.TheVariants.{Refused, NoMemory}
 use Rattle.sq_ast.specs.declared.program.Param.{Param}
 use Rattle.sq_ast.specs.declared.program.Program.{Program}
 use Rattle.sq_ast.specs.declared.program.Variant.{Variant}
-use Rattle.sq_mapfile.specs.declared.mapping.Instance.{Instance}
-use Rattle.sq_mapfile.specs.declared.mapping.SizeSet.{SizeSet}
-use Rattle.sq_mapfile.specs.declared.mapping.Mapping.{Mapping}
+use Rattle.sq_mapping.specs.declared.mapping.Instance.{Instance}
+use Rattle.sq_mapping.specs.declared.mapping.SizeSet.{SizeSet}
+use Rattle.sq_mapping.specs.declared.mapping.Mapping.{Mapping}
 use Rattle.sq_forms.specs.declared.forms.Resolving.{Resolving as CodeResolving}
 use Rattle.sq_forms.specs.Faults.{Value, Leaves, and_then}
 use Rattle.sq_forms.specs.Steps.{Key, most_forms}

@@ -8,5 +8,5 @@ pub mod Scopes
 pub mod AllForms
 pub mod Tallies
 -- Lemmas of crates below, passed on.
-pub use Rattle.sq_mapfile.proofs as Mapfile
-pub use Rattle.sq_mapfile.proofs.Types
+pub use Rattle.sq_mapping.proofs as Mappings
+pub use Rattle.sq_types.proofs as Types

@@ -8,9 +8,9 @@ use Rattle.sq_ast.specs.Num.declared.Elem.{Elem}
 use Rattle.sq_ast.specs.declared.program.Decl.{Decl}
 use Rattle.sq_ast.specs.declared.program.Decl.TheVariants as decl
 use Rattle.sq_ast.specs.declared.program.Param.{Param}
-use Rattle.sq_mapfile.specs.declared.mapping.Setting.{Setting}
-use Rattle.sq_mapfile.specs.declared.mapping.Setting.TheVariants.{One, Many}
-use Rattle.sq_mapfile.specs.declared.mapping.Tuning.{Tuning}
+use Rattle.sq_mapping.specs.declared.mapping.Setting.{Setting}
+use Rattle.sq_mapping.specs.declared.mapping.Setting.TheVariants.{One, Many}
+use Rattle.sq_mapping.specs.declared.mapping.Tuning.{Tuning}
 use Rattle.sq_text.specs.Names.{Bytes, same_name}
 use Rattle.sq_blocks.specs.Names.{Numbers, list_of, with_number, with_list}
 use Rattle.sq_blocks.specs.Spans.{judged}

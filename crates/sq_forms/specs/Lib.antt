@@ -9,6 +9,6 @@ pub mod Decls
 pub mod Resolving
 pub mod Forms
 -- Definitions of crates below, passed on.
-pub use Rattle.sq_mapfile.specs.Machfile
-pub use Rattle.sq_mapfile.specs as Mapfile
-pub use Rattle.sq_mapfile.specs.Types
+pub use Rattle.sq_mapping.specs.Machfile
+pub use Rattle.sq_mapping.specs as Mappings
+pub use Rattle.sq_types.specs as Types

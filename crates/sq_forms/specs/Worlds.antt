@@ -2,8 +2,8 @@
 use Rattle.std.specs.Prelude.{ℕ, List, Option, Some, None, slice_get}
 use Rattle.sq_ast.specs.declared.program.Variant.{Variant}
 use Rattle.sq_ast.specs.declared.program.Param.{Param}
-use Rattle.sq_mapfile.specs.declared.mapping.Instance.{Instance}
-use Rattle.sq_mapfile.specs.declared.mapping.Route.{Route}
+use Rattle.sq_mapping.specs.declared.mapping.Instance.{Instance}
+use Rattle.sq_mapping.specs.declared.mapping.Route.{Route}
 use Rattle.sq_text.specs.Names.{Bytes}
 use Rattle.sq_forms.specs.Tables.{route_of, variant_of}
 use Rattle.sq_forms.specs.declared.world.Frame.{Frame as CodeFrame}

@@ -21,7 +21,7 @@ use indexmap::IndexMap;
 use sq_ast::{Decl, Elem, Expr, Param, Word};
 use sq_blocks::views::Dims;
 use sq_blocks::{Bindings, Chop, Env, ListBindings, Numbers, check_chop};
-use sq_mapfile::Setting;
+use sq_mapping::Setting;
 use sq_text::{Code, Name, Place, Stop};
 use sqlite_items::{Items, at};
 use std::alloc::{AllocError, Global};

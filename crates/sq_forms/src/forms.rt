@@ -21,7 +21,7 @@ use crate::world::Frame;
 use indexmap::IndexMap;
 use sq_ast::{Body, Extent, Param, Variant};
 use sq_blocks::views::Dims;
-use sq_mapfile::{Instance, Mapping, SizeSet};
+use sq_mapping::{Instance, Mapping, SizeSet};
 use sq_text::{Code, Name, Stop};
 use sqlite_items::{Items, at};
 use std::alloc::{AllocError, Global};

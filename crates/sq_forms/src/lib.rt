@@ -18,7 +18,7 @@ mod world;
 pub use form::{Caller, Form, Found, Key, LocalArray, Use};
 pub use forms::{Resolving, entry_params, resolve_forms};
 pub use known::{Array, Blocks, Known};
-pub use sq_mapfile::{Instance, Machine, Mapping, Node};
+pub use sq_mapping::{Instance, Machine, Mapping, Node};
 pub use stmt::reduced_by;
 pub use tables::{RoutesByTask, SettingsByName, Variants};
 pub use walk::Walk;

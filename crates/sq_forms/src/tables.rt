@@ -7,7 +7,7 @@ ghost use Rattle.sq_ast.specs.declared.program.VariantKind.TheVariants.{Inner, L
 ghost use Rattle.sq_forms.specs.Tables as spec;
 
 use sq_ast::{Variant, VariantKind};
-use sq_mapfile::{Route, Setting, Tuning};
+use sq_mapping::{Route, Setting, Tuning};
 use sq_text::{FirstItems, Name};
 use sqlite_items::at;
 use std::alloc::{AllocError, Global};

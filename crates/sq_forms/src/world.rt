@@ -5,7 +5,7 @@ ghost use Rattle.sq_forms.specs.Worlds as spec;
 
 use crate::tables::{RoutesByTask, Variants};
 use sq_ast::Param;
-use sq_mapfile::Instance;
+use sq_mapping::Instance;
 use sq_text::Name;
 use sqlite_items::at;
 

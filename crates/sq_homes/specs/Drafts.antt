@@ -6,7 +6,7 @@ use Rattle.sq_text.specs.Names.{Bytes}
 use Rattle.sq_text.specs.declared.spread.SpreadRule.{SpreadRule}
 use Rattle.sq_text.specs.declared.spread.SpreadRule.TheVariants.{Cyclic}
 use Rattle.sq_ast.specs.declared.program.Variant.{Variant}
-use Rattle.sq_spec_laws.specs.Mapfile.declared.mapping.Instance.{Instance}
+use Rattle.sq_spec_laws.specs.Mappings.declared.mapping.Instance.{Instance}
 use Rattle.sq_ir.specs.Leaf.Leaf.{arrays_of}
 use Rattle.sq_ir.specs.declared.term.Term.{Term}
 use Rattle.sq_ir.specs.declared.plan.Buffer.{Buffer}

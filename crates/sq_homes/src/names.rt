@@ -3,7 +3,7 @@
 ghost use Rattle.std.specs.Prelude.{◌≡◌, Some, get_or, slice_get, IfOk, IfSome, List, ℕ, []};
 ghost use Rattle.std.specs.Option.{option_copied};
 ghost use Rattle.sq_ast.specs.declared.program.Variant.{Variant as SpecVariant};
-ghost use Rattle.sq_spec_laws.specs.Mapfile.declared.mapping.Instance.{Instance as SpecInstance};
+ghost use Rattle.sq_spec_laws.specs.Mappings.declared.mapping.Instance.{Instance as SpecInstance};
 ghost use Rattle.sq_ir.specs.Leaf.Leaf.{arrays_of, local_names};
 ghost use Rattle.sq_spec_laws.specs.Needs.{variant_for};
 ghost use Rattle.sq_homes.specs.Drafts as spec;

@@ -5,7 +5,7 @@ use Rattle.sq_text.specs.declared.fault.Fault.{Fault}
 use Rattle.sq_text.specs.declared.word.Word.{Word}
 use Rattle.sq_text.specs.First.{HoldsIn}
 use Rattle.sq_machfile.specs.declared.level.Level.{Level}
-use Rattle.sq_mapfile.specs.declared.mapping.Mapping.{Mapping}
+use Rattle.sq_mapping.specs.declared.mapping.Mapping.{Mapping}
 use Rattle.sq_mapfile.specs.declared.text.ItemText.{ItemText}
 use Rattle.sq_mapfile.specs.declared.text.ItemText.TheVariants.{Tunable, Call, Spread}
 use Rattle.sq_mapfile.specs.declared.text.InstanceText.{InstanceText}
@@ -15,8 +15,8 @@ use Rattle.sq_mapfile.specs.Cycles.{CallText, Calls, Leads, here, further, IsOnC
 use Rattle.sq_mapfile.specs.Graph.{call_to, items_calls, calls_from, gathered}
 use Rattle.sq_mapfile.proofs.Listed.{gathered_listed}
 use Rattle.sq_mapfile.specs.Mappings.{Resolves}
-use Rattle.sq_mapfile.specs.Sound as sound
-use Rattle.sq_mapfile.specs.Sound.{LeadsTo}
+use Rattle.sq_mapping.specs.Sound as sound
+use Rattle.sq_mapping.specs.Sound.{LeadsTo}
 use Rattle.sq_mapfile.proofs.Converse.{made_at, route_at}
 
 -- where a call comes from: an item, or what stands behind

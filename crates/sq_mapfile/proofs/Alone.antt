@@ -3,19 +3,20 @@ use Rattle.std.proofs.Common.{◌≡◌, ℕ, suc, ◌+◌, List, [], ◌∷◌,
 use Rattle.sq_machfile.specs.declared.level.Level.{Level}
 use Rattle.sq_text.specs.Names.{Bytes, same_name}
 use Rattle.sq_text.specs.declared.spread.SpreadRule.{SpreadRule}
-use Rattle.sq_mapfile.specs.declared.mapping.Setting.{Setting}
-use Rattle.sq_mapfile.specs.declared.mapping.Tuning.{Tuning}
-use Rattle.sq_mapfile.specs.declared.mapping.Route.{Route}
-use Rattle.sq_mapfile.specs.declared.mapping.SizeSet.{SizeSet}
-use Rattle.sq_mapfile.specs.declared.mapping.Instance.{Instance}
-use Rattle.sq_mapfile.specs.declared.mapping.Mapping.{Mapping}
+use Rattle.sq_mapping.specs.declared.mapping.Setting.{Setting}
+use Rattle.sq_mapping.specs.declared.mapping.Tuning.{Tuning}
+use Rattle.sq_mapping.specs.declared.mapping.Route.{Route}
+use Rattle.sq_mapping.specs.declared.mapping.SizeSet.{SizeSet}
+use Rattle.sq_mapping.specs.declared.mapping.Instance.{Instance}
+use Rattle.sq_mapping.specs.declared.mapping.Mapping.{Mapping}
 use Rattle.sq_mapfile.specs.declared.text.ItemText.{ItemText}
 use Rattle.sq_mapfile.specs.declared.text.ItemText.TheVariants.{Tunable, Call, Spread}
 use Rattle.sq_mapfile.specs.declared.text.InstanceText.{InstanceText}
 use Rattle.sq_mapfile.specs.declared.text.MappingText.{MappingText}
 use Rattle.sq_mapfile.specs.declared.tunings.Ways.{Ways}
 use Rattle.sq_mapfile.specs.declared.digits.Digits.{Digits}
-use Rattle.sq_mapfile.specs.Names.{first_from, index_of, level_of}
+use Rattle.sq_mapping.specs.Names.{first_from}
+use Rattle.sq_mapfile.specs.Names.{index_of, level_of}
 use Rattle.sq_mapfile.specs.Mappings.{tunings_of, spread_of, size_set}
 use Rattle.sq_mapfile.specs.Resolving.{or_zero, routes_of, instance_with, mapping_with}
 use Rattle.sq_mapfile.specs.Digits.{pick, past}

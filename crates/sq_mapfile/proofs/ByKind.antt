@@ -4,7 +4,8 @@ use Rattle.sq_ast.specs.declared.program.VariantKind.{VariantKind}
 use Rattle.sq_ast.specs.declared.program.VariantKind.TheVariants.{Inner, Leaf}
 use Rattle.sq_ast.specs.declared.program.Variant.{Variant}
 use Rattle.sq_text.specs.Names.{Bytes, same_name}
-use Rattle.sq_mapfile.specs.Names.{first_from, is_variant, has_task, variant_index}
+use Rattle.sq_mapping.specs.Names.{first_from, is_variant, variant_index}
+use Rattle.sq_mapfile.specs.Names.{has_task}
 
 or_true : (b : Bool) → (b || true) ≡ true
 or_true true = refl

@@ -15,8 +15,8 @@ use Rattle.sq_mapfile.specs.declared.text.Version.TheVariants.{First, Second}
 use Rattle.sq_mapfile.specs.declared.text.Tunables.{Tunables}
 use Rattle.sq_mapfile.specs.declared.text.Tunables.TheVariants.{Fixed, Varied}
 use Rattle.sq_mapfile.specs.declared.text.Alternatives.{Alternatives}
-use Rattle.sq_mapfile.specs.declared.mapping.Setting.{Setting}
-use Rattle.sq_mapfile.specs.declared.mapping.Setting.TheVariants.{One, Many}
+use Rattle.sq_mapping.specs.declared.mapping.Setting.{Setting}
+use Rattle.sq_mapping.specs.declared.mapping.Setting.TheVariants.{One, Many}
 use Rattle.sq_mapfile.specs.declared.text.SizeText.{SizeText}
 use Rattle.sq_mapfile.specs.declared.text.ItemText.{ItemText}
 use Rattle.sq_mapfile.specs.declared.text.ItemText.TheVariants.{Tunable, Call, Spread}

@@ -8,18 +8,20 @@ use Rattle.sq_ast.specs.declared.program.VariantKind.{VariantKind}
 use Rattle.sq_ast.specs.declared.program.Variant.{Variant}
 use Rattle.sq_machfile.specs.declared.level.Level.{Level}
 use Rattle.sq_mapfile.specs.declared.text.Alternatives.{Alternatives}
-use Rattle.sq_mapfile.specs.declared.mapping.Tuning.{Tuning}
-use Rattle.sq_mapfile.specs.declared.mapping.Route.{Route}
-use Rattle.sq_mapfile.specs.declared.mapping.Instance.{Instance}
+use Rattle.sq_mapping.specs.declared.mapping.Tuning.{Tuning}
+use Rattle.sq_mapping.specs.declared.mapping.Route.{Route}
+use Rattle.sq_mapping.specs.declared.mapping.Instance.{Instance}
 use Rattle.sq_mapfile.specs.declared.text.ItemText.{ItemText}
 use Rattle.sq_mapfile.specs.declared.text.ItemText.TheVariants.{Tunable, Call, Spread}
 use Rattle.sq_mapfile.specs.declared.text.InstanceText.{InstanceText}
-use Rattle.sq_mapfile.specs.Names.{is_among, first_from, at_index, stands_before, index_of, has_task, is_variant, variant_index, variant_of}
+use Rattle.sq_mapping.specs.Names.{is_among, first_from, at_index, is_variant, variant_index, variant_of}
+use Rattle.sq_mapfile.specs.Names.{stands_before, index_of, has_task}
 use Rattle.sq_mapfile.specs.Faults.{first_missing}
 use Rattle.sq_mapfile.specs.Mappings.{AreRoutes, no_route, no_call, no_rule, a_route, IsInstance, AreInstances, none_left, one_more, tunings_of}
-use Rattle.sq_mapfile.specs.Sound.{EachOnce}
+use Rattle.sq_mapping.specs.Sound.{EachOnce}
 use Rattle.sq_mapfile.proofs.Indices.{found_at}
-use Rattle.sq_mapfile.proofs.Once.{same, among_first, among_rest, has_name, with_first, names}
+use Rattle.sq_mapping.proofs.Same.{same}
+use Rattle.sq_mapfile.proofs.Once.{among_first, among_rest, has_name, with_first, names}
 use Rattle.sq_mapfile.proofs.Facts.{call_name}
 
 pub not_itself : (i : ℕ) → nat_lt i i ≡ false

@@ -8,14 +8,14 @@ use Rattle.sq_text.specs.declared.word.Word.{Word}
 use Rattle.sq_text.specs.Found.{at_word}
 use Rattle.sq_ast.specs.declared.program.Program.{Program}
 use Rattle.sq_machfile.specs.declared.level.Level.{Level}
-use Rattle.sq_mapfile.specs.declared.mapping.Setting.{Setting}
+use Rattle.sq_mapping.specs.declared.mapping.Setting.{Setting}
 use Rattle.sq_mapfile.specs.declared.text.Alternatives.{Alternatives}
 use Rattle.sq_mapfile.specs.declared.text.ItemText.{ItemText}
 use Rattle.sq_mapfile.specs.declared.text.ItemText.TheVariants.{Tunable, Call, Spread}
 use Rattle.sq_mapfile.specs.declared.text.InstanceText.{InstanceText}
 use Rattle.sq_mapfile.specs.declared.text.MappingText.{MappingText}
 use Rattle.sq_mapfile.specs.Grammar.{values}
-use Rattle.sq_mapfile.specs.Required.{Required}
+use Rattle.sq_mapping.specs.Required.{Required}
 use Rattle.sq_mapfile.specs.Faults.{Rule, Scope, scope, required_of}
 use Rattle.sq_mapfile.specs.Choices.{each, item_choices, with_items, instance_choices, with_instances, choices_of, most_choices, times, passes, kind_rules, items_rules, items_count, instances_rules, instances_count, choice_rules, BreaksChoices}
 use Rattle.sq_mapfile.proofs.Kept.{AllNone, all_none, unbroken}

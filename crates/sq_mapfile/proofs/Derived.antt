@@ -14,8 +14,8 @@ use Rattle.sq_patterns.specs.Reading.{pure, all, choice, until, number_in, word_
 use Rattle.sq_patterns.proofs.Owing.{Owed, Want, At, wants, settle}
 use Rattle.sq_patterns.proofs.Matching.{Front, none, next, mapping, entry, instance, tunable, call, spread, cyclic, blocked, inner, leaf, a_word, a_number, exactly, a_sign}
 use Rattle.sq_patterns.proofs.Readings.{Reading, given, gives_more, phrase, weaken, all_reads, patterns_read, choice_reads, Adds, until_reads, IsLast, last_front, finish_reads}
-use Rattle.sq_mapfile.specs.declared.mapping.Setting.{Setting}
-use Rattle.sq_mapfile.specs.declared.mapping.Setting.TheVariants.{One, Many}
+use Rattle.sq_mapping.specs.declared.mapping.Setting.{Setting}
+use Rattle.sq_mapping.specs.declared.mapping.Setting.TheVariants.{One, Many}
 use Rattle.sq_mapfile.specs.declared.text.SizeText.{SizeText}
 use Rattle.sq_mapfile.specs.declared.text.ItemText.{ItemText}
 use Rattle.sq_mapfile.specs.declared.text.ItemText.TheVariants.{Tunable, Call, Spread}

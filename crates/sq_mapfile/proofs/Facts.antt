@@ -12,22 +12,25 @@ use Rattle.sq_text.specs.declared.spread.SpreadRule.TheVariants.{Cyclic}
 use Rattle.sq_text.specs.declared.word.Word.{Word}
 use Rattle.sq_ast.specs.declared.program.VariantKind.TheVariants.{Leaf}
 use Rattle.sq_ast.specs.declared.program.Variant.{Variant}
-use Rattle.sq_mapfile.specs.declared.mapping.Setting.{Setting}
-use Rattle.sq_mapfile.specs.declared.mapping.Tuning.{Tuning}
-use Rattle.sq_mapfile.specs.declared.mapping.Route.{Route}
+use Rattle.sq_mapping.specs.declared.mapping.Setting.{Setting}
+use Rattle.sq_mapping.specs.declared.mapping.Tuning.{Tuning}
+use Rattle.sq_mapping.specs.declared.mapping.Route.{Route}
 use Rattle.sq_mapfile.specs.declared.text.SizeText.{SizeText}
 use Rattle.sq_mapfile.specs.declared.text.ItemText.{ItemText}
 use Rattle.sq_mapfile.specs.declared.text.ItemText.TheVariants.{Tunable, Call, Spread}
 use Rattle.sq_mapfile.specs.declared.text.InstanceText.{InstanceText}
-use Rattle.sq_mapfile.specs.Names.{is_among, is_tunable, is_call, has_task, variant_of, index_of, instance_of, at_index, tunable_index, call_index, size_index, level_of, first_from, stands_before}
-use Rattle.sq_mapfile.specs.Required.{Required, required_by}
-use Rattle.sq_mapfile.specs.Faults.{Scope, Inside, required_of, level_at, has_call, has_tunable, has_size, no_instance, is_uncalled, is_of_other_task, is_skip, is_no_tunable, is_no_size, is_list, is_other, is_other_kind, is_leaf, level_skip}
+use Rattle.sq_mapping.specs.Names.{is_among, variant_of, at_index, first_from}
+use Rattle.sq_mapfile.specs.Names.{is_tunable, is_call, has_task, index_of, instance_of, tunable_index, call_index, size_index, level_of, stands_before}
+use Rattle.sq_mapping.specs.Required.{Required, required_by}
+use Rattle.sq_mapping.specs.Sound.{is_list}
+use Rattle.sq_mapfile.specs.Faults.{Scope, Inside, required_of, level_at, has_call, has_tunable, has_size, no_instance, is_uncalled, is_of_other_task, is_skip, is_no_tunable, is_no_size, is_other, is_other_kind, is_leaf, level_skip}
 use Rattle.sq_mapfile.specs.Mappings.{tunings_of, spread_of, size_set}
 use Rattle.sq_mapfile.specs.Resolving.{or_zero, routes_of}
-use Rattle.sq_mapfile.specs.Sound.{EachOnce}
+use Rattle.sq_mapping.specs.Sound.{EachOnce}
 use Rattle.sq_mapfile.proofs.Kept.{unbroken, not_there, ItemsKeep, ItemKeeps, item_at, InstanceKeeps, InstancesKeep, instance_at, SizesKeep, size_at}
 use Rattle.sq_mapfile.proofs.Indices.{found_at}
-use Rattle.sq_mapfile.proofs.Once.{same, among_cases, has_name, names, first_same, some_first, all_once, keys_of}
+use Rattle.sq_mapping.proofs.Same.{same}
+use Rattle.sq_mapfile.proofs.Once.{among_cases, has_name, names, first_same, some_first, all_once, keys_of}
 use Rattle.sq_mapfile.proofs.Resolved.{instance_index, level_index}
 
 pub not_false : (b : Bool) → not b ≡ false → b ≡ true

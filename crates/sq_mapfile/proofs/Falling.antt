@@ -7,10 +7,10 @@ use Rattle.std.proofs.lemmas.Option.{slice_get-map, slice_get_within}
 use Rattle.std.proofs.lemmas.Map.Steps.{length-le_from_distinct_below}
 use Rattle.sq_machfile.proofs.Families.{made_of}
 use Rattle.sq_machfile.proofs.Hierarchies.{greatest_of}
-use Rattle.sq_mapfile.specs.declared.mapping.Route.{Route}
-use Rattle.sq_mapfile.specs.declared.mapping.Instance.{Instance}
+use Rattle.sq_mapping.specs.declared.mapping.Route.{Route}
+use Rattle.sq_mapping.specs.declared.mapping.Instance.{Instance}
 use Rattle.sq_mapfile.specs.Ranks.{callees, longest, rank}
-use Rattle.sq_mapfile.specs.Sound.{Calls, LeadsTo, by_call, further}
+use Rattle.sq_mapping.specs.Sound.{Calls, LeadsTo, by_call, further}
 
 -- ---- the greatest of numbers
 

@@ -6,7 +6,8 @@ use Rattle.sq_text.specs.declared.word.Word.{Word}
 use Rattle.sq_mapfile.specs.declared.text.ItemText.{ItemText}
 use Rattle.sq_mapfile.specs.declared.text.ItemText.TheVariants.{Tunable, Call, Spread}
 use Rattle.sq_mapfile.specs.declared.text.InstanceText.{InstanceText}
-use Rattle.sq_mapfile.specs.Names.{stands_before, first_from, index_of, call_index}
+use Rattle.sq_mapping.specs.Names.{first_from}
+use Rattle.sq_mapfile.specs.Names.{stands_before, index_of, call_index}
 use Rattle.sq_mapfile.specs.Cycles.{CallText}
 use Rattle.sq_mapfile.specs.Graph.{gathered, call_to, item_calls, items_calls, calls_from}
 use Rattle.sq_mapfile.specs.Graph.{Adds, IsWithin}

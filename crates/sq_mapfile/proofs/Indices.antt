@@ -1,7 +1,7 @@
 -- What is found first in a list.
 use Rattle.std.proofs.Common.{◌≡◌, ℕ, zero, suc, ◌+◌, ◌^◌, ◌<◌, Bool, true, false, List, [], ◌∷◌, length, Option, Some, None, is_none, refl, arith, ltb, if◌then◌else◌}
 use Rattle.std.specs.List.{slice_get}
-use Rattle.sq_mapfile.specs.Names.{first_from}
+use Rattle.sq_mapping.specs.Names.{first_from}
 use Rattle.sq_mapfile.specs.Resolving.{or_zero}
 
 -- the item at an index from i on passes the test

@@ -34,5 +34,3 @@ pub mod Unfaulted
 pub mod Walks
 pub mod Whole
 pub mod Written
--- Lemmas of crates below, passed on.
-pub use Rattle.sq_types.proofs as Types

@@ -9,7 +9,7 @@ use Rattle.sq_mapfile.specs.declared.text.ItemText.TheVariants.{Tunable, Call, S
 use Rattle.sq_mapfile.specs.declared.text.InstanceText.{InstanceText}
 use Rattle.sq_mapfile.specs.declared.text.MappingText.{MappingText}
 use Rattle.sq_mapfile.specs.Names.{of_each, stands_before, index_of, instance_of, call_index}
-use Rattle.sq_mapfile.specs.Required.{Required}
+use Rattle.sq_mapping.specs.Required.{Required}
 use Rattle.sq_mapfile.specs.Faults.{Rule, Scope, scope, Inside, inside, required_of, required_at, item_rules, instance_rules, size_rules, name_rules}
 use Rattle.sq_mapfile.specs.Notes as notes
 use Rattle.sq_mapfile.specs.Cycles.{CallText, call_to, item_calls, instance_calls, calls_among}

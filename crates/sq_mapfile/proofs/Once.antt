@@ -6,15 +6,11 @@ use Rattle.std.proofs.lemmas.Bool.Decides.{leb_tells}
 use Rattle.std.proofs.lemmas.Slice.Eq.{bytes_eq-Decides}
 use Rattle.std.proofs.lemmas.List.Folds.{list_any-append}
 use Rattle.sq_text.specs.Names.{Bytes, same_name}
-use Rattle.sq_mapfile.specs.Names.{is_among, first_from, stands_before}
+use Rattle.sq_mapping.proofs.Same.{same, itself}
+use Rattle.sq_mapping.specs.Names.{is_among, first_from}
+use Rattle.sq_mapfile.specs.Names.{stands_before}
 use Rattle.sq_mapfile.specs.Faults.{first_missing}
-use Rattle.sq_mapfile.specs.Sound.{EachOnce}
-
-pub same : (a b : Bytes) → same_name a b ≡ true → a ≡ b
-same a b h = (bytes_eq-Decides a b).0 h
-
-pub itself : (a : Bytes) → same_name a a ≡ true
-itself a = (bytes_eq-Decides a a).1 refl
+use Rattle.sq_mapping.specs.Sound.{EachOnce}
 
 -- a name is the first of the list, or among the others
 pub among_cases : (first : Bytes) (rest : List Bytes) (name : Bytes) → is_among (first ∷ rest) name ≡ true → (name ≡ first) ⊎ (is_among rest name ≡ true)

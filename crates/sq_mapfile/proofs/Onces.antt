@@ -18,7 +18,7 @@ use Rattle.sq_ast.specs.declared.program.Body.TheVariants as body
 use Rattle.sq_ast.specs.declared.program.Variant.{Variant}
 use Rattle.sq_ast.specs.declared.program.Decl.{Decl}
 use Rattle.sq_ast.specs.declared.program.Decl.TheVariants as decl
-use Rattle.sq_mapfile.specs.Required.{Tunables, required_by, body_tasks, with_name, with_tunable, each_once, tasks_step, tasks_of, tunables_of, extent_sizes, sizes_of}
+use Rattle.sq_mapping.specs.Required.{Tunables, required_by, body_tasks, with_name, with_tunable, each_once, tasks_step, tasks_of, tunables_of, extent_sizes, sizes_of}
 use Rattle.sq_mapfile.specs.Gathering.{Gather, gathered_by, body_calls, stmt_calls, stmts_calls, decls_tunables, extents_sizes, params_sizes}
 use Rattle.sq_mapfile.proofs.OpenedCalls.{calls_call, calls_map}
 

@@ -8,7 +8,7 @@ use Rattle.sq_ast.specs.declared.stmt.Stmt.{Stmt}
 use Rattle.sq_ast.specs.declared.stmt.Stmt.TheVariants as s
 use Rattle.sq_ast.specs.declared.stmt.Stmt.TheOpen.{Stmt-F}
 use Rattle.sq_ast.specs.declared.stmt.Stmt.TheFolds.{fold-roll-Stmt}
-use Rattle.sq_mapfile.specs.Required.{with_name}
+use Rattle.sq_mapping.specs.Required.{with_name}
 use Rattle.sq_mapfile.specs.Gathering.{Gather, stmt_step, stmt_calls, stmts_calls}
 
 pub calls_call : (c : Call) → stmt_calls (s.Call c) ≡ (λ names. with_name names c.task)

@@ -7,8 +7,8 @@ use Rattle.sq_text.specs.First.{HoldsIn}
 use Rattle.sq_machfile.specs.declared.level.Level.{Level}
 use Rattle.sq_text.specs.declared.word.Word.{Word}
 use Rattle.sq_ast.specs.declared.program.Program.{Program}
-use Rattle.sq_mapfile.specs.declared.mapping.Route.{Route}
-use Rattle.sq_mapfile.specs.declared.mapping.Instance.{Instance}
+use Rattle.sq_mapping.specs.declared.mapping.Route.{Route}
+use Rattle.sq_mapping.specs.declared.mapping.Instance.{Instance}
 use Rattle.sq_mapfile.specs.declared.text.ItemText.{ItemText}
 use Rattle.sq_mapfile.specs.declared.text.ItemText.TheVariants.{Call, Tunable, Spread}
 use Rattle.sq_mapfile.specs.declared.text.InstanceText.{InstanceText}
@@ -19,8 +19,8 @@ use Rattle.sq_mapfile.specs.Cycles.{CallText, Calls, Leads, here, further, IsOnC
 use Rattle.sq_mapfile.specs.Graph.{call_to, items_calls, calls_from, gathered}
 use Rattle.sq_mapfile.proofs.Listed.{gathered_listed}
 use Rattle.sq_mapfile.specs.Resolving.{or_zero, routes_of, instance_with}
-use Rattle.sq_mapfile.specs.Sound as sound
-use Rattle.sq_mapfile.specs.Sound.{LeadsTo}
+use Rattle.sq_mapping.specs.Sound as sound
+use Rattle.sq_mapping.specs.Sound.{LeadsTo}
 use Rattle.sq_mapfile.proofs.Kept.{unbroken, ItemsKeep, InstancesKeep}
 use Rattle.sq_mapfile.proofs.Resolved.{instance_index}
 

@@ -22,7 +22,7 @@ use Rattle.sq_mapfile.specs.declared.choices.Choices.{Choices}
 use Rattle.sq_mapfile.specs.Grammar.{IsText, IsTextOf}
 use Rattle.sq_mapfile.specs.Resolving.{mapping_with}
 use Rattle.sq_mapfile.specs.Mappings.{Resolves, Writes, WritesAs, BreaksRule, MappingFault}
-use Rattle.sq_mapfile.specs.Sound.{Sound}
+use Rattle.sq_mapping.specs.Sound.{Sound}
 use Rattle.sq_mapfile.specs.Choices.{choices_of, BreaksChoices, instances_count}
 use Rattle.sq_mapfile.specs.Chosen.{ways_of, mapping_at}
 use Rattle.sq_mapfile.specs.Made.{mapping_of, AreChoices, StandFor, IsReadAs, AreReadAlone, AreSameChoices}

@@ -8,19 +8,19 @@ use Rattle.sq_text.specs.declared.code.Code.TheVariants as code
 use Rattle.sq_text.specs.declared.fault.Fault.{Fault}
 use Rattle.sq_machfile.specs.declared.level.Level.{Level}
 use Rattle.sq_ast.specs.declared.program.Program.{Program}
-use Rattle.sq_mapfile.specs.declared.mapping.Route.{Route}
-use Rattle.sq_mapfile.specs.declared.mapping.Instance.{Instance}
-use Rattle.sq_mapfile.specs.declared.mapping.Mapping.{Mapping}
+use Rattle.sq_mapping.specs.declared.mapping.Route.{Route}
+use Rattle.sq_mapping.specs.declared.mapping.Instance.{Instance}
+use Rattle.sq_mapping.specs.declared.mapping.Mapping.{Mapping}
 use Rattle.sq_mapfile.specs.declared.text.InstanceText.{InstanceText}
 use Rattle.sq_mapfile.specs.declared.text.MappingText.{MappingText}
 use Rattle.sq_text.specs.Names.{same_name}
 use Rattle.sq_mapfile.specs.Names.{level_of, instance_of}
-use Rattle.sq_mapfile.specs.Required.{required_by}
+use Rattle.sq_mapping.specs.Required.{required_by}
 use Rattle.sq_mapfile.specs.Faults.{Scope, inside, scope, NameFault, required_of, required_at, level_at, has_call, has_tunable, has_size, missing_call, missing_tunable, missing_size, is_below_root}
 use Rattle.sq_mapfile.specs.Cycles.{CycleFault}
 use Rattle.sq_mapfile.specs.Mappings.{tunings_of}
 use Rattle.sq_mapfile.specs.Resolving.{or_zero, routes_of, instance_with, mapping_with}
-use Rattle.sq_mapfile.specs.Sound.{EachOnce, Exactly, RouteFits, InstanceFits, EntryFits, Sound}
+use Rattle.sq_mapping.specs.Sound.{EachOnce, Exactly, RouteFits, InstanceFits, EntryFits, Sound}
 use Rattle.sq_mapfile.proofs.Kept.{unbroken, none_lacks, InstanceKeeps, instance_at, Keeps, keeps}
 use Rattle.sq_mapfile.proofs.Indices.{found_below}
 use Rattle.sq_mapfile.proofs.Once.{names, none_missing}

@@ -15,26 +15,29 @@ use Rattle.sq_text.specs.Found.{at_word, at_lack, at_place, BreaksIn}
 use Rattle.sq_ast.specs.declared.program.Program.{Program}
 use Rattle.sq_machfile.specs.declared.level.Level.{Level}
 use Rattle.sq_mapfile.specs.declared.text.Alternatives.{Alternatives}
-use Rattle.sq_mapfile.specs.declared.mapping.Instance.{Instance}
-use Rattle.sq_mapfile.specs.declared.mapping.Mapping.{Mapping}
+use Rattle.sq_mapping.specs.declared.mapping.Instance.{Instance}
+use Rattle.sq_mapping.specs.declared.mapping.Mapping.{Mapping}
 use Rattle.sq_mapfile.specs.declared.text.SizeText.{SizeText}
 use Rattle.sq_mapfile.specs.declared.text.ItemText.{ItemText}
 use Rattle.sq_mapfile.specs.declared.text.ItemText.TheVariants.{Tunable, Call, Spread}
 use Rattle.sq_mapfile.specs.declared.text.InstanceText.{InstanceText}
 use Rattle.sq_mapfile.specs.declared.text.MappingText.{MappingText}
-use Rattle.sq_mapfile.specs.Names.{is_among, at_index, stands_before, instance_of, has_task, variant_of}
-use Rattle.sq_mapfile.specs.Required.{Required, required_by}
+use Rattle.sq_mapping.specs.Names.{is_among, at_index, variant_of}
+use Rattle.sq_mapfile.specs.Names.{stands_before, instance_of, has_task}
+use Rattle.sq_mapping.specs.Required.{Required, required_by}
 use Rattle.sq_mapfile.specs.Faults as f
 use Rattle.sq_mapfile.specs.Notes as notes
 use Rattle.sq_mapfile.proofs.Listed.{listed}
-use Rattle.sq_mapfile.specs.Faults.{Rule, breach_of, Scope, scope, Inside, inside, required_of, required_at, level_at, level_in, is_skip, is_list, is_other, is_other_kind, is_no_tunable, is_no_size, is_uncalled, is_of_other_task, is_below_root, missing_call, missing_tunable, missing_size, is_leaf, has_call, has_tunable, has_size, NameFault}
-use Rattle.sq_mapfile.specs.declared.mapping.Tuning.{Tuning}
-use Rattle.sq_mapfile.specs.declared.mapping.Route.{Route}
-use Rattle.sq_mapfile.specs.declared.mapping.SizeSet.{SizeSet}
+use Rattle.sq_mapping.specs.Sound.{is_list}
+use Rattle.sq_mapfile.specs.Faults.{Rule, breach_of, Scope, scope, Inside, inside, required_of, required_at, level_at, level_in, is_skip, is_other, is_other_kind, is_no_tunable, is_no_size, is_uncalled, is_of_other_task, is_below_root, missing_call, missing_tunable, missing_size, is_leaf, has_call, has_tunable, has_size, NameFault}
+use Rattle.sq_mapping.specs.declared.mapping.Tuning.{Tuning}
+use Rattle.sq_mapping.specs.declared.mapping.Route.{Route}
+use Rattle.sq_mapping.specs.declared.mapping.SizeSet.{SizeSet}
 use Rattle.sq_ast.specs.declared.program.Variant.{Variant}
 use Rattle.sq_mapfile.specs.Mappings.{Resolves, SpreadsOnce, IsInstance, AreInstances, none_left, one_more}
-use Rattle.sq_mapfile.specs.Sound.{EachOnce, InstanceFits, Sound}
-use Rattle.sq_mapfile.proofs.Once.{itself, names}
+use Rattle.sq_mapping.specs.Sound.{EachOnce, InstanceFits, Sound}
+use Rattle.sq_mapping.proofs.Same.{itself}
+use Rattle.sq_mapfile.proofs.Once.{names}
 use Rattle.sq_mapfile.proofs.Facts.{call_name, tunable_name, size_name, instance_name, call_first, tunable_first, has_call_among, has_tunable_among, has_size_among, tuning_names, set_names}
 use Rattle.sq_mapfile.proofs.Kept.{AllNone}
 use Rattle.sq_mapfile.proofs.Converse.{not_itself, none_named_before, among_at, all_given, task_there, made_at, Text, text_at, tasks_of, route_at, tuning_at}

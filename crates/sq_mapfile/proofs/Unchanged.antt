@@ -8,8 +8,9 @@ use Rattle.sq_mapfile.specs.declared.text.ItemText.{ItemText}
 use Rattle.sq_mapfile.specs.declared.text.ItemText.TheVariants.{Tunable, Call, Spread}
 use Rattle.sq_mapfile.specs.declared.text.InstanceText.{InstanceText}
 use Rattle.sq_mapfile.specs.declared.digits.Digits.{Digits}
-use Rattle.sq_mapfile.specs.Names.{first_from, of_each, stands_before, is_tunable, is_call, is_spread, tunable_index, call_index, spread_index, index_of, instance_of}
-use Rattle.sq_mapfile.specs.Required.{Required}
+use Rattle.sq_mapping.specs.Names.{first_from}
+use Rattle.sq_mapfile.specs.Names.{of_each, stands_before, is_tunable, is_call, is_spread, tunable_index, call_index, spread_index, index_of, instance_of}
+use Rattle.sq_mapping.specs.Required.{Required}
 use Rattle.sq_mapfile.specs.Faults.{Scope, required_at, level_in, is_of_other_task, has_call, has_tunable, missing_call, missing_tunable, first_missing}
 use Rattle.sq_mapfile.specs.Cycles.{item_calls, instance_calls, calls_among, call_to}
 use Rattle.sq_mapfile.specs.Digits.{past}

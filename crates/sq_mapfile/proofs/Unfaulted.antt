@@ -7,7 +7,7 @@ use Rattle.sq_text.specs.First.{HoldsIn}
 use Rattle.sq_text.specs.Found.{at_word, at_lack}
 use Rattle.sq_ast.specs.declared.program.Program.{Program}
 use Rattle.sq_machfile.specs.declared.level.Level.{Level}
-use Rattle.sq_mapfile.specs.declared.mapping.Setting.{Setting}
+use Rattle.sq_mapping.specs.declared.mapping.Setting.{Setting}
 use Rattle.sq_mapfile.specs.declared.text.Alternatives.{Alternatives}
 use Rattle.sq_mapfile.specs.declared.text.SizeText.{SizeText}
 use Rattle.sq_mapfile.specs.declared.text.ItemText.{ItemText}
@@ -16,7 +16,7 @@ use Rattle.sq_mapfile.specs.declared.text.InstanceText.{InstanceText}
 use Rattle.sq_mapfile.specs.declared.text.MappingText.{MappingText}
 use Rattle.sq_mapfile.specs.declared.digits.Digits.{Digits}
 use Rattle.sq_mapfile.specs.Names.{stands_before, instance_of}
-use Rattle.sq_mapfile.specs.Required.{Required}
+use Rattle.sq_mapping.specs.Required.{Required}
 use Rattle.sq_mapfile.specs.Faults as f
 use Rattle.sq_mapfile.specs.Faults.{Rule, Scope, scope, inside, required_of, required_at, NameFault}
 use Rattle.sq_mapfile.specs.Notes as notes

@@ -15,7 +15,7 @@ use Rattle.sq_mapfile.specs.declared.text.ItemText.{ItemText}
 use Rattle.sq_mapfile.specs.declared.text.InstanceText.{InstanceText}
 use Rattle.sq_mapfile.specs.declared.text.MappingText.{MappingText}
 use Rattle.sq_mapfile.specs.Names.{level_of}
-use Rattle.sq_mapfile.specs.Required.{Required}
+use Rattle.sq_mapping.specs.Required.{Required}
 use Rattle.sq_mapfile.specs.Faults.{Rule, Scope, Inside, breach_of, required_of, NameFault}
 use Rattle.sq_mapfile.specs.Faults as faults
 use Rattle.sq_mapfile.proofs.Listed.{listed}

@@ -10,13 +10,13 @@ use Rattle.sq_lexer.specs.Tokens.{AreTokens}
 use Rattle.sq_lexer.specs.Faults.{FitsFile}
 use Rattle.sq_ast.specs.declared.program.Program.{Program}
 use Rattle.sq_machfile.specs.declared.level.Level.{Level}
-use Rattle.sq_mapfile.specs.declared.mapping.Mapping.{Mapping}
+use Rattle.sq_mapping.specs.declared.mapping.Mapping.{Mapping}
 use Rattle.sq_mapfile.specs.declared.text.MappingText.{MappingText}
 use Rattle.sq_mapfile.specs.declared.text.Tunables.TheVariants.{Fixed}
 use Rattle.sq_mapfile.specs.Grammar.{IsText}
 use Rattle.sq_mapfile.specs.Mappings.{Writes, BreaksRule, MappingFault, SpreadsOnce, Resolves, StandsFor}
 use Rattle.sq_mapfile.specs.Resolving.{mapping_with}
-use Rattle.sq_mapfile.specs.Sound.{Sound}
+use Rattle.sq_mapping.specs.Sound.{Sound}
 use Rattle.sq_mapfile.proofs.Files.{Lexed, same_written, writes}
 use Rattle.sq_mapfile.proofs.Sizes.{few_instances}
 use Rattle.sq_mapfile.proofs.Resolved.{resolved, one_resolved}

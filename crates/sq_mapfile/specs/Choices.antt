@@ -11,7 +11,7 @@ use Rattle.sq_text.specs.declared.word.Word.{Word}
 use Rattle.sq_text.specs.Found.{at_word, BreaksIn}
 use Rattle.sq_ast.specs.declared.program.Program.{Program}
 use Rattle.sq_machfile.specs.declared.level.Level.{Level}
-use Rattle.sq_mapfile.specs.declared.mapping.Setting.{Setting}
+use Rattle.sq_mapping.specs.declared.mapping.Setting.{Setting}
 use Rattle.sq_mapfile.specs.declared.text.Alternatives.{Alternatives}
 use Rattle.sq_mapfile.specs.declared.text.Tunables.TheVariants.{Varied}
 use Rattle.sq_mapfile.specs.declared.text.ItemText.{ItemText}
@@ -19,7 +19,7 @@ use Rattle.sq_mapfile.specs.declared.text.ItemText.TheVariants.{Tunable}
 use Rattle.sq_mapfile.specs.declared.text.InstanceText.{InstanceText}
 use Rattle.sq_mapfile.specs.declared.text.MappingText.{MappingText}
 use Rattle.sq_mapfile.specs.Grammar.{values}
-use Rattle.sq_mapfile.specs.Required.{Required}
+use Rattle.sq_mapping.specs.Required.{Required}
 use Rattle.sq_mapfile.specs.Faults.{Rule, Scope, scope, required_of, tunable_kind, breach_of}
 use Rattle.sq_mapfile.specs.Mappings.{BreaksRule, FileFault}
 

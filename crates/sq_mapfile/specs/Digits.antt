@@ -1,6 +1,6 @@
 -- The number of a choice, taken apart tunable by tunable. No clause of another crate's speaks of it.
 use Rattle.std.specs.Prelude.{ℕ, ◌+◌, ◌-◌, ◌/◌, ◌%◌, ◌==◌, max, [], ◌∷◌, length, if◌then◌else◌, Option, Some, None, slice_get}
-use Rattle.sq_mapfile.specs.declared.mapping.Setting.{Setting}
+use Rattle.sq_mapping.specs.declared.mapping.Setting.{Setting}
 use Rattle.sq_mapfile.specs.declared.text.Alternatives.{Alternatives}
 use Rattle.sq_mapfile.specs.declared.digits.Digits.{Digits}
 

@@ -15,15 +15,16 @@ use Rattle.sq_ast.specs.declared.program.VariantKind.TheVariants.{Inner, Leaf}
 use Rattle.sq_ast.specs.declared.program.Variant.{Variant}
 use Rattle.sq_ast.specs.declared.program.Program.{Program}
 use Rattle.sq_machfile.specs.declared.level.Level.{Level}
-use Rattle.sq_mapfile.specs.declared.mapping.Setting.{Setting}
-use Rattle.sq_mapfile.specs.declared.mapping.Setting.TheVariants.{One, Many}
+use Rattle.sq_mapping.specs.declared.mapping.Setting.{Setting}
+use Rattle.sq_mapping.specs.declared.mapping.Setting.TheVariants.{One, Many}
 use Rattle.sq_mapfile.specs.declared.text.SizeText.{SizeText}
 use Rattle.sq_mapfile.specs.declared.text.ItemText.{ItemText}
 use Rattle.sq_mapfile.specs.declared.text.ItemText.TheVariants.{Tunable, Call, Spread}
 use Rattle.sq_mapfile.specs.declared.text.InstanceText.{InstanceText}
 use Rattle.sq_mapfile.specs.declared.text.MappingText.{MappingText}
-use Rattle.sq_mapfile.specs.Names.{is_among, of_each, stands_before, index_of, instance_of, tunable_index, call_index, spread_index, size_index, has_task, variant_of, level_of}
-use Rattle.sq_mapfile.specs.Required.{Required, required_by}
+use Rattle.sq_mapping.specs.Names.{is_among, variant_of}
+use Rattle.sq_mapfile.specs.Names.{of_each, stands_before, index_of, instance_of, tunable_index, call_index, spread_index, size_index, has_task, level_of}
+use Rattle.sq_mapping.specs.Required.{Required, required_by}
 
 -- the breach of a rule, where it is broken
 abbrev pub Rule : Type 0
@@ -118,10 +119,6 @@ missing_tunable (Some required) items = first_missing (has_tunable items) (map (
 abbrev pub is_no_tunable : Option Required → Bytes → Bool
 is_no_tunable None name = false
 is_no_tunable (Some required) name = is_none (lookup (same_name name) required.tunables)
-
-abbrev pub is_list : Setting → Bool
-is_list (One value) = false
-is_list (Many values) = true
 
 abbrev pub is_other : Option Bool → Setting → Bool
 is_other None setting = false

@@ -13,7 +13,7 @@ use Rattle.sq_ast.specs.declared.program.Body.{Body}
 use Rattle.sq_ast.specs.declared.program.Body.TheVariants as body
 use Rattle.sq_text.specs.Names.{Bytes}
 use Rattle.sq_ast.specs.declared.program.Variant.{Variant}
-use Rattle.sq_mapfile.specs.Required.{Required, Tunables, with_name, with_tunable}
+use Rattle.sq_mapping.specs.Required.{Required, Tunables, with_name, with_tunable}
 
 -- ---- the tasks that are called
 

@@ -12,8 +12,8 @@ use Rattle.sq_lexer.specs.declared.token.Token.{Token}
 use Rattle.sq_lexer.specs.declared.token.Kind.TheVariants.{Word, Number, Sign, End}
 use Rattle.sq_lexer.specs.declared.token.Sign.TheVariants as sign
 use Rattle.sq_lexer.specs.Tokens.{token}
-use Rattle.sq_mapfile.specs.declared.mapping.Setting.{Setting}
-use Rattle.sq_mapfile.specs.declared.mapping.Setting.TheVariants.{One, Many}
+use Rattle.sq_mapping.specs.declared.mapping.Setting.{Setting}
+use Rattle.sq_mapping.specs.declared.mapping.Setting.TheVariants.{One, Many}
 use Rattle.sq_mapfile.specs.declared.text.Version.{Version}
 use Rattle.sq_mapfile.specs.declared.text.Version.TheVariants.{First, Second}
 use Rattle.sq_mapfile.specs.declared.text.Tunables.{Tunables}

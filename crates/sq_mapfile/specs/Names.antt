@@ -13,22 +13,10 @@ use Rattle.sq_mapfile.specs.declared.text.ItemText.{ItemText}
 use Rattle.sq_mapfile.specs.declared.text.ItemText.TheVariants.{Tunable, Call, Spread}
 use Rattle.sq_mapfile.specs.declared.text.InstanceText.{InstanceText}
 
-abbrev pub is_among : List Bytes → Bytes → Bool
-is_among names name = list_any (same_name name) names
-
--- the index of the first item that passes the test; the first item of the list has index i
-abbrev pub first_from : {A : Type 0} → (A → Bool) → ℕ → List A → Option ℕ
-first_from test i [] = None
-first_from test i (x ∷ rest) = if test x then Some i else first_from test (suc i) rest
-
 -- what is made of each by its index, where the first has index i
 abbrev pub of_each : {A B : Type 0} → (ℕ → A → List B) → ℕ → List A → List B
 of_each made i [] = []
 of_each made i (x ∷ later) = made i x ++ of_each made (suc i) later
-
--- the item at an index, where there is one
-abbrev pub at_index : {A : Type 0} → List A → Option ℕ → Option A
-at_index xs i = option_and_then (slice_get xs) i
 
 -- the first of a name stands before this index
 abbrev pub stands_before : Option ℕ → ℕ → Bool
@@ -72,22 +60,8 @@ size_index sizes name = first_from (λ size. same_name name size.name.name) 0 si
 
 -- ---- variants
 
-abbrev pub same_kind : VariantKind → VariantKind → Bool
-same_kind Inner Inner = true
-same_kind Leaf Leaf = true
-same_kind _ _ = false
-
 abbrev pub has_task : List Variant → Bytes → Bool
 has_task variants task = list_any (λ v. same_name task v.task) variants
-
-abbrev pub is_variant : Bytes → VariantKind → Variant → Bool
-is_variant task kind v = same_name task v.task && same_kind kind v.kind
-
-abbrev pub variant_index : List Variant → Bytes → VariantKind → Option ℕ
-variant_index variants task kind = first_from (is_variant task kind) 0 variants
-
-abbrev pub variant_of : List Variant → Bytes → VariantKind → Option Variant
-variant_of variants task kind = at_index variants (variant_index variants task kind)
 
 -- ---- levels
 

@@ -9,7 +9,7 @@ use Rattle.sq_mapfile.specs.declared.text.ItemText.TheVariants.{Tunable, Call, S
 use Rattle.sq_mapfile.specs.declared.text.InstanceText.{InstanceText}
 use Rattle.sq_mapfile.specs.declared.text.MappingText.{MappingText}
 use Rattle.sq_mapfile.specs.Names.{instance_of, tunable_index, call_index, spread_index, size_index}
-use Rattle.sq_mapfile.specs.Required.{Required}
+use Rattle.sq_mapping.specs.Required.{Required}
 use Rattle.sq_mapfile.specs.Faults.{Rule, Scope, scope, Inside, inside, required_of, required_at, level_at, dup_instance, dup_item, no_instance, no_task, no_variant, no_level, call_missing, call_unknown, call_task, level_skip, entry_skip, tunable_missing, tunable_unknown, tunable_kind, size_missing, size_unknown, spread_leaf}
 
 abbrev pub Rules : Type 0

@@ -13,8 +13,8 @@ use Rattle.sq_text.specs.declared.spread.SpreadRule.TheVariants as spreading
 use Rattle.sq_text.specs.declared.word.Word.{Word}
 use Rattle.sq_patterns.specs.Reading.{Reader, ◌>>=◌, pure, all, choice, until, finish, word_in, number_in}
 use Rattle.sq_mapfile.specs.Grammar.{number_of, values as alternatives_of}
-use Rattle.sq_mapfile.specs.declared.mapping.Setting.{Setting}
-use Rattle.sq_mapfile.specs.declared.mapping.Setting.TheVariants.{One, Many}
+use Rattle.sq_mapping.specs.declared.mapping.Setting.{Setting}
+use Rattle.sq_mapping.specs.declared.mapping.Setting.TheVariants.{One, Many}
 use Rattle.sq_mapfile.specs.declared.text.Version.{Version}
 use Rattle.sq_mapfile.specs.declared.text.Version.TheVariants.{First, Second}
 use Rattle.sq_mapfile.specs.declared.text.Tunables.{Tunables}

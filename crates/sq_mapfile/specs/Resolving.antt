@@ -2,9 +2,9 @@
 -- as no file has so many.
 use Rattle.std.specs.Prelude.{ℕ, ◌^◌, ltb, List, [], ◌∷◌, map, Option, Some, None, if◌then◌else◌}
 use Rattle.sq_machfile.specs.declared.level.Level.{Level}
-use Rattle.sq_mapfile.specs.declared.mapping.Route.{Route}
-use Rattle.sq_mapfile.specs.declared.mapping.Instance.{Instance}
-use Rattle.sq_mapfile.specs.declared.mapping.Mapping.{Mapping}
+use Rattle.sq_mapping.specs.declared.mapping.Route.{Route}
+use Rattle.sq_mapping.specs.declared.mapping.Instance.{Instance}
+use Rattle.sq_mapping.specs.declared.mapping.Mapping.{Mapping}
 use Rattle.sq_mapfile.specs.declared.text.ItemText.{ItemText}
 use Rattle.sq_mapfile.specs.declared.text.ItemText.TheVariants.{Tunable, Call, Spread}
 use Rattle.sq_mapfile.specs.declared.text.InstanceText.{InstanceText}

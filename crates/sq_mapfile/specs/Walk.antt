@@ -5,13 +5,13 @@ use Rattle.sq_text.specs.declared.fault.Fault.{Fault}
 use Rattle.sq_text.specs.declared.word.Word.{Word}
 use Rattle.sq_text.specs.Faults.{IsFirst, least}
 use Rattle.sq_text.specs.Found.{Found}
-use Rattle.sq_mapfile.specs.declared.mapping.Setting.{Setting}
+use Rattle.sq_mapping.specs.declared.mapping.Setting.{Setting}
 use Rattle.sq_mapfile.specs.declared.items.Inside as walk
 use Rattle.sq_mapfile.specs.Names.{tunable_index, call_index, spread_index, instance_of}
 use Rattle.sq_mapfile.specs.Faults.{Inside, dup_item, tunable_unknown, tunable_kind, call_unknown, no_instance, call_task, level_skip, level_at, spread_leaf, Scope, dup_instance, call_missing, tunable_missing, no_task, no_variant, no_level}
 use Rattle.sq_mapfile.specs.Notes.{Rules}
 use Rattle.sq_mapfile.specs.Scopes.{scope_of}
-use Rattle.sq_mapfile.specs.Required.{Required}
+use Rattle.sq_mapping.specs.Required.{Required}
 use Rattle.sq_mapfile.specs.declared.text.InstanceText.{InstanceText}
 
 -- what the walk knows of an instance

@@ -6,7 +6,7 @@ ghost use Rattle.sq_mapfile.specs.Chosen as spec;
 ghost use Rattle.sq_mapfile.specs.Resolving.{mapping_with};
 
 use crate::digits::Digits;
-use crate::mapping::{Instance, Instances, Mapping, Route, Routes, SizeSet, SizeSets, Tunings};
+use sq_mapping::{Instance, Instances, Mapping, Route, Routes, SizeSet, SizeSets, Tunings};
 use crate::resolve::resolve;
 use crate::table::InstanceTable;
 use crate::text::MappingText;

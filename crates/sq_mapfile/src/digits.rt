@@ -3,7 +3,7 @@
 ghost use Rattle.std.specs.Prelude.{◌≡◌, length};
 ghost use Rattle.sq_mapfile.specs.Digits as spec;
 
-use crate::mapping::Setting;
+use sq_mapping::Setting;
 use crate::text::Alternatives;
 
 /// The number of a choice of the tunables that are left, of which there are so many choices.

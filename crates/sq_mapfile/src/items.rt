@@ -8,7 +8,7 @@ ghost use Rattle.sq_mapfile.specs.Faults.{breach_of};
 ghost use Rattle.sq_mapfile.specs.Walk.{inside_of, tunable_rules, called_rules, callee_rules, spread_rules};
 
 use crate::given::ItemTable;
-use crate::mapping::Setting;
+use sq_mapping::Setting;
 use crate::required::Required;
 use crate::rules::{
     is_leaf, is_no_tunable, is_of_other_task, is_other_kind, is_skip, is_uncalled, stands_before,

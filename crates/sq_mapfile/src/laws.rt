@@ -4,7 +4,7 @@ ghost use Rattle.std.specs.Prelude.{◌≡◌, ◌<◌, ◌≤◌, ℕ, List, So
 ghost use Rattle.sq_lexer.specs.declared.token.Token.{Token};
 ghost use Rattle.sq_ast.specs.declared.program.Program.{Program};
 ghost use Rattle.sq_machfile.specs.declared.level.Level.{Level};
-ghost use Rattle.sq_mapfile.specs.declared.mapping.Mapping.{Mapping};
+ghost use Rattle.sq_mapping.specs.declared.mapping.Mapping.{Mapping};
 ghost use Rattle.sq_mapfile.specs.declared.choices.Choices.{Choices};
 ghost use Rattle.sq_mapfile.specs.declared.text.MappingText.{MappingText};
 ghost use Rattle.sq_mapfile.specs.declared.text.Tunables.TheVariants.{Varied};
@@ -12,7 +12,7 @@ ghost use Rattle.sq_mapfile.specs.Choices.{choices_of};
 ghost use Rattle.sq_mapfile.specs.Grammar.{IsTextOf};
 ghost use Rattle.sq_mapfile.specs.Made.{AreSameChoices, HasTokens, StandFor};
 ghost use Rattle.sq_mapfile.specs.Ranks.{rank};
-ghost use Rattle.sq_mapfile.specs.Sound.{Calls, Sound};
+ghost use Rattle.sq_mapping.specs.Sound.{Calls, Sound};
 
 use sq_lexer::laws::each_text_has_tokens_or_breaks;
 

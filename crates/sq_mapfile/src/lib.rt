@@ -13,7 +13,6 @@ mod graph;
 mod instances;
 mod items;
 pub mod laws;
-mod mapping;
 mod ranks;
 mod reader;
 mod reading;
@@ -28,9 +27,4 @@ mod tunings;
 mod walk;
 
 pub use choices::Choices;
-pub use mapping::{
-    Instance, Instances, Mapping, Numbers, Route, Routes, Setting, SizeSet, SizeSets, Tuning,
-    Tunings,
-};
 pub use reader::{read_choices, read_mapping};
-pub use sq_machfile::{Machine, Node};

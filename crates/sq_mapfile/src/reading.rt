@@ -8,7 +8,7 @@ ghost use Rattle.sq_mapfile.specs.Mappings.{IsSyntaxFaultOf};
 ghost use Rattle.sq_mapfile.specs.Reading as spec;
 ghost use Rattle.sq_patterns.specs.Reading.{Reads, ReadsFront};
 
-use crate::mapping::{Numbers, Setting};
+use sq_mapping::{Numbers, Setting};
 use crate::text::{Alternatives, InstanceText, ItemText, MappingText, SizeText, Tunables, Version};
 use sq_ast::VariantKind;
 use sq_lexer::{Sign, Token};

@@ -4,10 +4,10 @@ ghost use Rattle.std.specs.Prelude.{◌≡◌, [], map, IfOk, OnOk};
 ghost use Rattle.std.specs.Map.{lookup};
 ghost use Rattle.std.specs.Option.{option_copied};
 ghost use Rattle.sq_text.specs.Names.{same_name};
-ghost use Rattle.sq_mapfile.specs.Names.{is_among};
+ghost use Rattle.sq_mapping.specs.Names.{is_among};
 ghost use Rattle.sq_mapfile.specs.Faults.{first_missing, has_tunable};
 ghost use Rattle.sq_mapfile.specs.Gathering as gather;
-ghost use Rattle.sq_mapfile.specs.Required as spec;
+ghost use Rattle.sq_mapping.specs.Required as spec;
 
 use crate::given::ItemTable;
 use indexmap::{IndexMap, IndexSet};
@@ -28,7 +28,7 @@ pub struct Required {
 }
 
 impl Model for Required {
-    ghost use Rattle.sq_mapfile.specs.Required.{Required};
+    ghost use Rattle.sq_mapping.specs.Required.{Required};
 
     ghost Value = { Required };
 

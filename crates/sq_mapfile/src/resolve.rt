@@ -4,7 +4,7 @@ ghost use Rattle.std.specs.Prelude.{◌≡◌, IfOk, map};
 ghost use Rattle.sq_mapfile.specs.Mappings.{tunings_of, spread_of, size_set};
 ghost use Rattle.sq_mapfile.specs.Resolving as spec;
 
-use crate::mapping::{
+use sq_mapping::{
     Instance, Instances, Mapping, Route, Routes, Setting, SizeSet, SizeSets, Tuning, Tunings,
 };
 use crate::table::{InstanceTable, level_of};

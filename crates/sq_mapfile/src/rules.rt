@@ -2,11 +2,12 @@
 
 ghost use Rattle.std.specs.Prelude.{◌≡◌, ◌==◌, suc};
 ghost use Rattle.std.specs.Option.{option_copied};
+ghost use Rattle.sq_mapping.specs.Sound.{is_list};
 ghost use Rattle.sq_mapfile.specs.Names.{stands_before};
 ghost use Rattle.sq_mapfile.specs.Faults as spec;
 
 use crate::given::{ItemTable, SizeTable};
-use crate::mapping::Setting;
+use sq_mapping::Setting;
 use crate::required::Required;
 use crate::text::InstanceText;
 use sq_ast::VariantKind;
@@ -102,7 +103,7 @@ pub fn is_no_tunable(required: Option<&Required>, name: &Name) -> bool
 }
 
 fn is_list(setting: &Setting) -> bool
-    ensures { result ≡ spec.is_list setting.now }
+    ensures { result ≡ is_list setting.now }
 {
     match setting {
         Setting::One(_) => false,

@@ -2,6 +2,7 @@
 
 ghost use Rattle.std.specs.Prelude.{◌≡◌, ◌&&◌, not, is_none};
 ghost use Rattle.std.specs.Option.{option_copied};
+ghost use Rattle.sq_mapping.specs.Names.{variant_of};
 ghost use Rattle.sq_mapfile.specs.Names as spec;
 ghost use Rattle.sq_mapfile.specs.Faults.{required_of, required_at, level_at};
 ghost use Rattle.sq_mapfile.specs.Scopes.{scope_of};
@@ -42,7 +43,7 @@ impl<'a> Scope<'a> {
     /// Whether the program has this task without this variant.
     pub fn lacks_variant(&self, task: &Name, kind: VariantKind) -> bool
         ensures { result ≡ (spec.has_task (scope_of self.now).variants task.now && is_none
-            (spec.variant_of (scope_of self.now).variants task.now kind)) }
+            (variant_of (scope_of self.now).variants task.now kind)) }
     {
         self.tasks.has(task) && self.tasks.lacks(task, kind)
     }

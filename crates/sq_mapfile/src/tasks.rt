@@ -4,9 +4,10 @@ ghost use Rattle.std.specs.Prelude.{◌≡◌, Some, None, is_none, if◌then◌
 ghost use Rattle.std.specs.Option.{option_copied};
 ghost use Rattle.sq_ast.specs.declared.program.VariantKind.TheVariants.{Inner, Leaf};
 ghost use Rattle.sq_text.specs.Names.{Bytes, item_of, kept};
+ghost use Rattle.sq_mapping.specs.Names.{variant_of};
 ghost use Rattle.sq_mapfile.specs.Names as spec;
-ghost use Rattle.sq_mapfile.specs.Names.{is_variant, variant_index};
-ghost use Rattle.sq_mapfile.specs.Required.{required_by};
+ghost use Rattle.sq_mapping.specs.Names.{is_variant, variant_index};
+ghost use Rattle.sq_mapping.specs.Required.{required_by};
 
 use crate::required::Required;
 use sq_ast::{Variant, VariantKind};
@@ -104,7 +105,7 @@ impl<'a> Tasks<'a> {
 
     /// What the first variant of this task and kind requires.
     pub fn required(&self, task: &Name, kind: VariantKind) -> Option<&Required>
-        ensures { option_copied result ≡ option_map required_by (spec.variant_of self.now.variants.now task.now kind) }
+        ensures { option_copied result ≡ option_map required_by (variant_of self.now.variants.now task.now kind) }
     {
         let i = self.index(task, kind)?;
         self.required.get(i)
@@ -112,7 +113,7 @@ impl<'a> Tasks<'a> {
 
     /// Whether the program has no variant of this task and kind.
     pub fn lacks(&self, task: &Name, kind: VariantKind) -> bool
-        ensures { result ≡ is_none (spec.variant_of self.now.variants.now task.now kind) }
+        ensures { result ≡ is_none (variant_of self.now.variants.now task.now kind) }
     {
         self.required(task, kind).is_none()
     }

@@ -1,6 +1,6 @@
 //! What a mapping file says, with the places that faults name.
 
-use crate::mapping::Setting;
+use sq_mapping::Setting;
 use sq_ast::VariantKind;
 use sq_text::{SpreadRule, Word};
 use sqlite_items::Items;

@@ -4,7 +4,7 @@ ghost use Rattle.std.specs.Prelude.{◌≡◌, IfOk, map, slice_get};
 ghost use Rattle.sq_mapfile.specs.Chosen as spec;
 
 use crate::digits::Digits;
-use crate::mapping::{Setting, Tuning, Tunings};
+use sq_mapping::{Setting, Tuning, Tunings};
 use crate::resolve::copied;
 use crate::text::{Alternatives, InstanceText, ItemText};
 use sq_text::Name;

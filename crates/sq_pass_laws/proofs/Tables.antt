@@ -8,7 +8,7 @@ use Rattle.sq_ast.specs.declared.stmt.Stmt.{Stmt}
 use Rattle.sq_ast.specs.declared.program.Body.{Body as Text}
 use Rattle.sq_ast.specs.declared.program.Body.TheVariants as text
 use Rattle.sq_ast.specs.declared.program.Variant.{Variant}
-use Rattle.sq_forms.specs.Mapfile.declared.mapping.Instance.{Instance}
+use Rattle.sq_forms.specs.Mappings.declared.mapping.Instance.{Instance}
 use Rattle.sq_blocks.specs.declared.argument.Argument.{Argument}
 use Rattle.sq_forms.specs.declared.form.Form.{Form}
 use Rattle.sq_forms.specs.declared.form.Found.{Found}

@@ -3,7 +3,7 @@ use Rattle.std.proofs.Common.{◌≡◌, ℕ, zero, suc, ◌+◌, ◌<◌, ◌==
 use Rattle.std.proofs.Common.{Option, Some, None, refl, sym, ap, ◌∙◌, arith, length-append}
 use Rattle.std.proofs.Common.{if◌then◌else◌}
 use Rattle.sq_ast.specs.declared.program.Variant.{Variant}
-use Rattle.sq_mapfile.specs.declared.mapping.Instance.{Instance}
+use Rattle.sq_mapping.specs.declared.mapping.Instance.{Instance}
 use Rattle.sq_forms.specs.declared.form.Form.{Form}
 use Rattle.sq_forms.specs.declared.form.Caller.{Caller}
 use Rattle.sq_spec_laws.specs.Needs.{Ended, own_size, end_at, callers_end, end_of, ends_from, ends}

@@ -11,7 +11,7 @@ use Rattle.sq_text.specs.declared.place.Place.{Place}
 use Rattle.sq_ast.specs.declared.program.Decl.{Decl}
 use Rattle.sq_ast.specs.declared.program.Decl.TheVariants as decl
 use Rattle.sq_ast.specs.declared.program.Param.{Param}
-use Rattle.sq_mapfile.specs.declared.mapping.Tuning.{Tuning}
+use Rattle.sq_mapping.specs.declared.mapping.Tuning.{Tuning}
 use Rattle.sq_types.specs.Known.{Known}
 use Rattle.sq_types.specs.Sites.{param_known, param_at as first_at, with_param, local_known, decl_known, arrays_after}
 use Rattle.sq_types.specs.Sound.{is_new, is_as_first, are_sound_extents, is_sound_param, are_sound_params, is_sound_decl}

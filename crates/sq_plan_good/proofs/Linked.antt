@@ -18,7 +18,7 @@ use Rattle.sq_ast.specs.declared.stmt.Stmt.TheOpen.{Stmt-F}
 use Rattle.sq_ast.specs.declared.stmt.Stmt.TheFolds.{ind-Stmt, map-Stmt}
 use Rattle.sq_ast.specs.declared.program.Param.{Param}
 use Rattle.sq_ast.specs.declared.program.Variant.{Variant}
-use Rattle.sq_mapfile.specs.declared.mapping.Instance.{Instance}
+use Rattle.sq_mapping.specs.declared.mapping.Instance.{Instance}
 use Rattle.sq_blocks.specs.Names.{Numbers}
 use Rattle.sq_blocks.specs.declared.argument.Argument.{Argument}
 use Rattle.sq_forms.specs.declared.form.Found.{Found}

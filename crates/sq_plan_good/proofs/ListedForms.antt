@@ -1,6 +1,6 @@
 -- The calls that the tables of each form begin are those that are listed for nodes.
 use Rattle.std.proofs.Common.{◌≡◌, Some, sym, ap, subst, ◌∙◌}
-use Rattle.sq_mapfile.specs.declared.mapping.Instance.{Instance}
+use Rattle.sq_mapping.specs.declared.mapping.Instance.{Instance}
 use Rattle.sq_forms.specs.declared.form.Form.{Form}
 use Rattle.sq_forms.specs.Resolving.{with_locals}
 use Rattle.sq_form_laws.proofs.AnswerHold.{forms_are_found}

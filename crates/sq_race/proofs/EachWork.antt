@@ -36,7 +36,7 @@ use Rattle.sq_blocks.specs.declared.argument.Argument.{Argument}
 use Rattle.sq_forms.specs.declared.known.Array.{Array}
 use Rattle.sq_forms.specs.declared.form.Found.{Found}
 use Rattle.sq_forms.specs.declared.form.Use.{Use}
-use Rattle.sq_mapfile.specs.declared.mapping.Instance.{Instance}
+use Rattle.sq_mapping.specs.declared.mapping.Instance.{Instance}
 use Rattle.sq_forms.specs.Faults.{value_or, fault_in}
 use Rattle.sq_forms.specs.Steps.{Step, Part, Tests, Forms, key_number}
 use Rattle.sq_forms.specs.Args.{Names, arguments, mode_of}

@@ -8,10 +8,10 @@ use Rattle.sq_ast.specs.declared.program.Param.{Param}
 use Rattle.sq_ast.specs.declared.program.Program.{Program}
 use Rattle.sq_ast.specs.declared.program.Variant.{Variant}
 use Rattle.sq_ast.specs.Forms.{is_formed, is_formed_body}
-use Rattle.sq_mapfile.specs.Machfile.declared.level.Level.{Level}
-use Rattle.sq_mapfile.specs.declared.mapping.Instance.{Instance}
-use Rattle.sq_mapfile.specs.declared.mapping.Mapping.{Mapping}
-use Rattle.sq_mapfile.specs.Sound.{Sound}
+use Rattle.sq_mapping.specs.Machfile.declared.level.Level.{Level}
+use Rattle.sq_mapping.specs.declared.mapping.Instance.{Instance}
+use Rattle.sq_mapping.specs.declared.mapping.Mapping.{Mapping}
+use Rattle.sq_mapping.specs.Sound.{Sound}
 use Rattle.sq_types.specs.Sites.{params_of, params_known, decls_known}
 use Rattle.sq_types.specs.Sound.{is_sound, is_sound_body}
 use Rattle.sq_types.specs.Table.{keeps_both}

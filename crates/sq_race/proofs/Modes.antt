@@ -14,7 +14,7 @@ use Rattle.sq_ast.specs.declared.program.VariantKind.TheVariants as kind
 use Rattle.sq_ast.specs.declared.program.Variant.{Variant}
 use Rattle.sq_ast.specs.declared.stmt.Stmt.{Stmt}
 use Rattle.sq_ast.specs.Forms as forms
-use Rattle.sq_mapfile.proofs.Once.{same}
+use Rattle.sq_mapping.proofs.Same.{same}
 use Rattle.sq_types.specs.Known.{Known}
 use Rattle.sq_types.specs.Table as table
 use Rattle.sq_types.specs.Table.{most_arrays, keeps_both, is_both, same_mode, same_elem}

@@ -8,7 +8,7 @@ use Rattle.sq_text.specs.Names.{Bytes, same_name}
 use Rattle.sq_ast.specs.declared.expr.ArgUse.{ArgUse, out-ArgUse}
 use Rattle.sq_ast.specs.declared.expr.Expr.{Expr}
 use Rattle.sq_ast.specs.declared.program.Param.{Param}
-use Rattle.sq_mapfile.proofs.Once.{same}
+use Rattle.sq_mapping.proofs.Same.{same}
 use Rattle.sq_types.specs.Known.{Known, kind_of}
 use Rattle.sq_types.specs.Table.{is_block_of, uses_of, keeps_both, has_whole}
 use Rattle.sq_types.specs.Sound.{may_be_reduced, may_write}

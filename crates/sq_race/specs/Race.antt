@@ -6,7 +6,7 @@ use Rattle.sq_ast.specs.declared.program.Body.TheVariants as body
 use Rattle.sq_ast.specs.declared.program.Decl.{Decl}
 use Rattle.sq_ast.specs.declared.program.Decl.TheVariants as decl
 use Rattle.sq_ast.specs.declared.program.Variant.{Variant}
-use Rattle.sq_mapfile.specs.declared.mapping.Instance.{Instance}
+use Rattle.sq_mapping.specs.declared.mapping.Instance.{Instance}
 use Rattle.sq_rect.specs.Blocks.{Share}
 use Rattle.sq_forms.specs.Tables.{variant_of, first_of_kind}
 use Rattle.sq_forms.specs.declared.form.Form.{Form}

@@ -5,7 +5,7 @@ use Rattle.std.specs.Prelude.{slice_get}
 use Rattle.std.specs.Coded.{Coded-set, coded_result, coded_option, coded_list, coded×, coded_ℕ}
 use Rattle.sq_text.specs.contracts.fault.Fault as fault
 use Rattle.sq_ast.specs.declared.program.Variant.{Variant}
-use Rattle.sq_form_laws.specs.Mapfile.declared.mapping.Mapping.{Mapping}
+use Rattle.sq_form_laws.specs.Mappings.declared.mapping.Mapping.{Mapping}
 use Rattle.sq_form_laws.specs.Forms.contracts.form.Found as found
 use Rattle.sq_form_laws.specs.Forms.declared.form.Form.{Form}
 use Rattle.sq_spec.specs.declared.resolved.Resolved.{Resolved}

@@ -5,8 +5,8 @@ use Rattle.std.specs.Coded.{Coded-set, coded_list, coded×, coded_ℕ}
 use Rattle.sq_ast.specs.declared.program.Body.{Body as Text}
 use Rattle.sq_ast.specs.declared.program.Body.TheVariants as text
 use Rattle.sq_ast.specs.declared.program.Variant.{Variant}
-use Rattle.sq_form_laws.specs.Mapfile.declared.mapping.Instance.{Instance}
-use Rattle.sq_form_laws.specs.Mapfile.declared.mapping.Mapping.{Mapping}
+use Rattle.sq_form_laws.specs.Mappings.declared.mapping.Instance.{Instance}
+use Rattle.sq_form_laws.specs.Mappings.declared.mapping.Mapping.{Mapping}
 use Rattle.sq_work.specs.Leaf.Source.{Arrays}
 use Rattle.sq_form_laws.specs.Forms.declared.form.Found.{Found}
 use Rattle.sq_form_laws.specs.Forms.Faults.{Value}

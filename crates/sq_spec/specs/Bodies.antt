@@ -3,7 +3,7 @@ use Rattle.std.specs.Prelude.{◌≡◌, ℕ, zero, suc, true, List, [], Option,
 use Rattle.sq_ast.specs.declared.program.Body.{Body as Text}
 use Rattle.sq_ast.specs.declared.program.Body.TheVariants as text
 use Rattle.sq_ast.specs.declared.program.Variant.{Variant}
-use Rattle.sq_form_laws.specs.Mapfile.declared.mapping.Instance.{Instance}
+use Rattle.sq_form_laws.specs.Mappings.declared.mapping.Instance.{Instance}
 use Rattle.sq_work.specs.Leaf.declared.shape.Shape.{Shape}
 use Rattle.sq_work.specs.Leaf.Leaf.{IsLeaf, is_leaf_body, leaf_value}
 use Rattle.sq_spec.specs.declared.body.Body.{Body}

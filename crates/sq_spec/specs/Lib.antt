@@ -9,5 +9,5 @@ pub mod Numbered
 pub use Rattle.sq_form_laws.specs.Blocks
 pub use Rattle.sq_form_laws.specs as FormLaws
 pub use Rattle.sq_form_laws.specs.Forms
-pub use Rattle.sq_form_laws.specs.Mapfile
+pub use Rattle.sq_form_laws.specs.Mappings
 pub use Rattle.sq_work.specs as Work

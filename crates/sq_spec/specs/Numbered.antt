@@ -1,7 +1,7 @@
 -- What a program means, by the tables of its forms.
 use Rattle.std.specs.Prelude.{◌≡◌, false, List, length, Option, Some, None, slice_get}
 use Rattle.sq_ast.specs.declared.program.Variant.{Variant}
-use Rattle.sq_form_laws.specs.Mapfile.declared.mapping.Mapping.{Mapping}
+use Rattle.sq_form_laws.specs.Mappings.declared.mapping.Mapping.{Mapping}
 use Rattle.sq_work.specs.Leaf.Source.{Arrays}
 use Rattle.sq_form_laws.specs.Forms.Steps.{Forms, Key}
 use Rattle.sq_form_laws.specs.Forms.declared.form.Found.{Found}

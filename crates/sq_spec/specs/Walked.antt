@@ -6,8 +6,8 @@ use Rattle.sq_ast.specs.Grammar.{most_levels}
 use Rattle.sq_work.specs.Types.Nesting.{HasLoops}
 use Rattle.sq_work.specs.Types.Sound.{is_sound}
 use Rattle.sq_form_laws.specs.Machfile.declared.level.Level.{Level}
-use Rattle.sq_form_laws.specs.Mapfile.declared.mapping.Mapping.{Mapping}
-use Rattle.sq_form_laws.specs.Mapfile.Sound.{Sound}
+use Rattle.sq_form_laws.specs.Mappings.declared.mapping.Mapping.{Mapping}
+use Rattle.sq_form_laws.specs.Mappings.Sound.{Sound}
 use Rattle.sq_form_laws.specs.Forms.declared.form.Form.{Form}
 use Rattle.sq_form_laws.specs.Forms.declared.form.Use.{Use}
 use Rattle.sq_form_laws.specs.Forms.Steps.{Forms}

@@ -12,8 +12,8 @@ use Rattle.sq_ast.specs.declared.program.Body.TheVariants as body
 use Rattle.sq_ast.specs.declared.program.Param.{Param}
 use Rattle.sq_ast.specs.declared.program.Program.{Program}
 use Rattle.sq_ast.specs.declared.program.Variant.{Variant}
-use Rattle.sq_form_laws.specs.Mapfile.declared.mapping.Instance.{Instance}
-use Rattle.sq_form_laws.specs.Mapfile.declared.mapping.Mapping.{Mapping}
+use Rattle.sq_form_laws.specs.Mappings.declared.mapping.Instance.{Instance}
+use Rattle.sq_form_laws.specs.Mappings.declared.mapping.Mapping.{Mapping}
 use Rattle.sq_form_laws.specs.Blocks.Names.{Numbers}
 use Rattle.sq_work.specs.Leaf.declared.shape.Shape.{Shape}
 use Rattle.sq_work.specs.Leaf.Source.{Arrays}

@@ -8,7 +8,7 @@ ghost use Rattle.sq_text.specs.Answers.{IfRefused};
 ghost use Rattle.sq_ast.specs.Grammar.{most_levels};
 ghost use Rattle.sq_work.specs.Types.Nesting.{HasLoops};
 ghost use Rattle.sq_work.specs.Types.Sound.{is_sound};
-ghost use Rattle.sq_form_laws.specs.Mapfile.Sound.{Sound};
+ghost use Rattle.sq_form_laws.specs.Mappings.Sound.{Sound};
 ghost use Rattle.sq_form_laws.specs.Forms.Forms.{AreForms, IsFirstMet};
 ghost use Rattle.sq_form_laws.specs.Forms.Resolving.{Resolves, resolution, entry_params};
 ghost use Rattle.sq_form_laws.specs.Forms.Tables.{first_of_kind};

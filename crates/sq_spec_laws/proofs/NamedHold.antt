@@ -13,7 +13,7 @@ use Rattle.sq_ast.specs.declared.program.Extent.{Extent}
 use Rattle.sq_ast.specs.declared.program.Extent.TheVariants as extent
 use Rattle.sq_ast.specs.declared.program.Param.{Param}
 use Rattle.sq_ast.specs.declared.stmt.Range.{Range}
-use Rattle.sq_forms.specs.Mapfile.declared.mapping.Tuning.{Tuning}
+use Rattle.sq_forms.specs.Mappings.declared.mapping.Tuning.{Tuning}
 use Rattle.sq_types.specs.declared.kind.Kind.{Kind}
 use Rattle.sq_types.specs.declared.kind.Kind.TheVariants as kind
 use Rattle.sq_types.specs.Known.{Known, kind_of, with_name}

@@ -13,8 +13,8 @@ use Rattle.sq_ast.specs.declared.program.Decl.TheVariants as decl
 use Rattle.sq_ast.specs.declared.program.Extent.{Extent}
 use Rattle.sq_ast.specs.declared.program.Extent.TheVariants as extent
 use Rattle.sq_ast.specs.declared.program.Param.{Param}
-use Rattle.sq_forms.specs.Mapfile.declared.mapping.Tuning.{Tuning}
-use Rattle.sq_forms.proofs.Mapfile.Once.{itself}
+use Rattle.sq_forms.specs.Mappings.declared.mapping.Tuning.{Tuning}
+use Rattle.sq_forms.proofs.Mappings.Same.{itself}
 use Rattle.sq_types.specs.declared.kind.Kind.{Kind}
 use Rattle.sq_types.specs.declared.kind.Kind.TheVariants as kind
 use Rattle.sq_types.specs.Known.{Known, kind_of, with_name}

@@ -16,7 +16,7 @@ use Rattle.sq_ast.specs.declared.program.Param.{Param}
 use Rattle.sq_ast.specs.declared.program.Body.{Body}
 use Rattle.sq_ast.specs.declared.program.Body.TheVariants as body
 use Rattle.sq_ast.specs.declared.program.Variant.{Variant}
-use Rattle.sq_forms.specs.Mapfile.declared.mapping.Instance.{Instance}
+use Rattle.sq_forms.specs.Mappings.declared.mapping.Instance.{Instance}
 use Rattle.sq_blocks.specs.Names.{Numbers}
 use Rattle.sq_forms.specs.declared.form.Found.{Found}
 use Rattle.sq_forms.specs.Faults.{value_or}

@@ -14,7 +14,7 @@ use Rattle.sq_ast.specs.declared.program.Decl.TheVariants as decl
 use Rattle.sq_ast.specs.declared.program.Extent.{Extent}
 use Rattle.sq_ast.specs.declared.program.Extent.TheVariants as extent
 use Rattle.sq_ast.specs.declared.program.Param.{Param}
-use Rattle.sq_forms.specs.Mapfile.declared.mapping.Tuning.{Tuning}
+use Rattle.sq_forms.specs.Mappings.declared.mapping.Tuning.{Tuning}
 use Rattle.sq_types.specs.declared.kind.ArrayType.{ArrayType}
 use Rattle.sq_types.specs.declared.kind.Kind.{Kind}
 use Rattle.sq_types.specs.declared.kind.Kind.TheVariants as kind

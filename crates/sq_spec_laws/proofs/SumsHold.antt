@@ -31,12 +31,12 @@ use Rattle.sq_ast.specs.declared.program.Program.{Program}
 use Rattle.sq_ast.specs.declared.program.Variant.{Variant}
 use Rattle.sq_ast.specs.Forms.{is_formed}
 use Rattle.sq_machfile.specs.declared.level.Level.{Level}
-use Rattle.sq_forms.specs.Mapfile.declared.mapping.Instance.{Instance}
-use Rattle.sq_forms.specs.Mapfile.declared.mapping.Mapping.{Mapping}
-use Rattle.sq_forms.specs.Mapfile.Sound.{Sound}
+use Rattle.sq_forms.specs.Mappings.declared.mapping.Instance.{Instance}
+use Rattle.sq_forms.specs.Mappings.declared.mapping.Mapping.{Mapping}
+use Rattle.sq_forms.specs.Mappings.Sound.{Sound}
 use Rattle.sq_types.specs.Sound.{is_sound}
 use Rattle.sq_forms.specs.Tables.{variant_of}
-use Rattle.sq_forms.proofs.Mapfile.Once.{same, itself}
+use Rattle.sq_forms.proofs.Mappings.Same.{same, itself}
 use Rattle.sq_types.specs.Known.{Known, kind_of}
 use Rattle.sq_types.specs.Table.{uses_of, has_whole, keeps_both, is_block_of, is_both, same_mode, same_elem}
 use Rattle.sq_types.specs.declared.kind.Kind.{Kind}

@@ -2,8 +2,8 @@
 use Rattle.std.specs.Prelude.{◌≡◌, ◌≤◌, ◌+◌, ℕ, suc, true, List, length, Ok}
 use Rattle.sq_ast.specs.declared.program.Program.{Program}
 use Rattle.sq_machfile.specs.declared.level.Level.{Level}
-use Rattle.sq_forms.specs.Mapfile.declared.mapping.Mapping.{Mapping}
-use Rattle.sq_forms.specs.Mapfile.Sound.{Sound}
+use Rattle.sq_forms.specs.Mappings.declared.mapping.Mapping.{Mapping}
+use Rattle.sq_forms.specs.Mappings.Sound.{Sound}
 use Rattle.sq_types.specs.Sound.{is_sound}
 use Rattle.sq_forms.specs.Resolving.{Resolving, resolution}
 use Rattle.sq_spec.specs.Bodies.{body_of, numbered_work}

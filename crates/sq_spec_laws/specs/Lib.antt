@@ -9,5 +9,5 @@ pub mod Ones
 pub mod Fuel
 -- Definitions of crates below, passed on.
 pub use Rattle.sq_forms.specs as Forms
-pub use Rattle.sq_forms.specs.Mapfile
+pub use Rattle.sq_forms.specs.Mappings
 pub use Rattle.sq_spec.specs as Spec

@@ -11,9 +11,9 @@ use Rattle.sq_ast.specs.declared.program.Variant.{Variant}
 use Rattle.sq_ast.specs.declared.stmt.Call.{Call}
 use Rattle.sq_ast.specs.declared.stmt.Stmt.{Stmt}
 use Rattle.sq_machfile.specs.declared.level.Level.{Level}
-use Rattle.sq_forms.specs.Mapfile.declared.mapping.Instance.{Instance}
-use Rattle.sq_forms.specs.Mapfile.declared.mapping.Mapping.{Mapping}
-use Rattle.sq_forms.specs.Mapfile.Sound.{Sound}
+use Rattle.sq_forms.specs.Mappings.declared.mapping.Instance.{Instance}
+use Rattle.sq_forms.specs.Mappings.declared.mapping.Mapping.{Mapping}
+use Rattle.sq_forms.specs.Mappings.Sound.{Sound}
 use Rattle.sq_types.specs.Sound.{is_sound}
 use Rattle.sq_blocks.specs.Names.{Numbers}
 use Rattle.sq_blocks.specs.Spans.{wholes}

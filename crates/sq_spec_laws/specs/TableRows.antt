@@ -9,8 +9,8 @@ use Rattle.sq_ast.specs.declared.stmt.Call.{Call}
 use Rattle.sq_ast.specs.declared.stmt.Stmt.{Stmt}
 use Rattle.sq_ast.specs.declared.stmt.Stmt.TheOpen.{Stmt-F}
 use Rattle.sq_ast.specs.declared.stmt.Stmt.TheFolds.{fold-Stmt}
-use Rattle.sq_forms.specs.Mapfile.declared.mapping.Instance.{Instance}
-use Rattle.sq_forms.specs.Mapfile.declared.mapping.Mapping.{Mapping}
+use Rattle.sq_forms.specs.Mappings.declared.mapping.Instance.{Instance}
+use Rattle.sq_forms.specs.Mappings.declared.mapping.Mapping.{Mapping}
 use Rattle.sq_spec.specs.Work.declared.reduction.Reduction.{Reduction}
 use Rattle.sq_spec.specs.declared.statement.LoopKind.{LoopKind}
 use Rattle.sq_spec.specs.declared.statement.LoopKind.TheVariants as loop_kind

@@ -2,9 +2,9 @@
 use Rattle.std.specs.Prelude.{◌≡◌, ℕ, suc, ◌≤◌, true, List, length, slice_get, Some, Ok}
 use Rattle.sq_ast.specs.declared.program.Program.{Program}
 use Rattle.sq_forms.specs.Machfile.declared.level.Level.{Level}
-use Rattle.sq_forms.specs.Mapfile.declared.mapping.Instance.{Instance}
-use Rattle.sq_forms.specs.Mapfile.declared.mapping.Mapping.{Mapping}
-use Rattle.sq_forms.specs.Mapfile.Sound.{Sound}
+use Rattle.sq_forms.specs.Mappings.declared.mapping.Instance.{Instance}
+use Rattle.sq_forms.specs.Mappings.declared.mapping.Mapping.{Mapping}
+use Rattle.sq_forms.specs.Mappings.Sound.{Sound}
 use Rattle.sq_forms.specs.Types.Sound.{is_sound}
 use Rattle.sq_forms.specs.declared.form.Found.{Found}
 use Rattle.sq_forms.specs.Resolving.{Resolving, resolution}

@@ -2,7 +2,8 @@
 
 use sq_ast::VariantKind;
 use sq_machfile::{Machine, read_machine};
-use sq_mapfile::{Instance, Mapping, Route, Setting, Tuning, read_mapping};
+use sq_mapfile::read_mapping;
+use sq_mapping::{Instance, Mapping, Route, Setting, Tuning};
 use sq_source::read_program;
 use sq_text::{Arg, Code, Fault, Phase, Place, SpreadRule, Stop};
 use sq_types::Typed;

@@ -1,5 +1,6 @@
 use Rattle.std.proofs.Common.{◌≡◌, drop}
-use Rattle.sq_mapfile.specs.Names.{first_from, is_spread, spread_index}
+use Rattle.sq_mapping.specs.Names.{first_from}
+use Rattle.sq_mapfile.specs.Names.{is_spread, spread_index}
 use Rattle.sq_mapfile.proofs.given.spread_index.Given as goal
 
 abbrev pub invariant-loop-i : goal.invariant-loop-i

@@ -1,6 +1,6 @@
 use Rattle.std.proofs.Common.{arith}
 use Rattle.sq_mapfile.specs.declared.text.Tunables.TheVariants.{Fixed}
-use Rattle.sq_mapfile.specs.declared.mapping.Mapping.{Mapping}
+use Rattle.sq_mapping.specs.declared.mapping.Mapping.{Mapping}
 use Rattle.sq_mapfile.specs.Mappings.{BreaksRule}
 use Rattle.sq_mapfile.proofs.Files.{lexed_by, syntax_answer, rules_answer, none_written, none_lexed}
 use Rattle.sq_mapfile.proofs.Whole.{rules_stand, rules_sound, one_stands, refused_gives, lexer_gives, sound_given}

@@ -1,6 +1,7 @@
 use Rattle.std.proofs.Common.{◌≡◌, drop}
 use Rattle.sq_text.specs.Names.{same_name}
-use Rattle.sq_mapfile.specs.Names.{first_from, level_of}
+use Rattle.sq_mapping.specs.Names.{first_from}
+use Rattle.sq_mapfile.specs.Names.{level_of}
 use Rattle.sq_mapfile.proofs.table.level_of.Given as goal
 
 abbrev pub invariant-loop-i : goal.invariant-loop-i

@@ -1,5 +1,5 @@
 use Rattle.std.proofs.Common.{◌≡◌, ◌++◌, drop, map}
-use Rattle.sq_mapfile.specs.Required.{required_by}
+use Rattle.sq_mapping.specs.Required.{required_by}
 use Rattle.sq_mapfile.proofs.tasks.all_required.Given as goal
 
 abbrev pub invariant-loop-v : goal.invariant-loop-v

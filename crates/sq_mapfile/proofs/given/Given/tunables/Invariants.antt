@@ -1,6 +1,7 @@
 use Rattle.std.proofs.Common.{◌≡◌, drop}
 use Rattle.sq_text.specs.Names.{Bytes, item_of, kept}
-use Rattle.sq_mapfile.specs.Names.{first_from, is_tunable, tunable_index}
+use Rattle.sq_mapping.specs.Names.{first_from}
+use Rattle.sq_mapfile.specs.Names.{is_tunable, tunable_index}
 use Rattle.sq_mapfile.specs.Given.{AreWithin}
 use Rattle.sq_mapfile.proofs.given.Given.tunables.Given as goal
 

@@ -1,19 +1,25 @@
 -- What holds of every mapping that is accepted, in the terms of the mapping alone.
-use Rattle.std.specs.Prelude.{◌≡◌, ◌⊎◌, ℕ, suc, ◌<◌, true, List, map, length, Some, slice_get}
+use Rattle.std.specs.Prelude.{◌≡◌, ◌⊎◌, ℕ, suc, ◌<◌, Bool, true, false, List, map, length, Some, slice_get}
 use Rattle.std.specs.Map.{lookup}
 use Rattle.sq_ast.specs.declared.program.Variant.{Variant}
 use Rattle.sq_ast.specs.declared.program.Program.{Program}
 use Rattle.sq_machfile.specs.declared.level.Level.{Level}
-use Rattle.sq_mapfile.specs.declared.mapping.Tuning.{Tuning}
-use Rattle.sq_mapfile.specs.declared.mapping.Route.{Route}
-use Rattle.sq_mapfile.specs.declared.mapping.Instance.{Instance}
-use Rattle.sq_mapfile.specs.declared.mapping.Mapping.{Mapping}
+use Rattle.sq_mapping.specs.declared.mapping.Tuning.{Tuning}
+use Rattle.sq_mapping.specs.declared.mapping.Route.{Route}
+use Rattle.sq_mapping.specs.declared.mapping.Instance.{Instance}
+use Rattle.sq_mapping.specs.declared.mapping.Mapping.{Mapping}
 use Rattle.sq_text.specs.Names.{Bytes, same_name}
 use Rattle.sq_text.specs.declared.spread.SpreadRule.TheVariants.{Cyclic}
 use Rattle.sq_ast.specs.declared.program.VariantKind.TheVariants.{Leaf}
-use Rattle.sq_mapfile.specs.Names.{is_among, variant_of}
-use Rattle.sq_mapfile.specs.Required.{required_by}
-use Rattle.sq_mapfile.specs.Faults.{is_list}
+use Rattle.sq_mapping.specs.Names.{is_among, variant_of}
+use Rattle.sq_mapping.specs.Required.{required_by}
+use Rattle.sq_mapping.specs.declared.mapping.Setting.{Setting}
+use Rattle.sq_mapping.specs.declared.mapping.Setting.TheVariants.{One, Many}
+
+-- whether a tunable's value is a list
+abbrev pub is_list : Setting → Bool
+is_list (One value) = false
+is_list (Many values) = true
 
 -- no name stands at two indices
 abbrev pub EachOnce : List Bytes → Type 0

@@ -15,7 +15,7 @@ use Rattle.sq_ast.specs.declared.program.Body.{Body}
 use Rattle.sq_ast.specs.declared.program.Body.TheVariants as body
 use Rattle.sq_ast.specs.declared.program.Variant.{Variant}
 use Rattle.sq_text.specs.Names.{Bytes, same_name}
-use Rattle.sq_mapfile.specs.Names.{is_among}
+use Rattle.sq_mapping.specs.Names.{is_among}
 
 -- these names and one more, if it isn't among them
 abbrev pub with_name : List Bytes → Bytes → List Bytes
