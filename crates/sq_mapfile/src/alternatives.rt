@@ -7,11 +7,11 @@ ghost use Rattle.sq_mapfile.specs.Choices as spec;
 ghost use Rattle.sq_mapfile.specs.Faults.{breach_of};
 ghost use Rattle.sq_mapfile.specs.Scopes.{scope_of};
 
-use sq_mapping::Setting;
 use crate::required::Required;
 use crate::rules::is_other_kind;
 use crate::scope::Scope;
 use crate::text::{Alternatives, InstanceText, ItemText};
+use sq_mapping::Setting;
 use sq_text::{Code, FirstFault, Word};
 use std::alloc::AllocError;
 

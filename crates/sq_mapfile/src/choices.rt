@@ -6,11 +6,11 @@ ghost use Rattle.sq_mapfile.specs.Chosen as spec;
 ghost use Rattle.sq_mapfile.specs.Resolving.{mapping_with};
 
 use crate::digits::Digits;
-use sq_mapping::{Instance, Instances, Mapping, Route, Routes, SizeSet, SizeSets, Tunings};
 use crate::resolve::resolve;
 use crate::table::InstanceTable;
 use crate::text::MappingText;
 use crate::tunings::{Ways, all_ways, digits_past, tunings, ways_at};
+use sq_mapping::{Instance, Instances, Mapping, Route, Routes, SizeSet, SizeSets, Tunings};
 use sqlite_items::Items;
 use std::alloc::{AllocError, Global};
 

@@ -3,8 +3,8 @@
 ghost use Rattle.std.specs.Prelude.{◌≡◌, length};
 ghost use Rattle.sq_mapfile.specs.Digits as spec;
 
-use sq_mapping::Setting;
 use crate::text::Alternatives;
+use sq_mapping::Setting;
 
 /// The number of a choice of the tunables that are left, of which there are so many choices.
 #[derive(Clone, Copy)]

@@ -8,7 +8,6 @@ ghost use Rattle.sq_mapfile.specs.Faults.{breach_of};
 ghost use Rattle.sq_mapfile.specs.Walk.{inside_of, tunable_rules, called_rules, callee_rules, spread_rules};
 
 use crate::given::ItemTable;
-use sq_mapping::Setting;
 use crate::required::Required;
 use crate::rules::{
     is_leaf, is_no_tunable, is_of_other_task, is_other_kind, is_skip, is_uncalled, stands_before,
@@ -16,6 +15,7 @@ use crate::rules::{
 use crate::scope::Scope;
 use crate::text::ItemText;
 use sq_ast::VariantKind;
+use sq_mapping::Setting;
 use sq_text::{Code, FirstFault, Word};
 use std::alloc::AllocError;
 

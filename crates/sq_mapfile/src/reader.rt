@@ -14,7 +14,6 @@ ghost use Rattle.sq_mapfile.specs.Made.{AreChoices, AreReadAlone, StandFor, mapp
 
 use crate::choices::{Choices, made};
 use crate::cycle::note_cycle;
-use sq_mapping::Mapping;
 use crate::reading::parse;
 use crate::resolve::resolve;
 use crate::table::InstanceTable;
@@ -24,6 +23,7 @@ use sq_ast::Program;
 use sq_lexer::laws::each_text_has_tokens_or_breaks;
 use sq_lexer::tokens;
 use sq_machfile::{Level, Machine};
+use sq_mapping::Mapping;
 use sq_text::{Fault, FirstFault, Phase, Stop};
 use sq_types::Typed;
 use std::alloc::{AllocError, Global};

@@ -8,10 +8,10 @@ ghost use Rattle.sq_mapfile.specs.Mappings.{IsSyntaxFaultOf};
 ghost use Rattle.sq_mapfile.specs.Reading as spec;
 ghost use Rattle.sq_patterns.specs.Reading.{Reads, ReadsFront};
 
-use sq_mapping::{Numbers, Setting};
 use crate::text::{Alternatives, InstanceText, ItemText, MappingText, SizeText, Tunables, Version};
 use sq_ast::VariantKind;
 use sq_lexer::{Sign, Token};
+use sq_mapping::{Numbers, Setting};
 use sq_patterns::{Pattern, ReadError, Tokens, number_at, syntax_fault, word_at};
 use sq_text::{Phase, SpreadRule, Stop, Word};
 use sqlite_items::Items;

@@ -4,11 +4,11 @@ ghost use Rattle.std.specs.Prelude.{◌≡◌, IfOk, map};
 ghost use Rattle.sq_mapfile.specs.Mappings.{tunings_of, spread_of, size_set};
 ghost use Rattle.sq_mapfile.specs.Resolving as spec;
 
+use crate::table::{InstanceTable, level_of};
+use crate::text::{InstanceText, ItemText, MappingText, SizeText};
 use sq_mapping::{
     Instance, Instances, Mapping, Route, Routes, Setting, SizeSet, SizeSets, Tuning, Tunings,
 };
-use crate::table::{InstanceTable, level_of};
-use crate::text::{InstanceText, ItemText, MappingText, SizeText};
 use sq_text::SpreadRule;
 use sqlite_items::Items;
 use std::alloc::{AllocError, Global};

@@ -7,10 +7,10 @@ ghost use Rattle.sq_mapfile.specs.Names.{stands_before};
 ghost use Rattle.sq_mapfile.specs.Faults as spec;
 
 use crate::given::{ItemTable, SizeTable};
-use sq_mapping::Setting;
 use crate::required::Required;
 use crate::text::InstanceText;
 use sq_ast::VariantKind;
+use sq_mapping::Setting;
 use sq_text::Name;
 
 /// Whether the first item of a name stands before an index.

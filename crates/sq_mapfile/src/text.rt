@@ -1,7 +1,7 @@
 //! What a mapping file says, with the places that faults name.
 
-use sq_mapping::Setting;
 use sq_ast::VariantKind;
+use sq_mapping::Setting;
 use sq_text::{SpreadRule, Word};
 use sqlite_items::Items;
 

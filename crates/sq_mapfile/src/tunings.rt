@@ -4,9 +4,9 @@ ghost use Rattle.std.specs.Prelude.{◌≡◌, IfOk, map, slice_get};
 ghost use Rattle.sq_mapfile.specs.Chosen as spec;
 
 use crate::digits::Digits;
-use sq_mapping::{Setting, Tuning, Tunings};
 use crate::resolve::copied;
 use crate::text::{Alternatives, InstanceText, ItemText};
+use sq_mapping::{Setting, Tuning, Tunings};
 use sq_text::Name;
 use sqlite_items::Items;
 use std::alloc::{AllocError, Global};
