@@ -31,7 +31,6 @@ const MOST_EXTENT: u64 = 1 << 24;
 const MOST_ELEMENTS: u64 = 1 << 26;
 
 /// What is known in a form, how many arrays it has, and its locals.
-#[derive(Drop)]
 pub struct Scope {
     pub known: Known,
     pub numbers: Bindings,
@@ -39,7 +38,37 @@ pub struct Scope {
     pub locals: Items<LocalArray>,
 }
 
+// By hand, so that a call stands wherever one is let go, and not its dozens of tables.
+impl Drop for Scope {
+    fn drop(self) {
+        let Scope {
+            known,
+            numbers,
+            arrays: _,
+            locals,
+        } = self;
+        drop(known);
+        drop(numbers);
+        drop(locals);
+    }
+}
+
 impl Scope {
+    /// Its locals, and nothing else of it.
+    pub fn into_locals(self) -> Items<LocalArray>
+        ensures { result ≡ self.locals }
+    {
+        let Scope {
+            known,
+            numbers,
+            arrays: _,
+            locals,
+        } = self;
+        drop(known);
+        drop(numbers);
+        locals
+    }
+
     pub fn new(alloc: Global) -> Scope
         ensures { spec.scope_of result ≡ spec.empty_scope }
     {

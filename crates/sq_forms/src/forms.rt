@@ -137,8 +137,7 @@ fn walk_scope(
     let settings = SettingsByName::new(alloc, x.tunings.as_slice())?;
     declare_all(alloc, &mut scope, &settings, v.decls.as_slice())?;
     walk_body(alloc, walk, frame, &mut scope, &v.body, maps)?;
-    let Scope { locals, .. } = scope;
-    Ok(locals)
+    Ok(scope.into_locals())
 }
 
 // The tallies of the maps of the variant that an instance is of.
