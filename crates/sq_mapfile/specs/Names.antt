@@ -8,6 +8,7 @@ use Rattle.sq_ast.specs.declared.program.VariantKind.{VariantKind}
 use Rattle.sq_ast.specs.declared.program.VariantKind.TheVariants.{Inner, Leaf}
 use Rattle.sq_ast.specs.declared.program.Variant.{Variant}
 use Rattle.sq_machfile.specs.declared.level.Level.{Level}
+use Rattle.sq_mapping.specs.Names.{first_from, at_index}
 use Rattle.sq_mapfile.specs.declared.text.SizeText.{SizeText}
 use Rattle.sq_mapfile.specs.declared.text.ItemText.{ItemText}
 use Rattle.sq_mapfile.specs.declared.text.ItemText.TheVariants.{Tunable, Call, Spread}
