@@ -22,7 +22,8 @@ const READERS: [&str; 6] = [
 fn main(rt: HostRuntime) -> io::Result<()> {
     let mut out = String::new(rt.alloc());
     for reader in READERS {
-        let cases = read_cases(&rt, reader)?;
+        let file = format!(in rt.alloc(); "{reader}.cases")?;
+        let cases = read_cases(&rt, file.as_str())?;
         add_cases(rt.alloc(), reader, &cases, &mut out)?;
     }
     print!(rt; "{out}")

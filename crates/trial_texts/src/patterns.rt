@@ -51,13 +51,13 @@ pub fn add(alloc: Global, text: &[u8], out: &mut String) -> Result<(), AllocErro
     Ok(())
 }
 
-// How many tokens are left behind those of the patterns, and with the first that isn't.
+// How many tokens are left with the first that is of another pattern, or behind all, and whether the next is `level`.
 fn add_front(list: &[Token], patterns: &[Pattern], out: &mut String) -> Result<(), AllocError> {
     let mut rest = Tokens::new(list);
     let error = rest.all(patterns).err();
     let left = rest.len();
-    let sees = rest.sees(Pattern::End);
-    write!(out, "\n  {error:?}, {left} left, at the end {sees}")
+    let is_level = rest.sees(Pattern::Level);
+    write!(out, "\n  {error:?}, {left} left, level: {is_level}")
 }
 
 fn add_content(alloc: Global, list: &[Token], at: usize, out: &mut String) -> Result<(), AllocError>
@@ -65,7 +65,7 @@ fn add_content(alloc: Global, list: &[Token], at: usize, out: &mut String) -> Re
 {
     add_place(place_at(list, at), out)?;
     let word = word_at(alloc, list, at)?;
-    out.push_str(" ")?;
+    out.push_str(": word ")?;
     add_name(&word.name, out)?;
     add_place(word.place, out)?;
     add_number(list, at, out)?;
@@ -77,17 +77,18 @@ fn add_number(list: &[Token], at: usize, out: &mut String) -> Result<(), AllocEr
     let number = number_at(list, at);
     let numeral = numeral_at(list, at);
     let value = numeral.value;
-    write!(out, ", {number}, {value}")?;
+    write!(out, ", number {number}, numeral {value}")?;
     add_place(numeral.place, out)
 }
 
 fn add_fault(fault: &Fault, out: &mut String) -> Result<(), AllocError> {
     let Fault { phase, code, .. } = fault;
-    write!(out, ", {phase:?} {code:?}")?;
+    write!(out, ", fault {phase:?} {code:?}")?;
     add_place(fault.place_or_none(), out)
 }
 
 fn add_fitting(token: &Token, out: &mut String) -> Result<(), AllocError> {
+    out.push_str(", fits")?;
     for pattern in PATTERNS {
         if fits(pattern, &token.kind) {
             write!(out, " {pattern:?}")?;
