@@ -2,26 +2,52 @@
 
 use crate::tokens::add_name;
 use fixture_cases::Case;
-use sq_machfile::read_machine;
+use sq_machfile::{Machine, read_machine};
 use sq_mapfile::read_mapping;
 use sq_mapping::{Instance, Mapping, Route, Setting, SizeSet, Tuning};
 use sq_source::read_program;
-use sq_text::Stop;
+use sq_types::Typed;
 use std::alloc::{AllocError, Global};
 use std::fmt::Write;
+use std::mem::forget;
 
-/// The mapping of a text for the program and the machine of its case.
+/// The mapping of a text for the program and the machine of its case. The tree of the program is forgotten: then its drop
+/// is none of this function's.
 pub fn add(alloc: Global, case: &Case, text: &[u8], out: &mut String) -> Result<(), AllocError> {
-    match mapping_of(alloc, case, text) {
-        Ok(mapping) => add_mapping(&mapping, out),
-        Err(_) => out.push_str(" none"),
+    match read_program(alloc, case.text("program").unwrap_or_default()) {
+        Ok(program) => {
+            let added = add_for(alloc, &program, case, text, out);
+            forget(program);
+            added
+        }
+        Err(_) => out.push_str(" no program"),
     }
 }
 
-fn mapping_of(alloc: Global, case: &Case, text: &[u8]) -> Result<Mapping, Stop> {
-    let machine = read_machine(alloc, case.text("machine").unwrap_or_default())?;
-    let program = read_program(alloc, case.text("program").unwrap_or_default())?;
-    read_mapping(alloc, text, &program, &machine)
+fn add_for(
+    alloc: Global,
+    program: &Typed,
+    case: &Case,
+    text: &[u8],
+    out: &mut String,
+) -> Result<(), AllocError> {
+    match read_machine(alloc, case.text("machine").unwrap_or_default()) {
+        Ok(machine) => add_on(alloc, program, &machine, text, out),
+        Err(_) => out.push_str(" no machine"),
+    }
+}
+
+fn add_on(
+    alloc: Global,
+    program: &Typed,
+    machine: &Machine,
+    text: &[u8],
+    out: &mut String,
+) -> Result<(), AllocError> {
+    match read_mapping(alloc, text, program, machine) {
+        Ok(mapping) => add_mapping(&mapping, out),
+        Err(_) => out.push_str(" none"),
+    }
 }
 
 fn add_mapping(mapping: &Mapping, out: &mut String) -> Result<(), AllocError> {
