@@ -1,8 +1,12 @@
-//! Tests of rows and blocks of cells, of the outside in memory, and of array text.
+//! Tests of rows and blocks of cells, of the outside in memory, of orders and names, and of arrays on devices that fail.
 #![tactic(auto)]
 
 #[cfg(test)]
 mod array_tests;
+#[cfg(test)]
+mod name_tests;
+#[cfg(test)]
+mod order_tests;
 #[cfg(test)]
 mod outside_tests;
 #[cfg(test)]

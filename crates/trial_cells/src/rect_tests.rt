@@ -1,6 +1,7 @@
 //! Blocks, rows, paths and views, by small examples.
 ghost use Rattle.std.specs.Prelude.{◌≡◌, ◌<◌, ◌∷◌, [], length};
 
+use sq_blocks::whole;
 use sq_num::Elem;
 use sq_rect::{Dims, Path, Rect, View, Views, inside, overlap, row_at, rows};
 use sq_text::Span;
@@ -73,6 +74,13 @@ fn views_are_copied(rt: HostRuntime) {
     views.push(View::whole(16, Elem::Int, &two_by_three_by_five()));
     assert_eq!(rt; views.as_slice().len(), 1);
     assert_eq!(rt; views.copy().as_slice(), views.as_slice());
+}
+
+#[test]
+fn an_array_without_elements_is_no_block(rt: HostRuntime) {
+    let mut extents = Dims::new(2);
+    extents.push(0);
+    assert_eq!(rt; whole(&extents), None);
 }
 
 fn path(first: u32, second: Option<u32>) -> Path {
