@@ -1,11 +1,20 @@
 //! Every device of every command fails, at each read and at each front of a text: files that are missing, files whose
 //! reads fail, and an `out` and an `err` that have no more room.
-use crate::commands::{REPORT, TRACE, USAGE};
 use crate::files::{CANONICAL, files_without, words_of};
 use sq_driver::{Status, sq_top};
 use sq_port::MemSink;
 use sq_tree::LogBank;
 use std::test::Fail;
+
+const USAGE: &[u8] =
+    b"usage: sq check PROG | fmt PROG | plan PROG MAP MACH | eval PROG MAP MACH DATA | run PROG MAP MACH DATA [order=first|last|seed:N|list:FILE] [trace=yes|no] | demo N\n";
+
+const REPORT: &[u8] =
+    b"level host nodes 1 capacity 64 need 64 used 64\nlevel core nodes 2 capacity 32 need 32 used 32\nbuffer host 0 32 top A\nbuffer host 32 32 top B\nbuffer core 0 16 low A\nbuffer core 16 16 low B\nedge host core down 32 up 32\nleaves 2\n";
+
+// Of two children the first one first.
+const TRACE: &[u8] =
+    b"fill 0.0:32 32\ncopy 0.0:0 1.0:0 16\nfill 1.0:16 16\nleaf 1.0 low\ncopy 1.0:16 0.0:32 16\ncopy 0.0:16 1.1:0 16\nfill 1.1:16 16\nleaf 1.1 low\ncopy 1.1:16 0.0:48 16\n";
 
 // What a command answers where no device fails, and the files that it reads, in the order of its phases.
 #[derive(Drop)]
@@ -230,5 +239,29 @@ fn err_gets_a_front_of_its_text(rt: HostRuntime) -> Result<(), Fail> {
             assert!(rt; answers(&rt, c.words, devices, Status::SinkFault, b"", front)?);
         }
     }
+    Ok(())
+}
+
+#[test]
+fn a_bank_keeps_its_events(rt: HostRuntime) -> Result<(), Fail> {
+    let words = words_of(
+        &rt,
+        &["run", "two.sq", "8.map", "two.mach", "8.txt", "trace=yes"],
+    )?;
+    let mut files = files_without(&rt, "")?;
+    let mut out = MemSink::new(rt.alloc(), 200)?;
+    let mut err = MemSink::new(rt.alloc(), 400)?;
+    let mut bank = LogBank::new(rt.alloc(), 9)?;
+    let status = sq_top(
+        rt.alloc(),
+        &words,
+        &mut files,
+        &mut out,
+        &mut err,
+        &mut bank,
+    );
+    assert_eq!(rt; status, Status::Done);
+    assert_eq!(rt; err.written(), TRACE);
+    assert!(rt; matches!(bank.events(), Some(events) if events.len() == 9));
     Ok(())
 }
