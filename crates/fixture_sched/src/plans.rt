@@ -52,15 +52,21 @@ fn one_buffer(alloc: Global) -> Result<Stored, AllocError>
     })
 }
 
-fn planned(alloc: Global, nodes: PlanNodes, term: Term) -> Result<Plan, AllocError>
-    ensures { IfOk result (λ p. p ≡ spec.planned nodes term) }
+// Nothing fails here, so no term has to be let go.
+fn planned(alloc: Global, stored: Stored, nodes: PlanNodes, term: Term) -> Plan
+    requires { stored ≡ record {
+      buffers = record { level = 0; size = 16; instance = []; array = [] } ∷ [];
+      entry = 0 ∷ [];
+      offsets = 0 ∷ [];
+    } }
+    ensures { result ≡ spec.planned nodes term }
 {
     let Stored {
         buffers,
         entry,
         offsets,
-    } = one_buffer(alloc)?;
-    Ok(Plan {
+    } = stored;
+    Plan {
         draft: Draft {
             term,
             buffers,
@@ -70,7 +76,7 @@ fn planned(alloc: Global, nodes: PlanNodes, term: Term) -> Result<Plan, AllocErr
         },
         offsets,
         nodes,
-    })
+    }
 }
 
 fn fill(at: Num, value: i64) -> Term
@@ -93,15 +99,6 @@ fn looped(alloc: Global, count: u64, body: Term) -> Result<Term, AllocError>
         count: Num::Const(count as i64),
         body,
     })
-}
-
-fn pair(alloc: Global, a: Term, b: Term) -> Result<Terms, AllocError>
-    ensures { IfOk result (λ ts. ts ≡ a ∷ b ∷ []) }
-{
-    let mut parts = Items::new(alloc);
-    parts.push(a)?;
-    parts.push(b)?;
-    Ok(parts)
 }
 
 fn node(level: u32, first_child: u32, children: u32) -> PlanNode
@@ -127,10 +124,11 @@ fn filling_plan(alloc: Global, outer: u32, inner: u64) -> Result<Plan, AllocErro
     requires { inner < 2 ^ 63 }
     ensures { IfOk result (λ p. p ≡ spec.filling outer inner) }
 {
+    let stored = one_buffer(alloc)?;
     let nodes = Items::from_slice(alloc, &[node(0, 0, 0)])?;
     let body = looped(alloc, inner, fill(Num::Const(0), 7))?;
     let term = looped(alloc, u64::from(outer), body)?;
-    planned(alloc, nodes, term)
+    Ok(planned(alloc, stored, nodes, term))
 }
 
 // The fill 1 for 0, and the fill 2 for 1.
@@ -138,7 +136,9 @@ fn choice(alloc: Global, pick: u32) -> Result<Term, AllocError>
     ensures { IfOk result (λ t. t ≡ term.Case (num.Const (pos pick)) (spec.fill (num.Const (pos 0)) (pos 1) ∷ spec.fill
         (num.Const (pos 0)) (pos 2) ∷ [])) }
 {
-    let arms = pair(alloc, fill(Num::Const(0), 1), fill(Num::Const(0), 2))?;
+    let mut arms = Items::new(alloc);
+    arms.push(fill(Num::Const(0), 1))?;
+    arms.push(fill(Num::Const(0), 2))?;
     Ok(Term::Case {
         pick: Num::Const(i64::from(pick)),
         arms,
@@ -162,7 +162,9 @@ fn turns(alloc: Global) -> Result<Term, AllocError>
     ensures { IfOk result (λ t. t ≡ term.Loop (num.Const (pos 2)) (term.Seq
         (term.Skip ∷ spec.fill (num.Index 0) (pos 4) ∷ []))) }
 {
-    let parts = pair(alloc, Term::Skip, fill(Num::Index(0), 4))?;
+    let mut parts = Items::new(alloc);
+    parts.push(Term::Skip)?;
+    parts.push(fill(Num::Index(0), 4))?;
     let body = looped(alloc, 2, Term::Seq(parts))?;
     Ok(body)
 }
@@ -171,12 +173,13 @@ fn turns(alloc: Global) -> Result<Term, AllocError>
 fn mixed_plan(alloc: Global, rule: SpreadRule, pick: u32) -> Result<Plan, AllocError>
     ensures { IfOk result (λ p. p ≡ spec.mixed rule pick) }
 {
+    let stored = one_buffer(alloc)?;
+    let nodes = family(alloc)?;
     let mut parts = Items::new(alloc);
     parts.push(choice(alloc, pick)?)?;
     parts.push(spread(alloc, rule)?)?;
     parts.push(turns(alloc)?)?;
-    let nodes = family(alloc)?;
-    planned(alloc, nodes, Term::Par(parts))
+    Ok(planned(alloc, stored, nodes, Term::Par(parts)))
 }
 
 fn call(alloc: Global, path: u32) -> Result<Term, AllocError>
@@ -205,7 +208,9 @@ fn calls(alloc: Global, first: u32, second: u32) -> Result<Terms, AllocError>
 fn then_fill(alloc: Global, calls: Terms) -> Result<Term, AllocError>
     ensures { IfOk result (λ t. t ≡ term.Seq (term.Par calls ∷ spec.fill (num.Const (pos 0)) (pos 5) ∷ [])) }
 {
-    let parts = pair(alloc, Term::Par(calls), fill(Num::Const(0), 5))?;
+    let mut parts = Items::new(alloc);
+    parts.push(Term::Par(calls))?;
+    parts.push(fill(Num::Const(0), 5))?;
     Ok(Term::Seq(parts))
 }
 
@@ -213,20 +218,20 @@ fn then_fill(alloc: Global, calls: Terms) -> Result<Term, AllocError>
 fn calling_plan(alloc: Global, first: u32, second: u32) -> Result<Plan, AllocError>
     ensures { IfOk result (λ p. p ≡ spec.calling first second) }
 {
+    let stored = one_buffer(alloc)?;
     let nodes = family(alloc)?;
     let calls = calls(alloc, first, second)?;
     let term = then_fill(alloc, calls)?;
-    planned(alloc, nodes, term)
+    Ok(planned(alloc, stored, nodes, term))
 }
 
 fn controlled(alloc: Global, plan: Plan) -> Result<Control<u32>, AllocError>
     requires { (leaves : Leaves ℕ) × IsWellFormed leaves plan }
     ensures { IfOk result (λ c. c ≡ record { plan = plan; left = tree_of plan; ended = None }) }
 {
-    match Rc::new(alloc, plan) {
-        Ok(plan) => Control::new(alloc, plan),
-        Err(_) => Err(AllocError),
-    }
+    let plan = Rc::new(alloc, plan)?;
+    let control = Control::new(alloc, plan)?;
+    Ok(control)
 }
 
 /// The control of so many times so many fills of four bytes, on one memory.

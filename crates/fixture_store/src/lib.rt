@@ -3,4 +3,4 @@
 
 mod sketch;
 
-pub use sketch::{draft, memories, numbers};
+pub use sketch::{draft, memories, number};

@@ -1,7 +1,8 @@
-//! Memories, buffers and terms in words.
+//! Memories, buffers, numbers and terms in words.
 
 use sq_ir::{
-    Action, Buffer, BufferIds, Buffers, Draft, Num, PlanNode, PlanNodes, Slot, Term, Terms,
+    Action, Buffer, BufferIds, Buffers, Draft, Num, Numbers, Nums, PlanNode, PlanNodes, Slot, Term,
+    Terms,
 };
 use sq_num::{Elem, RedOp};
 use sq_text::{Name, SpreadRule};
@@ -9,42 +10,21 @@ use sqlite_items::{Boxed as Box, Items};
 use std::alloc::{AllocError, Global};
 use std::mem::replace;
 
-/// The numbers of a text, parted by blanks.
-pub fn numbers(alloc: Global, text: &str) -> Result<Vec<u64>, AllocError> {
-    let mut list = Vec::new(alloc);
-    for word in text.split_whitespace() {
-        list.push(whole(word))?;
-    }
-    Ok(list)
-}
-
 fn whole(word: &str) -> u64 {
-    match word.parse::<u64>() {
-        Ok(n) => n,
-        Err(_) => 0,
-    }
+    word.parse::<u64>().unwrap_or(0)
 }
 
 fn signed(word: &str) -> i64 {
-    match word.parse::<i64>() {
-        Ok(n) => n,
-        Err(_) => 0,
-    }
+    word.parse::<i64>().unwrap_or(0)
 }
 
 fn small(word: &str) -> u32 {
-    match word.parse::<u32>() {
-        Ok(n) => n,
-        Err(_) => 0,
-    }
+    word.parse::<u32>().unwrap_or(0)
 }
 
 // What stands before the first colon, and what stands behind it.
 fn cut(text: &str) -> (&str, &str) {
-    match text.split_once(':') {
-        Some(parts) => parts,
-        None => (text, ""),
-    }
+    text.split_once(':').unwrap_or((text, ""))
 }
 
 /// Memories, level by level: `0:32:2 1:16:0 1:8:0` is a root of 32 bytes with two children, of 16 and 8 bytes.
@@ -100,35 +80,68 @@ fn buffers_of(alloc: Global, text: &str) -> Result<Buffers, AllocError> {
     Ok(list)
 }
 
-// `c` is the number of children, `i` the number of the iteration, `j` that of the loop round it.
-fn plain(word: &str) -> Num {
-    if word == "c" {
-        return Num::Children;
+// The last number.
+fn last_number(numbers: &mut Nums) -> Num {
+    match numbers.pop() {
+        Some(number) => number,
+        None => Num::Const(0),
     }
-    if word == "i" {
-        return Num::Index(0);
-    }
-    if word == "j" {
-        return Num::Index(1);
-    }
-    Num::Const(signed(word))
 }
 
-// The child of an iteration, of so many that go to the children in blocks.
-fn share(alloc: Global, count: i64) -> Result<Num, AllocError> {
-    let product = Num::product(alloc, Num::Index(0), Num::Children)?;
-    Num::quotient(alloc, product, Num::Const(count))
+// The items of a list, parted by `;`.
+fn list(alloc: Global, text: &str) -> Result<Numbers, AllocError> {
+    let mut items = Vec::new(alloc);
+    for word in text.split(';') {
+        items.push(signed(word))?;
+    }
+    Numbers::new(alloc, items)
 }
 
-// `i%c` and `i*c/4` are the children to which the two rules send an iteration, the second of 4.
-fn number(alloc: Global, word: &str) -> Result<Num, AllocError> {
-    if word == "i%c" {
-        return Num::remainder(alloc, Num::Index(0), Num::Children);
+// The item of a list at the last number.
+fn pick(alloc: Global, text: &str, numbers: &mut Nums) -> Result<Num, AllocError> {
+    let list = list(alloc, text)?;
+    Num::pick(alloc, list, last_number(numbers))
+}
+
+// An operator between the last two numbers.
+fn operation(alloc: Global, sign: &str, numbers: &mut Nums) -> Result<Num, AllocError> {
+    let b = last_number(numbers);
+    let a = last_number(numbers);
+    match sign {
+        "+" => Num::sum(alloc, a, b),
+        "-" => Num::difference(alloc, a, b),
+        "*" => Num::product(alloc, a, b),
+        "/" => Num::quotient(alloc, a, b),
+        "%" => Num::remainder(alloc, a, b),
+        _ => Num::lesser(alloc, a, b),
     }
-    match word.split_once('/') {
-        Some((_, count)) => share(alloc, signed(count)),
-        None => Ok(plain(word)),
+}
+
+// One word of a number more.
+fn number_of(alloc: Global, word: &str, numbers: &mut Nums) -> Result<Num, AllocError> {
+    if let Some(text) = word.strip_prefix("@") {
+        return pick(alloc, text, numbers);
     }
+    if let Some(depth) = word.strip_prefix("i") {
+        return Ok(Num::Index(small(depth)));
+    }
+    match word {
+        "c" => Ok(Num::Children),
+        "+" | "-" | "*" | "/" | "%" | "<" => operation(alloc, word, numbers),
+        _ => Ok(Num::Const(signed(word))),
+    }
+}
+
+/// A number by words, parted by commas, each operator behind its numbers: `c` is the number of children, `i` the number
+/// of the iteration, `i1` that of the loop round it, `<` the lesser one, and `@5;-7` the item of that list at the number
+/// before it. So `i,c,%` and `i,c,*,4,/` are the children to which the two rules send an iteration, the second of 4.
+pub fn number(alloc: Global, text: &str) -> Result<Num, AllocError> {
+    let mut numbers = Items::new(alloc);
+    for word in text.split(',') {
+        let number = number_of(alloc, word, &mut numbers)?;
+        numbers.push(number)?;
+    }
+    Ok(last_number(&mut numbers))
 }
 
 fn slot(buffer: &str) -> Slot {
@@ -142,34 +155,30 @@ fn slot(buffer: &str) -> Slot {
 fn action(alloc: Global, name: &str, rest: &str) -> Action {
     let (first, rest) = cut(rest);
     let (second, count) = cut(rest);
-    if name == "copy" {
-        return Action::CopyRow {
+    match name {
+        "copy" => Action::CopyRow {
             from: slot(first),
             to: slot(second),
             bytes: small(count),
-        };
-    }
-    if name == "add" {
-        return Action::AccRow {
+        },
+        "add" => Action::AccRow {
             op: RedOp::Add,
             elem: Elem::Int,
             from: slot(first),
             to: slot(second),
             count: small(count),
-        };
-    }
-    if name == "fill" {
-        return Action::FillRow {
+        },
+        "fill" => Action::FillRow {
             to: slot(first),
             elem: Elem::Int,
             count: 1,
             value: 0,
-        };
-    }
-    Action::Leaf {
-        code: 0,
-        views: Items::new(alloc),
-        path: Items::new(alloc),
+        },
+        _ => Action::Leaf {
+            code: 0,
+            views: Items::new(alloc),
+            path: Items::new(alloc),
+        },
     }
 }
 
@@ -181,85 +190,64 @@ fn last(terms: &mut Terms) -> Term {
     }
 }
 
-// The last term in a scope.
-fn scope(
-    alloc: Global,
-    child: Option<Num>,
-    named: &str,
-    terms: &mut Terms,
-) -> Result<(), AllocError> {
+// The last term in a scope, at a child if one is named.
+fn scope(alloc: Global, child: &str, named: &str, terms: &mut Terms) -> Result<Term, AllocError> {
     let buffers = ids(alloc, named)?;
     let body = Box::new(alloc, last(terms))?;
-    terms.push(Term::Within {
+    let child = match child {
+        "" => None,
+        _ => Some(number(alloc, child)?),
+    };
+    Ok(Term::Within {
         child,
         buffers,
         body,
     })
 }
 
-// The last term in a loop, or spread over the children.
-fn turns(alloc: Global, name: &str, count: Num, terms: &mut Terms) -> Result<(), AllocError> {
+// The last term in a loop.
+fn turns(alloc: Global, count: &str, terms: &mut Terms) -> Result<Term, AllocError> {
     let body = Box::new(alloc, last(terms))?;
-    if name == "loop" {
-        return terms.push(Term::Loop { count, body });
-    }
-    let rule = if name == "cyclic" {
-        SpreadRule::Cyclic
-    } else {
-        SpreadRule::Blocked
-    };
-    terms.push(Term::Spread { count, rule, body })
+    let count = number(alloc, count)?;
+    Ok(Term::Loop { count, body })
+}
+
+// The last term, spread over the children.
+fn spread(
+    alloc: Global,
+    rule: SpreadRule,
+    count: &str,
+    terms: &mut Terms,
+) -> Result<Term, AllocError> {
+    let body = Box::new(alloc, last(terms))?;
+    let count = number(alloc, count)?;
+    Ok(Term::Spread { count, rule, body })
 }
 
 // All terms as the arms of one.
-fn choose(alloc: Global, pick: Num, terms: &mut Terms) -> Result<(), AllocError> {
+fn choice(alloc: Global, pick: &str, terms: &mut Terms) -> Result<Term, AllocError> {
+    let pick = number(alloc, pick)?;
     let arms = replace(terms, Items::new(alloc));
-    terms.push(Term::Case { pick, arms })
-}
-
-// All terms as the parts of one.
-fn gather(alloc: Global, name: &str, terms: &mut Terms) -> Result<(), AllocError> {
-    let parts = replace(terms, Items::new(alloc));
-    if name == "seq" {
-        return terms.push(Term::Seq(parts));
-    }
-    terms.push(Term::Par(parts))
+    Ok(Term::Case { pick, arms })
 }
 
 // One word more.
 fn add_word(alloc: Global, word: &str, terms: &mut Terms) -> Result<(), AllocError> {
     let (name, rest) = cut(word);
-    if name == "skip" {
-        return terms.push(Term::Skip);
-    }
-    if name == "seq" || name == "par" {
-        return gather(alloc, name, terms);
-    }
-    if name == "in" {
-        return scope(alloc, None, rest, terms);
-    }
-    if name == "at" || name == "case" || name == "loop" || name == "cyclic" || name == "blocked" {
-        return add_numbered(alloc, name, rest, terms);
-    }
-    terms.push(Term::Act(action(alloc, name, rest)))
-}
-
-// One word with a number more.
-fn add_numbered(
-    alloc: Global,
-    name: &str,
-    rest: &str,
-    terms: &mut Terms,
-) -> Result<(), AllocError> {
-    let (word, rest) = cut(rest);
-    let number = number(alloc, word)?;
-    if name == "at" {
-        return scope(alloc, Some(number), rest, terms);
-    }
-    if name == "case" {
-        return choose(alloc, number, terms);
-    }
-    turns(alloc, name, number, terms)
+    let (first, named) = cut(rest);
+    let term = match name {
+        "skip" => Term::Skip,
+        "seq" => Term::Seq(replace(terms, Items::new(alloc))),
+        "par" => Term::Par(replace(terms, Items::new(alloc))),
+        "in" => scope(alloc, "", rest, terms)?,
+        "at" => scope(alloc, first, named, terms)?,
+        "case" => choice(alloc, rest, terms)?,
+        "loop" => turns(alloc, rest, terms)?,
+        "cyclic" => spread(alloc, SpreadRule::Cyclic, rest, terms)?,
+        "blocked" => spread(alloc, SpreadRule::Blocked, rest, terms)?,
+        _ => Term::Act(action(alloc, name, rest)),
+    };
+    terms.push(term)
 }
 
 fn add_words(alloc: Global, text: &str, terms: &mut Terms) -> Result<(), AllocError> {
@@ -272,15 +260,11 @@ fn add_words(alloc: Global, text: &str, terms: &mut Terms) -> Result<(), AllocEr
 // The words, and those behind a bar as often as stands there.
 fn term_of(alloc: Global, text: &str) -> Result<Term, AllocError> {
     let mut terms = Items::new(alloc);
-    match text.split_once('|') {
-        None => add_words(alloc, text, &mut terms)?,
-        Some((first, more)) => {
-            add_words(alloc, first, &mut terms)?;
-            let (times, round) = cut(more);
-            for _ in 0..small(times) {
-                add_words(alloc, round, &mut terms)?;
-            }
-        }
+    let (first, more) = text.split_once('|').unwrap_or((text, ""));
+    add_words(alloc, first, &mut terms)?;
+    let (times, round) = cut(more);
+    for _ in 0..small(times) {
+        add_words(alloc, round, &mut terms)?;
     }
     Ok(last(&mut terms))
 }

@@ -10,7 +10,7 @@ ghost use Rattle.sq_ir.specs.declared.term.Term.TheVariants as term;
 ghost use Rattle.fixture_tree.specs.Lanes as spec;
 
 use sq_ir::{
-    Action, Buffer, Buffers, Draft, Leaf, LeafView, LeafViews, Num, Numbers, Nums, Offsets, Plan,
+    Action, Buffer, Buffers, Draft, Leaf, LeafView, LeafViews, Leaves, Num, Numbers, Nums, Plan,
     PlanNode, PlanNodes, Slot, Term, Terms,
 };
 use sq_num::{Elem, RedOp};
@@ -223,23 +223,6 @@ fn buffers(alloc: Global) -> Result<Buffers, AllocError>
     Ok(buffers)
 }
 
-fn draft(alloc: Global, rule: SpreadRule, leaf: Leaf) -> Result<Draft, AllocError>
-    ensures { IfOk result (λ d. d ≡ (spec.lanes rule leaf).draft) }
-{
-    let mut leaves = Items::new(alloc);
-    leaves.push(leaf)?;
-    let entry = Items::from_slice(alloc, &[0])?;
-    let buffers = buffers(alloc)?;
-    let term = spread(alloc, rule)?;
-    Ok(Draft {
-        term,
-        buffers,
-        leaves,
-        entry,
-        notes: Items::new(alloc),
-    })
-}
-
 fn node(level: u32, first_child: u32, children: u32) -> PlanNode
     ensures { result ≡ record { level = level; capacity = 16; first_child = first_child; children = children } }
 {
@@ -258,34 +241,43 @@ fn family(alloc: Global) -> Result<PlanNodes, AllocError>
     Items::from_slice(alloc, &[node(0, 1, 2), node(1, 0, 0), node(1, 0, 0)])
 }
 
-// The offsets, and the machine.
-fn placed(alloc: Global) -> Result<(Offsets, PlanNodes), AllocError>
-    ensures { IfOk result (λ p. p ≡ (0 ∷ 0 ∷ [], examples.nodes)) }
+pub(crate) fn one_leaf(alloc: Global, leaf: Leaf) -> Result<Leaves, AllocError>
+    ensures { IfOk result (λ ls. ls ≡ leaf ∷ []) }
 {
-    let offsets = Items::from_slice(alloc, &[0, 0])?;
-    let nodes = family(alloc)?;
-    Ok((offsets, nodes))
+    let mut leaves = Items::new(alloc);
+    leaves.push(leaf)?;
+    Ok(leaves)
 }
 
+// The term comes last, so that what may fail lets no term go.
 fn lanes_plan(alloc: Global, rule: SpreadRule, leaf: Leaf) -> Result<Plan, AllocError>
     ensures { IfOk result (λ p. p ≡ spec.lanes rule leaf) }
 {
-    let (offsets, nodes) = placed(alloc)?;
-    let draft = draft(alloc, rule, leaf)?;
+    let leaves = one_leaf(alloc, leaf)?;
+    let entry = Items::from_slice(alloc, &[0])?;
+    let offsets = Items::from_slice(alloc, &[0, 0])?;
+    let nodes = family(alloc)?;
+    let buffers = buffers(alloc)?;
+    let term = spread(alloc, rule)?;
     Ok(Plan {
-        draft,
+        draft: Draft {
+            term,
+            buffers,
+            leaves,
+            entry,
+            notes: Items::new(alloc),
+        },
         offsets,
         nodes,
     })
 }
 
+// By `?`, which lets a plan that it can't share go in one call.
 pub(crate) fn shared(alloc: Global, plan: Plan) -> Result<Rc<Plan>, AllocError>
     ensures { IfOk result (λ p. p.value ≡ plan) }
 {
-    match Rc::new(alloc, plan) {
-        Ok(plan) => Ok(plan),
-        Err(_) => Err(AllocError),
-    }
+    let plan = Rc::new(alloc, plan)?;
+    Ok(plan)
 }
 
 /// Three iterations over four ints of the root, spread over two children. Each takes its int, gives it to the leaf,

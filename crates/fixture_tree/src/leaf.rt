@@ -10,7 +10,7 @@ ghost use Rattle.fixture_tree.specs.Turns.{squares, AreSquares};
 use sq_ast::{Extent, Param, Variant};
 use sq_blocks::{Bindings, Env, ListBindings};
 use sq_ir::Leaf;
-use sq_leaf::{LeafCode, compile_leaf, leaf_variant};
+use sq_leaf::{Typed, compile_leaf, leaf_variant};
 use sq_num::Elem;
 use sq_source::read_program;
 use sq_text::Name;
@@ -119,27 +119,51 @@ fn compiled(alloc: Global, name: &[u8], variant: &Variant) -> Result<Leaf, Alloc
     requires { IsLeaf variant.now }
     ensures { IfOk result (λ leaf. leaf.code.variant ≡ variant.now) }
 {
+    let instance = Name::new(alloc, name)?;
     let numbers = Bindings::new(alloc);
     let lists = ListBindings::new(alloc);
     let env = Env {
         numbers: &numbers,
         lists: &lists,
     };
-    let instance = Name::new(alloc, name)?;
     let code = compile_leaf(alloc, variant, &env)?;
     Ok(Leaf { instance, code })
+}
+
+// The leaf that the first variant is, where it takes a single int.
+fn int_leaf_of(alloc: Global, name: &[u8], typed: &Typed) -> Result<Option<Leaf>, AllocError>
+    ensures { IfOk result (λ l. IfSome l (λ leaf. shapes_of leaf.code ≡ record { elem = Int; extents = 1 ∷ [] } ∷ [])) }
+{
+    match leaf_variant(typed, 0) {
+        Some(variant) if takes_int(variant) => Ok(Some(compiled(alloc, name, variant)?)),
+        _ => Ok(None),
+    }
+}
+
+// The leaf that the first variant is, where it takes three squares.
+fn square_leaf_of(alloc: Global, name: &[u8], typed: &Typed) -> Result<Option<Leaf>, AllocError>
+    ensures { IfOk result (λ l. IfSome l (λ leaf. shapes_of leaf.code ≡ squares)) }
+{
+    match leaf_variant(typed, 0) {
+        Some(variant) if takes_squares(variant) => Ok(Some(compiled(alloc, name, variant)?)),
+        _ => Ok(None),
+    }
 }
 
 /// The leaf that a text's first variant is, where it takes a single int.
 pub fn int_leaf(alloc: Global, name: &[u8], text: &[u8]) -> Result<Option<Leaf>, AllocError>
     ensures { IfOk result (λ l. IfSome l (λ leaf. shapes_of leaf.code ≡ record { elem = Int; extents = 1 ∷ [] } ∷ [])) }
 {
-    let Ok(typed) = read_program(alloc, text) else {
-        return Ok(None);
-    };
-    match leaf_variant(&typed, 0) {
-        Some(variant) if takes_int(variant) => Ok(Some(compiled(alloc, name, variant)?)),
-        _ => Ok(None),
+    match read_program(alloc, text) {
+        Ok(typed) => {
+            let leaf = int_leaf_of(alloc, name, &typed);
+            drop(typed);
+            leaf
+        }
+        Err(stop) => {
+            drop(stop);
+            Ok(None)
+        }
     }
 }
 
@@ -147,11 +171,15 @@ pub fn int_leaf(alloc: Global, name: &[u8], text: &[u8]) -> Result<Option<Leaf>,
 pub fn square_leaf(alloc: Global, name: &[u8], text: &[u8]) -> Result<Option<Leaf>, AllocError>
     ensures { IfOk result (λ l. IfSome l (λ leaf. shapes_of leaf.code ≡ squares)) }
 {
-    let Ok(typed) = read_program(alloc, text) else {
-        return Ok(None);
-    };
-    match leaf_variant(&typed, 0) {
-        Some(variant) if takes_squares(variant) => Ok(Some(compiled(alloc, name, variant)?)),
-        _ => Ok(None),
+    match read_program(alloc, text) {
+        Ok(typed) => {
+            let leaf = square_leaf_of(alloc, name, &typed);
+            drop(typed);
+            leaf
+        }
+        Err(stop) => {
+            drop(stop);
+            Ok(None)
+        }
     }
 }

@@ -64,9 +64,10 @@ pub fn run_on<B: Bank, O: Order, S: Sink>(
 ) -> Result<Ran, AllocError>
     requires { IsGood (leaves_of plan.value.draft) plan.value }
 {
-    let mut control = Control::new(alloc, plan.clone()?)?;
-    open(alloc, plan, start, bank)?;
+    open(alloc, plan.clone()?, start, bank)?;
+    let mut control = Control::new(alloc, plan)?;
     let end = run(bank, &mut control, order, traced, trace);
+    drop(control);
     let root = bank.root_bytes(0, start.len()).to_vec(alloc)?;
     Ok(Ran { end, root })
 }

@@ -8,7 +8,7 @@ ghost use Rattle.sq_ir.specs.declared.num.Num.TheVariants as num;
 ghost use Rattle.sq_ir.specs.declared.term.Term.TheVariants as term;
 ghost use Rattle.fixture_tree.specs.Turns as spec;
 
-use crate::lanes::{shared, slot};
+use crate::lanes::{one_leaf, shared, slot};
 use sq_ir::{
     Action, Buffer, BufferIds, Buffers, Draft, Leaf, LeafView, LeafViews, Leaves, Num, Offsets,
     Plan, PlanNode, PlanNodes, Term,
@@ -49,16 +49,6 @@ fn memory(alloc: Global, capacity: u64) -> Result<PlanNodes, AllocError>
     )
 }
 
-fn looped(alloc: Global, count: u32, body: Term) -> Result<Term, AllocError>
-    ensures { IfOk result (λ t. t ≡ term.Loop (num.Const (pos count)) body) }
-{
-    let body = Box::new(alloc, body)?;
-    Ok(Term::Loop {
-        count: Num::Const(i64::from(count)),
-        body,
-    })
-}
-
 // What a plan has beside its term and its leaves.
 #[derive(Drop)]
 struct Stored {
@@ -88,30 +78,7 @@ fn with_one_buffer(alloc: Global, size: u64) -> Result<Stored, AllocError>
     })
 }
 
-// A plan of a term on one memory.
-fn planned(alloc: Global, size: u64, leaves: Leaves, term: Term) -> Result<Plan, AllocError>
-    ensures { IfOk result (λ p. p ≡ spec.on_memory size leaves term) }
-{
-    let Stored {
-        buffers,
-        entry,
-        offsets,
-        nodes,
-    } = with_one_buffer(alloc, size)?;
-    Ok(Plan {
-        draft: Draft {
-            term,
-            buffers,
-            leaves,
-            entry,
-            notes: Items::new(alloc),
-        },
-        offsets,
-        nodes,
-    })
-}
-
-// So many times so many times the action.
+// So many times so many times the action. What is in a box is let go in one call, where something fails.
 fn repeated(
     alloc: Global,
     size: u64,
@@ -122,10 +89,32 @@ fn repeated(
 ) -> Result<Plan, AllocError>
     ensures { IfOk result (λ p. p ≡ spec.turns size leaves outer inner action) }
 {
-    let body = looped(alloc, inner, Term::Act(action))?;
-    let term = looped(alloc, outer, body)?;
-    let plan = planned(alloc, size, leaves, term)?;
-    Ok(plan)
+    let act = Box::new(alloc, Term::Act(action))?;
+    let turns = Term::Loop {
+        count: Num::Const(i64::from(inner)),
+        body: act,
+    };
+    let body = Box::new(alloc, turns)?;
+    let Stored {
+        buffers,
+        entry,
+        offsets,
+        nodes,
+    } = with_one_buffer(alloc, size)?;
+    Ok(Plan {
+        draft: Draft {
+            term: Term::Loop {
+                count: Num::Const(i64::from(outer)),
+                body,
+            },
+            buffers,
+            leaves,
+            entry,
+            notes: Items::new(alloc),
+        },
+        offsets,
+        nodes,
+    })
 }
 
 fn no_leaves(alloc: Global) -> Leaves
@@ -222,14 +211,6 @@ fn product(alloc: Global) -> Result<Action, AllocError>
         views,
         path: Items::new(alloc),
     })
-}
-
-fn one_leaf(alloc: Global, leaf: Leaf) -> Result<Leaves, AllocError>
-    ensures { IfOk result (λ ls. ls ≡ leaf ∷ []) }
-{
-    let mut leaves = Items::new(alloc);
-    leaves.push(leaf)?;
-    Ok(leaves)
 }
 
 /// So many times so many times a leaf call over three arrays of 4 by 4 ints, which stand one behind the other.
