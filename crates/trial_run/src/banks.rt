@@ -172,7 +172,12 @@ fn add_text(text: &MemSink, out: &mut String) -> Result<(), AllocError> {
 }
 
 // The lines of the events that a bank tells.
-fn add_events(alloc: Global, plan: &Plan, bank: &LogBank, out: &mut String) -> Result<(), AllocError> {
+fn add_events(
+    alloc: Global,
+    plan: &Plan,
+    bank: &LogBank,
+    out: &mut String,
+) -> Result<(), AllocError> {
     let Some(events) = bank.events() else {
         return out.push_str("untold\n");
     };

@@ -66,11 +66,7 @@ fn add_steps(control: &mut Control<u32>, steps: &str, out: &mut String) -> Resul
 // `ready` tells how many events are ready, `step:0` performs the first of them unless it is a leaf call, `done:0` ends
 // one, `trap:0:7` ends a leaf call by the cause 7, and `ended` tells the trap that counts. `first:9` and `last:9` perform
 // nine events, the first or the last ready one each time.
-fn add_step(
-    control: &mut Control<u32>,
-    word: &str,
-    out: &mut String,
-) -> Result<(), AllocError> {
+fn add_step(control: &mut Control<u32>, word: &str, out: &mut String) -> Result<(), AllocError> {
     let (name, rest) = cut(word, ':');
     let (event, cause) = cut(rest, ':');
     match name {
@@ -116,12 +112,7 @@ fn add_event(
 }
 
 // A leaf call traps, and nothing else does.
-fn trap(
-    control: &mut Control<u32>,
-    k: u64,
-    cause: u32,
-    out: &mut String,
-) -> Result<(), AllocError>
+fn trap(control: &mut Control<u32>, k: u64, cause: u32, out: &mut String) -> Result<(), AllocError>
     requires { k < ready control.old.left }
 {
     match control.event(k) {

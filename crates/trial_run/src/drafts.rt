@@ -81,11 +81,13 @@ fn add_places(
             drop(plan);
             add_numbers(&ends, out)
         }
-        Err(StoreFault::Capacity {
-            node,
-            need,
-            capacity,
-        }) => write!(out, " node {node} needs {need} and has {capacity}"),
+        Err(
+            StoreFault::Capacity {
+                node,
+                need,
+                capacity,
+            },
+        ) => write!(out, " node {node} needs {need} and has {capacity}"),
         Err(StoreFault::NoMemory) => Err(AllocError),
     }
 }
