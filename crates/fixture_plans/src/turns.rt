@@ -137,13 +137,13 @@ fn product(alloc: Global) -> Result<Action, AllocError>
 }
 
 /// So many times so many times a leaf call over three arrays of 4 by 4 ints, which stand one behind the other.
-pub fn products(alloc: Global, outer: u32, inner: u32, leaf: Leaf) -> Result<Rc<Plan>, AllocError>
-    requires { shapes_of leaf.code ≡ spec.squares }
+pub fn products(alloc: Global, outer: u32, inner: u64, leaf: Leaf) -> Result<Rc<Plan>, AllocError>
+    requires { (shapes_of leaf.code ≡ spec.squares) × (inner < 2 ^ 63) }
     ensures { IfOk result (λ p. IsGood (leaves_of p.value.draft) p.value) }
 {
     let leaves = one_leaf(alloc, leaf)?;
     let action = product(alloc)?;
-    let turns = repeated(alloc, 192, leaves, outer, u64::from(inner), action)?;
+    let turns = repeated(alloc, 192, leaves, outer, inner, action)?;
     let plan = shared(alloc, turns)?;
     Ok(plan)
 }

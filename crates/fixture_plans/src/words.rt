@@ -33,9 +33,20 @@ pub(crate) fn rule_of(word: &str) -> SpreadRule {
     }
 }
 
-// What stands before the first colon, and what stands behind it.
-fn cut(text: &str) -> (&str, &str) {
-    text.split_once(':').unwrap_or((text, ""))
+// The part of a word at a place, parted by colons.
+fn part_at(word: &str, place: usize) -> &str {
+    word.split(':').nth(place).unwrap_or("")
+}
+
+// `1:16:2` is a memory of level 1, of 16 bytes, with two children, of which the first has that number.
+fn memory(word: &str, next: u32) -> PlanNode {
+    let children = small(part_at(word, 2));
+    PlanNode {
+        level: small(part_at(word, 0)),
+        capacity: whole(part_at(word, 1)),
+        first_child: if children == 0 { 0 } else { next },
+        children,
+    }
 }
 
 /// Memories, level by level: `0:32:2 1:16:0 1:8:0` is a root of 32 bytes with two children, of 16 and 8 bytes.
@@ -43,16 +54,9 @@ pub fn memories(alloc: Global, text: &str) -> Result<PlanNodes, AllocError> {
     let mut nodes = Items::new(alloc);
     let mut next: u32 = 1;
     for word in text.split_whitespace() {
-        let (level, rest) = cut(word);
-        let (capacity, children) = cut(rest);
-        let children = small(children);
-        nodes.push(PlanNode {
-            level: small(level),
-            capacity: whole(capacity),
-            first_child: if children == 0 { 0 } else { next },
-            children,
-        })?;
-        next = next.saturating_add(children);
+        let node = memory(word, next);
+        next = next.saturating_add(node.children);
+        nodes.push(node)?;
     }
     Ok(nodes)
 }
@@ -70,14 +74,11 @@ fn ids(alloc: Global, text: &str) -> Result<BufferIds, AllocError> {
 
 // `1:8:t:A` is a buffer of level 1, of 8 bytes, for the array A of the instance t.
 fn buffer(alloc: Global, word: &str) -> Result<Buffer, AllocError> {
-    let (level, rest) = cut(word);
-    let (size, rest) = cut(rest);
-    let (instance, array) = cut(rest);
-    let instance = Name::new(alloc, instance.as_bytes())?;
-    let array = Name::new(alloc, array.as_bytes())?;
+    let instance = Name::new(alloc, part_at(word, 2).as_bytes())?;
+    let array = Name::new(alloc, part_at(word, 3).as_bytes())?;
     Ok(Buffer {
-        level: small(level),
-        size: whole(size),
+        level: small(part_at(word, 0)),
+        size: whole(part_at(word, 1)),
         instance,
         array,
     })
@@ -163,21 +164,22 @@ fn slot(buffer: &str) -> Slot {
 }
 
 // `copy:0:1:8` copies 8 bytes from buffer 0 to buffer 1, `add:1:0:2` adds 2 ints, and `fill:0` fills one.
-fn action(alloc: Global, name: &str, rest: &str) -> Action {
-    let (first, rest) = cut(rest);
-    let (second, count) = cut(rest);
-    match name {
+fn action(alloc: Global, word: &str) -> Action {
+    let first = part_at(word, 1);
+    let second = part_at(word, 2);
+    let count = small(part_at(word, 3));
+    match part_at(word, 0) {
         "copy" => Action::CopyRow {
             from: slot(first),
             to: slot(second),
-            bytes: small(count),
+            bytes: count,
         },
         "add" => Action::AccRow {
             op: RedOp::Add,
             elem: Elem::Int,
             from: slot(first),
             to: slot(second),
-            count: small(count),
+            count,
         },
         "fill" => Action::FillRow {
             to: slot(first),
@@ -243,18 +245,18 @@ fn choice(alloc: Global, pick: &str, terms: &mut Terms) -> Result<Term, AllocErr
 
 // One word more.
 fn add_word(alloc: Global, word: &str, terms: &mut Terms) -> Result<(), AllocError> {
-    let (name, rest) = cut(word);
-    let (first, named) = cut(rest);
+    let name = part_at(word, 0);
+    let first = part_at(word, 1);
     let term = match name {
         "skip" => Term::Skip,
         "seq" => Term::Seq(replace(terms, Items::new(alloc))),
         "par" => Term::Par(replace(terms, Items::new(alloc))),
-        "in" => scope(alloc, "", rest, terms)?,
-        "at" => scope(alloc, first, named, terms)?,
-        "case" => choice(alloc, rest, terms)?,
-        "loop" => turns(alloc, rest, terms)?,
-        "cyclic" | "blocked" => spread(alloc, name, rest, terms)?,
-        _ => Term::Act(action(alloc, name, rest)),
+        "in" => scope(alloc, "", first, terms)?,
+        "at" => scope(alloc, first, part_at(word, 2), terms)?,
+        "case" => choice(alloc, first, terms)?,
+        "loop" => turns(alloc, first, terms)?,
+        "cyclic" | "blocked" => spread(alloc, name, first, terms)?,
+        _ => Term::Act(action(alloc, word)),
     };
     terms.push(term)
 }
@@ -271,7 +273,7 @@ fn term_of(alloc: Global, text: &str) -> Result<Term, AllocError> {
     let mut terms = Items::new(alloc);
     let (first, more) = text.split_once('|').unwrap_or((text, ""));
     add_words(alloc, first, &mut terms)?;
-    let (times, round) = cut(more);
+    let (times, round) = more.split_once(':').unwrap_or((more, ""));
     for _ in 0..small(times) {
         add_words(alloc, round, &mut terms)?;
     }

@@ -7,8 +7,8 @@ use Rattle.fixture_plans.proofs.turns.copies.Goals as goal
 
 pub returns : goal.returns
 returns c =
-    let few = c.requires.1.0 in
-    let more = c.requires.1.1 in
+    let few = c.requires.1 in
+    let more = c.requires.2 in
     subst (λ p. IsGood (leaves_of p.draft) p)
     (sym (c.in_ok-plan.ensures ∙ c.in_ok-turns.ensures
     ∙ ap₂ (λ ls a. turns c.args.size ls c.args.outer c.args.inner a) c.no_leaves.ensures c.copy.ensures))
