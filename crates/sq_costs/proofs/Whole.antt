@@ -1,10 +1,10 @@
 -- The first fault of a cost file, group by group.
-use Rattle.std.proofs.Common.{◌≡◌, ℕ, List, Option, Some, None, IfOk, Result, Ok, Err, sym, ap, subst, arith, inr}
+use Rattle.std.proofs.Common.{◌≡◌, ℕ, List, map, Option, Some, None, IfOk, Result, Ok, Err, sym, ap, ◌∙◌, subst, arith, inr}
 use Rattle.sq_text.specs.declared.code.Phase.TheVariants as phase
 use Rattle.sq_text.specs.declared.fault.Fault.{Fault}
 use Rattle.sq_text.specs.First.{AtOrBefore}
 use Rattle.sq_text.specs.Faults.{fault_place, fault_number, IsFirst}
-use Rattle.sq_text.specs.Answers.{Answers, IfRefused}
+use Rattle.sq_text.specs.Answers.{Answers, Gives, IfRefused}
 use Rattle.sq_text.specs.declared.fault.Stop.{Stop}
 use Rattle.sq_text.specs.declared.fault.Stop.TheVariants.{Refused, NoMemory}
 use Rattle.sq_text.proofs.Firsts.{first_same, first_in_turn}
@@ -18,7 +18,7 @@ use Rattle.sq_costs.specs.declared.cost.Cost.{Cost}
 use Rattle.sq_costs.specs.declared.text.CostText.{CostText}
 use Rattle.sq_costs.specs.Grammar.{IsText}
 use Rattle.sq_costs.specs.Rules.{RuleFault}
-use Rattle.sq_costs.specs.Files.{Writes, IsSyntaxFault, SyntaxFault, BrokenRule, CostFault, StandsFor, AnswersRules}
+use Rattle.sq_costs.specs.Files.{cost_of, Writes, IsSyntaxFault, SyntaxFault, BrokenRule, CostFault, StandsFor, AnswersRules}
 use Rattle.sq_costs.proofs.Texts.{cost_format}
 
 -- the text has no fault of the file or of tokens, and these tokens alone
@@ -50,6 +50,12 @@ module _ (text : List ℕ) (levels : List Level) (ts : List Token) (lexed : Lexe
       first_in_turn fault_place fault_number (HasFault phase.Cost text) _ None (Some f) lexed.none
       (λ u. first_in_turn fault_place fault_number (SyntaxFault text) (BrokenRule text levels) (Some f) None (first_syntax f a) (λ e. absurd (cc)))
 
+  -- no costs stand there
+  pub syntax_gives : (stop : Stop) → IfRefused {A = List Cost} (Err stop) (λ f. IsSyntaxFault ts f) → (costs : List Cost) → StandsFor text levels costs → Gives {A = List Cost} (Err stop) costs
+  syntax_gives (Refused f) h costs s =
+      none_in_text ts s.written (subst (λ ts. IsText ts s.written) (sym (lexed.one s.writes.tokens s.writes.tokens_of)) s.writes.grammar) h.index h.at
+  syntax_gives NoMemory h costs s = tt
+
   pub syntax_answer : (stop : Stop) → IfRefused {A = List Cost} (Err stop) (λ f. IsSyntaxFault ts f) → Answers {A = List Cost} (CostFault text levels) (Err stop)
   syntax_answer (Refused f) h = refused_syntax f h
   syntax_answer NoMemory h = tt
@@ -79,3 +85,14 @@ module _ (text : List ℕ) (levels : List Level) (ts : List Token) (lexed : Lexe
     pub rules_found : (r : Result (List Cost) Stop) → AnswersRules levels a r → IfOk r (λ costs. StandsFor text levels costs)
     rules_found (Ok costs) h = record { written = a; writes = writes; faultless = h.0; is = h.1 }
     rules_found (Err stop) h = tt
+
+    pub rules_give : (r : Result (List Cost) Stop) → AnswersRules levels a r → (costs : List Cost) → StandsFor text levels costs → Gives r costs
+    rules_give (Ok found) h costs s = h.1 ∙ ap (λ (w : CostText). map cost_of w.entries) (sym (same_text s.written s.writes)) ∙ sym s.is
+    rules_give (Err (Refused f)) h costs s = s.faultless f (subst (λ (w : CostText). RuleFault levels w f) (sym (same_text s.written s.writes)) h.0)
+    rules_give (Err NoMemory) h costs s = tt
+
+-- a refusal by the lexer, and memory that ran out
+pub lexer_gives : (text : List ℕ) (levels : List Level) (stop : Stop) (costs : List Cost)
+    → ((ts : List Token) → AreTokens text ts → FitsFile phase.Cost text → Gives {A = List Token} (Err stop) ts) → StandsFor text levels costs → Gives {A = List Cost} (Err stop) costs
+lexer_gives text levels (Refused f) costs only s = only s.writes.tokens s.writes.tokens_of s.writes.fits
+lexer_gives text levels NoMemory costs only s = tt
