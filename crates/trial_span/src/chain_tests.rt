@@ -122,7 +122,8 @@ fn fills_weigh(
     text: &[u8],
 ) -> Result<Option<(u128, u64)>, Fail> {
     let costs = costs(rt, alloc, ONE, text);
-    let plan = fills(alloc, 1 << 30, counts.0, counts.1, bytes.min(1 << 30))?;
+    let inner = u64::from(counts.1);
+    let plan = fills(alloc, 1 << 30, counts.0, inner, bytes.min(1 << 30))?;
     match chain_of(alloc, &plan, &costs) {
         Ok(span) => Ok(Some((span.total, span.events))),
         Err(Stop::Refused(fault)) => {
