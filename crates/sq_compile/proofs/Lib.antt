@@ -10,3 +10,4 @@ mod Doubled
 mod Rooms
 pub mod Compiles
 mod Passing
+mod Alike

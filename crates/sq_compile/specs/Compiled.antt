@@ -1,4 +1,5 @@
 -- What compiling answers.
+use Rattle.std.specs.Prelude.{◌≡◌}
 use Rattle.sq_ir.specs.declared.plan.Plan.{Plan}
 use Rattle.sq_spec.specs.declared.resolved.Resolved.{Resolved}
 use Rattle.sq_plan_good.specs.Planned.{IsPlacedFor, IsGoodPlan}
@@ -15,3 +16,11 @@ pub record IsPlanOf (r : Resolved) (p : Plan) : Type 0 where
 abbrev pub IsRefusedFor : Resolved → StoreFault → Type 0
 IsRefusedFor r (Capacity node need capacity) = IsFirstLack r node need capacity
 IsRefusedFor r NoMemory = Unit {0}
+
+-- ---- what follows
+
+-- only the program, the mapping, the machine and the forms matter, and of them the plan is one
+abbrev pub PlansAreOne : Type 0
+PlansAreOne = (r s : Resolved) → r.typed.now ≡ s.typed.now → r.mapping.now ≡ s.mapping.now
+    → r.machine.now ≡ s.machine.now → r.forms ≡ s.forms → r.found.entries ≡ s.found.entries
+    → (p q : Plan) → IsPlanOf r p → IsPlanOf s q → p ≡ q

@@ -1,6 +1,7 @@
 //! What is true of the nodes that need more than they have, and of what the passes give.
 
 ghost use Rattle.sq_compile.specs.Capacity.{LacksAreOne, FirstLacksAreOne, FirstLackIsOne};
+ghost use Rattle.sq_compile.specs.Compiled.{PlansAreOne};
 ghost use Rattle.sq_compile.specs.Passes.{EachPassIsGood};
 
 use sq_pass_laws::{
@@ -16,6 +17,11 @@ pub fn lacks_are_one()
     ensures lacks { LacksAreOne }
     ensures firsts { FirstLacksAreOne }
     ensures one { FirstLackIsOne }
+{}
+
+/// Only the program, the mapping, the machine and the forms matter, and of them the plan is one.
+pub fn plans_are_one()
+    ensures { PlansAreOne }
 {}
 
 /// A plan of the draft of any pass that has room for its live buffers in each state is good for the program.

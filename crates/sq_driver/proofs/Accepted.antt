@@ -23,6 +23,7 @@ use Rattle.sq_demo_laws.specs.Tree.{demo_tree}
 use Rattle.sq_demo_laws.specs.Machine.{demo_hierarchy, demo_mapped}
 use Rattle.sq_demo_laws.specs.FormsFound.{square, demo_forms, demo_uses, demo_resolving}
 use Rattle.sq_demo_laws.specs.Laws.{DemoLaws, demo_wants, demo_values}
+use Rattle.sq_words.specs.declared.words.Kind.TheVariants.{Demo}
 use Rattle.sq_words.specs.Words.{program, machine, demo_of}
 use Rattle.sq_driver.specs.Phases.{Inputs, inputs_of}
 use Rattle.sq_driver.specs.Holding.{Holds}
@@ -138,8 +139,12 @@ module _ (laws : DemoLaws) (c : Content) (n : ℕ) where
       let same : h.first.capacity ≡ lack.its.capacity = lack.capacity_is in
       omega (arith, enough, short, same)
 
-  no_order : (its : Fault) → IsFirstOf Order texts its → ⊥
+  no_order : (its : Fault) → IsFirstOf Demo Order texts its → ⊥
   no_order its h = let none : None ≡ Some h.0 = h.1 in cc
+
+  no_cost : (its : Fault) → IsFirstOf Demo Cost texts its → ⊥
+  no_cost its (inl h) = let none : None ≡ Some h.first.0 = h.first.1 in cc
+  no_cost its (inr h) = let none : None ≡ Some h.costed.costs_are.0 = h.costed.costs_are.1 in cc
 
   extents_are : entry_extents demo_mapped.sizes (params_of demo_tree demo_mapped) ≡ Ok (square 128)
   unfolding most_extent most_elements
@@ -168,7 +173,7 @@ module _ (laws : DemoLaws) (c : Content) (n : ℕ) where
       (sym bytes) sized in
       no_error (arrays_of demo_wants (demo_data n)) (demo_values n) h.found (laws.input n) bad
 
-  pub no_fault : (phase : Phase) (its : Fault) → IsFirstOf phase texts its → ⊥
+  pub no_fault : (phase : Phase) (its : Fault) → IsFirstOf Demo phase texts its → ⊥
   no_fault Program its h = no_program its h
   no_fault Types its h = no_types its h
   no_fault Machine its h = no_machine its h
@@ -177,7 +182,7 @@ module _ (laws : DemoLaws) (c : Content) (n : ℕ) where
   no_fault Race its h = no_race its h
   no_fault Capacity its h = no_lack its h
   no_fault Plan its h = h
-  no_fault Cost its h = h
+  no_fault Cost its h = no_cost its h
   no_fault Order its h = no_order its h
   no_fault Input its h = no_input its h
 

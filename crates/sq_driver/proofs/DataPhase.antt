@@ -92,7 +92,7 @@ module _ (its : Command) (begun : ReadsSources its.kind) (p m k d : List ℕ) (t
       r.machine.now r.mapping.now held c is
 
   pub unfit : (c : Content) → told ≡ Some c → (f : Fault) → IsUnfit r (c d) f
-      → IsFirstOf Input (inputs_of c (data_with its p m k d)) f
+      → IsFirstOf its.kind Input (inputs_of c (data_with its p m k d)) f
   unfit c is f bad = record {
     entry = record { sources = its_sources c is; extents = bad.entry.extents; extents_are = bad.entry.are };
     bytes = bad.unfit.bytes;
@@ -129,7 +129,7 @@ module _ (its : Command) (begun : ReadsSources its.kind) (p m k d : List ℕ) (t
         (some_same (c d) bytes given.bytes there given.there)
         ∙ given.read
 
-    none : (f : Fault) → IsFirstOf Input (inputs_of c (data_with its p m k d)) f → ⊥
+    none : (f : Fault) → IsFirstOf its.kind Input (inputs_of c (data_with its p m k d)) f → ⊥
     none f fails = ok_or_err given.values fails.found (sym (reading_of fails.entry fails.bytes fails.there)
         ∙ fails.read)
 

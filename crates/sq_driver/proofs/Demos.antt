@@ -1,6 +1,7 @@
 -- The demo ends as the run of its texts does, but for the line in place of what that writes.
 use Rattle.std.proofs.Common.{◌≡◌, inl, inr, ⊎_elim, ℕ, ◌≤◌, Bool, true, false, List, [], ◌∷◌, take, Option, Some, None, Result, Ok, Err, refl, sym, ◌∙◌, ap, subst, arith, ℤ}
 use Rattle.sq_port.specs.Ports.{Content, Gains, Rose}
+use Rattle.sq_text.specs.declared.fault.Fault.{Fault}
 use Rattle.sq_text.specs.declared.code.Phase.{Phase}
 use Rattle.sq_text.specs.declared.code.Phase.TheVariants.{Program, Types, Machine, Mapping, Resolve, Race, Capacity, Plan as PlanPhase, Cost, Order, Input}
 use Rattle.sq_leaf.specs.declared.trap.Trap.{Trap}
@@ -12,7 +13,8 @@ use Rattle.sq_tree.specs.Bank.{BankSeen}
 use Rattle.sq_adder.specs.Sums.{text_sum}
 use Rattle.sq_report.specs.Demo.{demo_line}
 use Rattle.sq_demo.specs.Texts.{demo_content}
-use Rattle.sq_words.specs.Words.{Role, program, mapping, machine, input, order, seed, demo_of}
+use Rattle.sq_words.specs.declared.words.Kind.TheVariants.{Run, Demo}
+use Rattle.sq_words.specs.Words.{Role, program, mapping, machine, input, order, cost, seed, demo_of}
 use Rattle.sq_driver.specs.declared.outside.status.Status.{Status}
 use Rattle.sq_driver.specs.declared.outside.status.Status.TheVariants.{Done as DoneStatus, Refused as RefusedStatus, Trapped as TrappedStatus, Usage as UsageStatus, FileFault as FileFaultStatus, SinkFault as SinkFaultStatus, NoMemory as NoMemoryStatus, Absent as AbsentStatus}
 use Rattle.sq_driver.specs.declared.outside.end.End.{End}
@@ -38,6 +40,7 @@ role_same n c mapping = refl
 role_same n c machine = refl
 role_same n c input = refl
 role_same n c order = refl
+role_same n c cost = refl
 
 same_inputs : (n : ℕ) (c : Content) → inputs_of (demo_content n) (demo_run n) ≡ inputs_of c (demo_of n)
 same_inputs n c = λ i role. role_same n c role i
@@ -63,12 +66,40 @@ some_same a b is = cc
 
 -- ---- what it means
 
+-- a run and the demo have the same faults
+of_run : (phase : Phase) (x : Inputs) (its : Fault) → IsFirstOf Demo phase x its → IsFirstOf Run phase x its
+of_run Program x its h = h
+of_run Types x its h = h
+of_run Machine x its h = h
+of_run Mapping x its h = h
+of_run Resolve x its h = h
+of_run Race x its h = h
+of_run Capacity x its h = h
+of_run PlanPhase x its h = h
+of_run Cost x its h = h
+of_run Order x its h = h
+of_run Input x its h = h
+
+of_demo : (phase : Phase) (x : Inputs) (its : Fault) → IsFirstOf Run phase x its → IsFirstOf Demo phase x its
+of_demo Program x its h = h
+of_demo Types x its h = h
+of_demo Machine x its h = h
+of_demo Mapping x its h = h
+of_demo Resolve x its h = h
+of_demo Race x its h = h
+of_demo Capacity x its h = h
+of_demo PlanPhase x its h = h
+of_demo Cost x its h = h
+of_demo Order x its h = h
+of_demo Input x its h = h
+
 passed_same : (n : ℕ) (c : Content) (phase : Phase) → Passed (demo_run n) (demo_content n) phase
     → Passed (demo_of n) c phase
 passed_same n c phase passed = record {
   there = λ name file. absurd (no_name name (sym (no_file n phase) ∙ file));
   no_fault = λ its first. passed.no_fault its
-      (subst (λ (x : Inputs). IsFirstOf phase x its) (sym (same_inputs n c)) first);
+      (subst (λ (x : Inputs). IsFirstOf Run phase x its) (sym (same_inputs n c))
+      (of_run phase (inputs_of c (demo_of n)) its first));
 }
 
 all_same : (n : ℕ) (c : Content) (list : List Phase) → AllPassed (demo_run n) (demo_content n) list
@@ -118,7 +149,8 @@ cause_same n c (done out trace) quiet cause = (
 )
 cause_same n c (refused phase its) quiet cause = (
   reached_same n c phase cause.0,
-  subst (λ (x : Inputs). IsFirstOf phase x its) (same_inputs n c) cause.1,
+  of_demo phase (inputs_of c (demo_of n)) its
+      (subst (λ (x : Inputs). IsFirstOf Run phase x its) (same_inputs n c) cause.1),
 )
 cause_same n c (trapped trap trace) quiet cause = (
   all_same n c (phases (demo_of n).kind) cause.0,

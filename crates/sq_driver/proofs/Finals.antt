@@ -58,6 +58,12 @@ machine_held p k told that tree hierarchy same program reads = record {
   held = λ c is. reads c (sym same ∙ is);
 }
 
+-- the same of another spelling of what is told
+pub front_held : (p k : List ℕ) (told that : Option Content) (tree : Tree) (hierarchy : Hierarchy) → that ≡ told
+    → HoldsMachine told p k tree hierarchy → HoldsMachine that p k tree hierarchy
+front_held p k told that tree hierarchy same held =
+    subst (λ (t : Option Content). HoldsMachine t p k tree hierarchy) (sym same) held
+
 pub mapping_held : (p m k : List ℕ) (told that : Option Content) (tree : Tree) (hierarchy : Hierarchy)
     (mapped : Mapped) → that ≡ told → HoldsMachine told p k tree hierarchy → ReadsMapping tree hierarchy.levels told m
     (Ok mapped) → HoldsSources that p m k tree hierarchy mapped

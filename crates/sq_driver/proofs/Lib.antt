@@ -2,6 +2,7 @@ pub mod Accepted
 pub mod Answering
 pub mod CapacityPhase
 pub mod CheckEnds
+pub mod CostPhase
 pub mod DataPhase
 pub mod DemoRow
 pub mod Demos
@@ -33,5 +34,6 @@ pub mod SourcePhases
 pub mod Starts
 pub mod Stopping
 pub mod Trees
+pub mod Tuning
 pub mod Wants
 pub mod WholeFiles

@@ -1,12 +1,15 @@
 -- What the files say is one status.
+use Rattle.std.specs.Prelude.{Bool, true, false}
 use Rattle.std.proofs.Common.{◌≡◌, ◌⊎◌, inl, inr, ⊎_elim, ℕ, List, [], ◌∷◌, ◌++◌, Option, Some, None, refl, sym, ◌∙◌, ap, subst}
 use Rattle.sq_port.specs.Ports.{Content}
 use Rattle.sq_text.specs.declared.code.Phase.{Phase}
 use Rattle.sq_text.specs.declared.code.Phase.TheVariants.{Program, Types, Machine, Mapping, Resolve, Race, Capacity, Plan, Cost, Order, Input}
 use Rattle.sq_text.specs.declared.fault.Fault.{Fault}
-use Rattle.sq_words.specs.Words.{Role, program, mapping, machine, input, order, Command}
-use Rattle.sq_driver.specs.Phases.{phases, role_of, file_for, file_of, Inputs, own_inputs, text_or, inputs_of}
-use Rattle.sq_driver.specs.Faults.{IsFirstOf}
+use Rattle.sq_words.specs.declared.words.Kind.{Kind}
+use Rattle.sq_words.specs.Words.{Role, program, mapping, machine, input, order, cost, Command}
+use Rattle.sq_driver.specs.Phases.{phases, role_of, file_for, file_of, Inputs, own_inputs, text_or, inputs_of, varies}
+use Rattle.sq_driver.specs.Costing.{IsFirstOfCost}
+use Rattle.sq_driver.specs.Faults.{IsFirstOfMappings, IsFirstOf}
 use Rattle.sq_driver.specs.Meaning.{Passed, AllPassed, Reached, Answer, done, refused, trapped, usage, file_fault, no_memory, absent, IsCause}
 use Rattle.sq_driver.specs.Outcome.{status_for}
 use Rattle.sq_driver.specs.Top.{IsSaid}
@@ -76,33 +79,45 @@ not_there inputs its role text same there none = no_name text
     (sym none ∙ (ap inputs (sym (some_same its role same)) ∙ there))
 
 -- a phase with a fault has its file
-fault_there : (phase : Phase) (inputs : Inputs) (its : Fault) (role : Role) → IsFirstOf phase inputs its
-    → role_of phase ≡ Some role → inputs role ≡ None → ⊥
-fault_there Program inputs its role is reads none = not_there inputs program role is.0 reads is.1 none
-fault_there Types inputs its role is reads none = no_name role reads
-fault_there Machine inputs its role is reads none = not_there inputs machine role is.0 reads is.1 none
-fault_there Mapping inputs its role is reads none = not_there inputs mapping role is.first.0 reads is.first.1 none
-fault_there Resolve inputs its role is reads none = no_name role reads
-fault_there Race inputs its role is reads none = no_name role reads
-fault_there Capacity inputs its role is reads none = no_name role reads
-fault_there Plan inputs its role is reads none = no_name role reads
-fault_there Cost inputs its role is reads none = no_name role reads
-fault_there Order inputs its role is reads none = not_there inputs order role is.0 reads is.1 none
-fault_there Input inputs its role is reads none = not_there inputs input role is.bytes reads is.there none
+mapping_there : (varied : Bool) (inputs : Inputs) (its : Fault) (role : Role) → IsFirstOfMappings varied inputs its
+    → Some mapping ≡ Some role → inputs role ≡ None → ⊥
+mapping_there false inputs its role is reads none = not_there inputs mapping role is.first.0 reads is.first.1 none
+mapping_there true inputs its role is reads none = not_there inputs mapping role is.first.0 reads is.first.1 none
+
+cost_there : (inputs : Inputs) (its : Fault) (role : Role) → IsFirstOfCost inputs its → Some cost ≡ Some role
+    → inputs role ≡ None → ⊥
+cost_there inputs its role (inl is) reads none = not_there inputs cost role is.first.0 reads is.first.1 none
+cost_there inputs its role (inr is) reads none =
+    not_there inputs cost role is.costed.costs_are.0 reads is.costed.costs_are.1 none
+
+fault_there : (kind : Kind) (phase : Phase) (inputs : Inputs) (its : Fault) (role : Role)
+    → IsFirstOf kind phase inputs its → role_of phase ≡ Some role → inputs role ≡ None → ⊥
+fault_there kind Program inputs its role is reads none = not_there inputs program role is.0 reads is.1 none
+fault_there kind Types inputs its role is reads none = no_name role reads
+fault_there kind Machine inputs its role is reads none = not_there inputs machine role is.0 reads is.1 none
+fault_there kind Mapping inputs its role is reads none = mapping_there (varies kind) inputs its role is reads none
+fault_there kind Resolve inputs its role is reads none = no_name role reads
+fault_there kind Race inputs its role is reads none = no_name role reads
+fault_there kind Capacity inputs its role is reads none = no_name role reads
+fault_there kind Plan inputs its role is reads none = no_name role reads
+fault_there kind Cost inputs its role is reads none = cost_there inputs its role is reads none
+fault_there kind Order inputs its role is reads none = not_there inputs order role is.0 reads is.1 none
+fault_there kind Input inputs its role is reads none = not_there inputs input role is.bytes reads is.there none
 
 refused_or_absent : (command : Command) (c : Content) (p q : Phase) (its : Fault) (name : List ℕ)
-    → Reached command c p → IsFirstOf p (inputs_of c command) its → file_of command q ≡ Some name
+    → Reached command c p → IsFirstOf command.kind p (inputs_of c command) its → file_of command q ≡ Some name
     → Reached command c q → c name ≡ None → ⊥
 refused_or_absent command c p q its name at_p is file at_q none =
     let same = one_stop command c p q at_p at_q (λ passed. passed.no_fault its is)
     (λ passed. absent_not_passed command c q name file none passed) in
     let gone = role_absent c command (role_of q) name file none in
-    fault_there q (inputs_of c command) its gone.0
-    (subst (λ (k : Phase). IsFirstOf k (inputs_of c command) its) same is) gone.1 gone.2
+    fault_there command.kind q (inputs_of c command) its gone.0
+    (subst (λ (k : Phase). IsFirstOf command.kind k (inputs_of c command) its) same is) gone.1 gone.2
 
 -- what stops a command is no end of all its phases
 module _ (command : Command) (c : Content) where
-  refused_or_all : (phase : Phase) (its : Fault) → Reached command c phase → IsFirstOf phase (inputs_of c command) its
+  refused_or_all : (phase : Phase) (its : Fault) → Reached command c phase
+      → IsFirstOf command.kind phase (inputs_of c command) its
       → AllPassed command c (phases command.kind) → ⊥
   refused_or_all phase its reached is all = (reached_passed command c phase reached all).no_fault its is
 

@@ -32,7 +32,7 @@ module _ (command : Command) (name : List ℕ) (begins : BeginsWith command name
   one c is = told_of command name told c begins.file is
 
   program_fails : (c : Content) → told ≡ Some c → (its : Fault) → Holds ProgramFault (c name) its
-      → IsFirstOf Program (inputs_of c command) its
+      → IsFirstOf command.kind Program (inputs_of c command) its
   program_fails c is its holds =
       (subst (λ (o : Option (List ℕ)). Holds ProgramFault o its) (sym (ap (text_at c) begins.file)) holds)
 
@@ -44,7 +44,7 @@ module _ (command : Command) (name : List ℕ) (begins : BeginsWith command name
       (sym begins.file) stops)
 
   module _ (tree : Tree) (c : Content) (held : HoldsTree (c name) tree) where
-    no_fault : (its : Fault) → IsFirstOf Program (inputs_of c command) its → ⊥
+    no_fault : (its : Fault) → IsFirstOf command.kind Program (inputs_of c command) its → ⊥
     no_fault its holds = held.no_fault its
         (subst (λ (o : Option (List ℕ)). Holds ProgramFault o its) (ap (text_at c) begins.file) holds)
 
@@ -74,7 +74,7 @@ module _ (command : Command) (name : List ℕ) (begins : BeginsWith command name
     }
 
     types_fail : (c : Content) → told ≡ Some c → (its : Fault) → IsFirstTypeFault tree its
-        → IsFirstOf Types (inputs_of c command) its
+        → IsFirstOf command.kind Types (inputs_of c command) its
     types_fail c is its first = record { tree = tree; program_is = program_is tree c (reads c is); first = first }
 
     pub types_stops : (bank : BankSeen) (end : End) → Stops false Types told None (λ c its. IsFirstTypeFault tree its)
@@ -83,7 +83,7 @@ module _ (command : Command) (name : List ℕ) (begins : BeginsWith command name
         types_reached types_fail refl (λ closed. refl) end stops
 
     module _ (none : (f : Fault) → TypeFault tree f → ⊥) where
-      no_types : (c : Content) → told ≡ Some c → (its : Fault) → IsFirstOf Types (inputs_of c command) its → ⊥
+      no_types : (c : Content) → told ≡ Some c → (its : Fault) → IsFirstOf command.kind Types (inputs_of c command) its → ⊥
       no_types c is its fails = none its
           (subst (λ (t : Tree). TypeFault t its) (only_program tree c (reads c is) fails.tree fails.program_is)
           fails.first.0)

@@ -51,7 +51,7 @@ use Rattle.sq_driver.proofs.SourcePhases.{one, sources}
 use Rattle.sq_driver.proofs.DataPhase.{outcome_by, unfit, data_is, all_passed, gives_flat, means_flat, no_trap, no_trap_after, traps_flat}
 
 abbrev pub reads_run : ReadsSources Run
-reads_run = record { rest = Capacity ∷ OrderPhase ∷ Input ∷ []; split = refl }
+reads_run = record { rest = Capacity ∷ OrderPhase ∷ Input ∷ []; split = refl; fixed = refl }
 
 -- what the words say of an order, by another spelling of what its list says
 held_by : (way : Way) (P Q : List ℕ → Type 0) (held : List ℕ) → (P held → Q held) → HeldBy way P held

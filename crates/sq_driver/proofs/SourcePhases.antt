@@ -1,5 +1,5 @@
--- The phases from program to race, of a command whose files are a program, a mapping, a machine and perhaps data.
-use Rattle.std.proofs.Common.{◌≡◌, ℕ, List, [], ◌∷◌, false, Option, Some, None, Result, Ok, Err, refl, sym, ◌∙◌, ap, subst, slice_get}
+-- The phases from program to race, of a command whose files are a program, a mapping, a machine and perhaps others.
+use Rattle.std.proofs.Common.{◌≡◌, ℕ, List, [], ◌∷◌, Bool, false, Option, Some, None, Result, Ok, Err, refl, sym, ◌∙◌, ap, subst, slice_get}
 use Rattle.sq_port.specs.Ports.{Content}
 use Rattle.sq_text.specs.declared.code.Phase.{Phase}
 use Rattle.sq_text.specs.declared.code.Phase.TheVariants.{Program, Types, Machine, Mapping, Resolve, Race}
@@ -17,16 +17,17 @@ use Rattle.sq_race.specs.Race.{variant_by, maps_by, HoldsIn, HoldsAt, IsFirstRac
 use Rattle.sq_tree.specs.Bank.{BankSeen}
 use Rattle.sq_driver.specs.declared.outside.end.End.{End}
 use Rattle.sq_driver.specs.declared.outside.end.End.TheVariants.{Usage, Absent, FileFault, Refused, Trapped, NoMemory, SinkFault}
-use Rattle.sq_words.specs.Words.{Command}
-use Rattle.sq_driver.specs.Phases.{phases, Inputs, inputs_of, IsTold}
+use Rattle.sq_words.specs.declared.words.Kind.{Kind}
+use Rattle.sq_words.specs.Words.{mapping, with_file, Command}
+use Rattle.sq_driver.specs.Phases.{phases, varies, Inputs, inputs_of, IsTold}
 use Rattle.sq_driver.specs.Holding.{Holds, HoldsOnly}
 use Rattle.sq_driver.specs.Programs.{IsProgramText, IsFirstTypeFault}
-use Rattle.sq_driver.specs.Sources.{IsMachineText, IsFirstMachineFault, IsMappingText, IsFirstMappingFault, Sources}
+use Rattle.sq_driver.specs.Sources.{IsMachineText, IsFirstMachineFault, IsMappingText, IsFirstMappingFault, IsFirstOfMapping, Sources}
 use Rattle.sq_driver.specs.Races.{IsResolved, IsFirstRaceFault}
-use Rattle.sq_driver.specs.Faults.{IsFirstOf}
+use Rattle.sq_driver.specs.Faults.{IsFirstOfMappings, IsFirstOf}
 use Rattle.sq_driver.specs.Meaning.{Passed, AllPassed, Reached}
 use Rattle.sq_driver.specs.Steps.{HoldsRight, ReadsTree, Stopped}
-use Rattle.sq_driver.specs.SharedFiles.{ReadsSources, command_with, StopsSources}
+use Rattle.sq_driver.specs.SharedFiles.{ReadsFront, ReadsSources, front_with, command_with, StopsFront, StopsSources}
 use Rattle.sq_driver.specs.Evaluating.{EndsWith, ReadsMachine, ReadsMapping, HoldsProgram, HoldsMachine, HoldsSources}
 use Rattle.sq_driver.proofs.Stopping.{told_of, phase_stops, memory_stops, is_there, no_file_there}
 use Rattle.sq_driver.proofs.ProgramPhases.{BeginsWith, program_stops, types_stops, types_passed}
@@ -58,41 +59,69 @@ same_race r s n round x forms uses trees mappings race = record {
       race.uses round x) mappings race.holds);
 }
 
-module _ (its : Command) (begun : ReadsSources its.kind) (p m k : List ℕ) (told : Option Content) where
-  abbrev pub begins : BeginsWith (command_with its p m k) p
-  begins = record { rest = Types ∷ Machine ∷ Mapping ∷ Resolve ∷ Race ∷ begun.rest; split = begun.split; file = refl }
+-- ---- the program and the machine
 
-  pub one : (c : Content) → IsTold (command_with its p m k) told c → told ≡ Some c
-  one c is = told_of (command_with its p m k) p told c refl is
+module _ (its : Command) (begun : ReadsFront its.kind) (p k : List ℕ) (told : Option Content) where
+  abbrev front_begins : BeginsWith (front_with its p k) p
+  front_begins = record { rest = Types ∷ Machine ∷ Mapping ∷ begun.rest; split = begun.split; file = refl }
+
+  pub front_told : (c : Content) → IsTold (front_with its p k) told c → told ≡ Some c
+  front_told c is = told_of (front_with its p k) p told c refl is
 
   module _ (tree : Tree) (program : HoldsProgram told p tree) where
-    two : (c : Content) → told ≡ Some c → AllPassed (command_with its p m k) c (Program ∷ Types ∷ [])
-    two c is = types_passed (command_with its p m k) p begins told tree program.held
-        (Machine ∷ Mapping ∷ Resolve ∷ Race ∷ begun.rest) refl program.faultless c is
+    two : (c : Content) → told ≡ Some c → AllPassed (front_with its p k) c (Program ∷ Types ∷ [])
+    two c is = types_passed (front_with its p k) p front_begins told tree program.held
+        (Machine ∷ Mapping ∷ begun.rest) refl program.faultless c is
 
-    pub machine_stops : (bank : BankSeen) (end : End) → ReadsMachine told k (Err end)
-        → Stopped (command_with its p m k) told bank bank end
-    machine_stops bank end stops = phase_stops (command_with its p m k) told Machine
-        (λ c f. Holds IsFirstMachineFault (c k) f) bank bank one
+    machine_stops : (bank : BankSeen) (end : End) → ReadsMachine told k (Err end)
+        → Stopped (front_with its p k) told bank bank end
+    machine_stops bank end stops = phase_stops (front_with its p k) told Machine
+        (λ c f. Holds IsFirstMachineFault (c k) f) bank bank front_told
         (λ c is. record {
           before = Program ∷ Types ∷ [];
-          after = Mapping ∷ Resolve ∷ Race
-              ∷ begun.rest;
+          after = Mapping ∷ begun.rest;
           split = begun.split;
-          passed = two c (one c is);
+          passed = two c (front_told c is);
         })
         (λ c is f holds. holds) refl (λ closed. refl) end stops
 
   module _ (tree : Tree) (hierarchy : Hierarchy) (machine : HoldsMachine told p k tree hierarchy) where
-    machine_passed : (c : Content) → told ≡ Some c → Passed (command_with its p m k) c Machine
+    machine_passed : (c : Content) → told ≡ Some c → Passed (front_with its p k) c Machine
     machine_passed c is = record {
       there = is_there c k (machine.held c is).one.holds.0 (machine.held c is).one.holds.1;
       no_fault = (machine.held c is).no_fault;
     }
 
-    three : (c : Content) → told ≡ Some c → AllPassed (command_with its p m k) c (Program ∷ Types ∷ Machine ∷ [])
-    three c is = let before = two tree machine.program c is in (before.0, (before.1.0, (machine_passed c is, tt)))
+    pub front_passed : (c : Content) → told ≡ Some c → AllPassed (front_with its p k) c
+        (Program ∷ Types ∷ Machine ∷ [])
+    front_passed c is =
+        let before = two tree machine.program c is in (before.0, (before.1.0, (machine_passed c is, tt)))
 
+-- ---- and the mapping
+
+abbrev with_mapping : List ℕ → Command → Command
+with_mapping m its = record its { files = with_file mapping m its.files }
+
+abbrev pub front_of : {kind : Kind} → ReadsSources kind → ReadsFront kind
+front_of begun = record { rest = Resolve ∷ Race ∷ begun.rest; split = begun.split }
+
+module _ (its : Command) (begun : ReadsSources its.kind) (p m k : List ℕ) (told : Option Content) where
+  pub one : (c : Content) → IsTold (command_with its p m k) told c → told ≡ Some c
+  one c is = told_of (command_with its p m k) p told c refl is
+
+  three : (tree : Tree) (hierarchy : Hierarchy) → HoldsMachine told p k tree hierarchy → (c : Content) → told ≡ Some c
+      → AllPassed (command_with its p m k) c (Program ∷ Types ∷ Machine ∷ [])
+  three tree hierarchy machine c is =
+      front_passed (with_mapping m its) (front_of begun) p k told tree hierarchy machine c is
+
+  -- its tunables have one alternative each
+  mapping_fails : (inputs : Inputs) (f : Fault) → IsFirstOfMapping inputs f → IsFirstOf its.kind Mapping inputs f
+  mapping_fails inputs f fails = subst (λ (b : Bool). IsFirstOfMappings b inputs f) (sym begun.fixed) fails
+
+  mapping_failed : (inputs : Inputs) (f : Fault) → IsFirstOf its.kind Mapping inputs f → IsFirstOfMapping inputs f
+  mapping_failed inputs f fails = subst (λ (b : Bool). IsFirstOfMappings b inputs f) begun.fixed fails
+
+  module _ (tree : Tree) (hierarchy : Hierarchy) (machine : HoldsMachine told p k tree hierarchy) where
     pub mapping_stops : (bank : BankSeen) (end : End) → ReadsMapping tree hierarchy.levels told m (Err end)
         → Stopped (command_with its p m k) told bank bank end
     mapping_stops bank end stops = phase_stops (command_with its p m k) told Mapping
@@ -102,17 +131,15 @@ module _ (its : Command) (begun : ReadsSources its.kind) (p m k : List ℕ) (tol
           after = Resolve ∷ Race
               ∷ begun.rest;
           split = begun.split;
-          passed = three c (one c is);
+          passed = three tree hierarchy machine c (one c is);
         })
-        (λ c is f holds.
-        record {
+        (λ c is f holds. mapping_fails (inputs_of c (command_with its p m k)) f (record {
           tree = tree;
           hierarchy = hierarchy;
           program_is = (machine.program.held c is).one.holds;
-          machine_is =
-              (machine.held c is).one.holds;
+          machine_is = (machine.held c is).one.holds;
           first = holds;
-        }) refl (λ closed. refl) end stops
+        })) refl (λ closed. refl) end stops
 
   module _ (tree : Tree) (hierarchy : Hierarchy) (mapped : Mapped)
       (held : HoldsSources told p m k tree hierarchy mapped) where
@@ -150,7 +177,8 @@ module _ (its : Command) (begun : ReadsSources its.kind) (p m k : List ℕ) (tol
     mapping_passed : (c : Content) → told ≡ Some c → Passed (command_with its p m k) c Mapping
     mapping_passed c is = record {
       there = is_there c m (held.held c is).one.holds.0 (held.held c is).one.holds.1;
-      no_fault = λ f first.
+      no_fault = λ f fails.
+          let first = mapping_failed (inputs_of c (command_with its p m k)) f fails in
           (held.held c is).no_fault f
           (at_same (λ t h. IsFirstMappingFault t h.levels) c is first.tree first.hierarchy f first.program_is
           first.machine_is first.first);
@@ -237,7 +265,41 @@ module _ (its : Command) (begun : ReadsSources its.kind) (p m k : List ℕ) (tol
 
 -- ---- whatever a command over these files is to do with them
 
+module _ (p k : List ℕ) (told : Option Content) where
+  front_stop_with : (Fails : Fault → Type 0) → ((f : Fault) → Fails f → StopsFront told p k (Refused f)) → (end : End)
+      → EndsWith Fails end → StopsFront told p k end
+  front_stop_with Fails stopped Usage ends = absurd ends
+  front_stop_with Fails stopped (Absent name) ends = absurd ends
+  front_stop_with Fails stopped (FileFault name) ends = absurd ends
+  front_stop_with Fails stopped (Refused f) ends = stopped f ends
+  front_stop_with Fails stopped (Trapped trap) ends = absurd ends
+  front_stop_with Fails stopped NoMemory ends = λ its begun bank. memory_stops (front_with its p k) told bank bank refl
+  front_stop_with Fails stopped SinkFault ends = absurd ends
+
+  pub stops_at_program : (end : End) → ReadsTree told p (Err end) → StopsFront told p k end
+  stops_at_program end reads its begun bank =
+      program_stops (front_with its p k) p (front_begins its begun p k told) told bank end reads
+
+  pub stops_at_types : (tree : Tree) → ReadsTree told p (Ok tree) → (end : End) → EndsWith (IsFirstTypeFault tree) end
+      → StopsFront told p k end
+  stops_at_types tree reads end ends = front_stop_with (IsFirstTypeFault tree)
+      (λ f first its begun bank. types_stops (front_with its p k) p (front_begins its begun p k told) told tree reads
+      (Machine ∷ Mapping ∷ begun.rest) refl bank (Refused f) (λ c at. first)) end ends
+
+  pub stops_at_machine : (tree : Tree) → HoldsProgram told p tree → (end : End) → ReadsMachine told k (Err end)
+      → StopsFront told p k end
+  stops_at_machine tree program end reads its begun bank = machine_stops its begun p k told tree program bank end reads
+
+-- the same of another spelling of what is told
+pub front_same : (p k : List ℕ) (told that : Option Content) (end : End) → that ≡ told → StopsFront that p k end
+    → StopsFront told p k end
+front_same p k told that end same stops = subst (λ (t : Option Content). StopsFront t p k end) same stops
+
 module _ (p m k : List ℕ) (told : Option Content) where
+  -- whatever the mapping is
+  pub stops_before : (end : End) → StopsFront told p k end → StopsSources told p m k end
+  stops_before end stops its begun bank = stops (with_mapping m its) (front_of begun) bank
+
   -- a fault that stops it, or want of memory
   stop_with : (Fails : Fault → Type 0) → ((f : Fault) → Fails f → StopsSources told p m k (Refused f)) → (end : End)
       → EndsWith Fails end → StopsSources told p m k end
@@ -248,21 +310,6 @@ module _ (p m k : List ℕ) (told : Option Content) where
   stop_with Fails stopped (Trapped trap) ends = absurd ends
   stop_with Fails stopped NoMemory ends = λ its begun bank. memory_stops (command_with its p m k) told bank bank refl
   stop_with Fails stopped SinkFault ends = absurd ends
-
-  pub stops_at_program : (end : End) → ReadsTree told p (Err end) → StopsSources told p m k end
-  stops_at_program end reads its begun bank =
-      program_stops (command_with its p m k) p (begins its begun p m k told) told bank end reads
-
-  pub stops_at_types : (tree : Tree) → ReadsTree told p (Ok tree) → (end : End) → EndsWith (IsFirstTypeFault tree) end
-      → StopsSources told p m k end
-  stops_at_types tree reads end ends = stop_with (IsFirstTypeFault tree)
-      (λ f first its begun bank. types_stops (command_with its p m k) p (begins its begun p m k told) told tree reads
-      (Machine ∷ Mapping ∷ Resolve ∷ Race ∷ begun.rest) refl bank (Refused f) (λ c at. first)) end ends
-
-  pub stops_at_machine : (tree : Tree) → HoldsProgram told p tree → (end : End) → ReadsMachine told k (Err end)
-      → StopsSources told p m k end
-  stops_at_machine tree program end reads its begun bank = machine_stops its begun p m k told tree program bank end
-      reads
 
   pub stops_at_mapping : (tree : Tree) (hierarchy : Hierarchy) → HoldsMachine told p k tree hierarchy → (end : End)
       → ReadsMapping tree hierarchy.levels told m (Err end) → StopsSources told p m k end

@@ -68,7 +68,7 @@ some_same o x y a b = cc
 module _ {A : Type 0} (Is : List ℕ → A → Type 0) (Fails : List ℕ → Fault → Type 0) (phase : Phase)
     (told : Option Content) (name text : List ℕ) (reads : ReadsFitting phase told name (Ok text)) (slice : List ℕ)
     (same : slice ≡ text) where
-  of_slice : {B : Type 0} (P : List ℕ → B → Type 0) (c : Content) → told ≡ Some c → (value : B)
+  pub of_slice : {B : Type 0} (P : List ℕ → B → Type 0) (c : Content) → told ≡ Some c → (value : B)
       → Holds P (c name) value → P slice value
   of_slice P c is value holds = subst (λ (t : List ℕ). P t value)
       (some_same (c name) holds.0 text holds.1 (reads.1 c is) ∙ sym same) holds.2

@@ -1,5 +1,8 @@
 pub mod Banks
 pub mod Capacity
+pub mod Choosing
+pub mod Chosen
+pub mod Costing
 pub mod Data
 pub mod DemoRuns
 pub mod Ends
@@ -16,6 +19,7 @@ pub mod Outcome
 pub mod Outputs
 pub mod Phases
 pub mod Picking
+pub mod Planned
 pub mod Programs
 pub mod Races
 pub mod Reported

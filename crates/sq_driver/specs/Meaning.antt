@@ -6,7 +6,7 @@ use Rattle.sq_text.specs.declared.fault.Fault.{Fault}
 use Rattle.sq_ast.specs.declared.program.Program.{Program as Tree}
 use Rattle.sq_ast.specs.Canonical.{canonical}
 use Rattle.sq_words.specs.declared.words.Kind.{Kind}
-use Rattle.sq_words.specs.declared.words.Kind.TheVariants.{Check, Fmt, Plan, Eval, Run, Demo}
+use Rattle.sq_words.specs.declared.words.Kind.TheVariants.{Check, Fmt, Plan, Eval, Run, Demo, Tune, Span}
 use Rattle.sq_words.specs.Words.{program, Way, Command}
 use Rattle.sq_driver.specs.Phases.{phases, file_of, Inputs, inputs_of, IsTold}
 use Rattle.sq_driver.specs.Shown.{demo_text}
@@ -14,13 +14,15 @@ use Rattle.sq_driver.specs.Holding.{Holds}
 use Rattle.sq_driver.specs.Programs.{IsProgramText}
 use Rattle.sq_driver.specs.Entry.{GivesFlat, TrapsFlat}
 use Rattle.sq_driver.specs.Reported.{GivesReport}
+use Rattle.sq_driver.specs.Choosing.{GivesTable}
+use Rattle.sq_driver.specs.Costing.{GivesSpan}
 use Rattle.sq_driver.specs.Faults.{IsFirstOf}
 use Rattle.sq_report.specs.declared.trap.Trap.{Trap}
 
 -- a phase's file is there, and the phase has no fault
 pub record Passed (command : Command) (c : Content) (phase : Phase) : Type 0 where
   pub there : (name : List ℕ) → file_of command phase ≡ Some name → (text : List ℕ) × (c name ≡ Some text)
-  pub no_fault : (its : Fault) → IsFirstOf phase (inputs_of c command) its → ⊥
+  pub no_fault : (its : Fault) → IsFirstOf command.kind phase (inputs_of c command) its → ⊥
 
 abbrev pub AllPassed : Command → Content → List Phase → Type 0
 AllPassed command c [] = Unit {0}
@@ -53,15 +55,15 @@ Gives Plan way inputs out = GivesReport inputs out
 Gives Eval way inputs out = GivesFlat inputs out
 Gives Run way inputs out = GivesFlat inputs out
 Gives Demo way inputs out = GivesLine way inputs out
+Gives Tune way inputs out = GivesTable inputs out
+Gives Span way inputs out = GivesSpan inputs out
 
 -- the first trap of a command that is accepted
 abbrev pub Traps : Kind → Inputs → Trap → Type 0
-Traps Check inputs trap = ⊥
-Traps Fmt inputs trap = ⊥
-Traps Plan inputs trap = ⊥
 Traps Eval inputs trap = TrapsFlat inputs trap
 Traps Run inputs trap = TrapsFlat inputs trap
 Traps Demo inputs trap = TrapsFlat inputs trap
+Traps kind inputs trap = ⊥
 
 -- nothing traps
 abbrev pub IsTrapless : Kind → Inputs → Type 0
@@ -81,7 +83,7 @@ pub data Answer : Type 0 where
 abbrev pub IsCause : Command → Content → Answer → Type 0
 IsCause command c (done out trace) = AllPassed command c (phases command.kind)
     × Gives command.kind command.way (inputs_of c command) out × IsTrapless command.kind (inputs_of c command)
-IsCause command c (refused phase its) = Reached command c phase × IsFirstOf phase (inputs_of c command) its
+IsCause command c (refused phase its) = Reached command c phase × IsFirstOf command.kind phase (inputs_of c command) its
 IsCause command c (trapped trap trace) = AllPassed command c (phases command.kind)
     × Traps command.kind (inputs_of c command) trap
 IsCause command c usage = ⊥

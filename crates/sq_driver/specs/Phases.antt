@@ -4,8 +4,8 @@ use Rattle.sq_port.specs.Ports.{Content}
 use Rattle.sq_text.specs.declared.code.Phase.{Phase}
 use Rattle.sq_text.specs.declared.code.Phase.TheVariants.{Program, Types, Machine, Mapping, Resolve, Race, Capacity, Plan as PlanPhase, Cost, Order, Input}
 use Rattle.sq_words.specs.declared.words.Kind.{Kind}
-use Rattle.sq_words.specs.declared.words.Kind.TheVariants.{Check, Fmt, Plan, Eval, Run, Demo}
-use Rattle.sq_words.specs.Words.{Role, program, mapping, machine, input, order, Way, first, last, seed, list, Files, no_files, named, Command}
+use Rattle.sq_words.specs.declared.words.Kind.TheVariants.{Check, Fmt, Plan, Eval, Run, Demo, Tune, Span}
+use Rattle.sq_words.specs.Words.{Role, program, mapping, machine, input, order, cost, Way, first, last, seed, list, Files, no_files, named, Command}
 use Rattle.sq_report.specs.Demo.{demo_program, demo_mapping, demo_machine}
 use Rattle.sq_demo.specs.Data.{demo_data}
 
@@ -17,6 +17,8 @@ phases Plan = Program ∷ Types ∷ Machine ∷ Mapping ∷ Resolve ∷ Race ∷
 phases Eval = Program ∷ Types ∷ Machine ∷ Mapping ∷ Resolve ∷ Race ∷ Input ∷ []
 phases Run = Program ∷ Types ∷ Machine ∷ Mapping ∷ Resolve ∷ Race ∷ Capacity ∷ Order ∷ Input ∷ []
 phases Demo = Program ∷ Types ∷ Machine ∷ Mapping ∷ Resolve ∷ Race ∷ Capacity ∷ Order ∷ Input ∷ []
+phases Tune = Program ∷ Types ∷ Machine ∷ Mapping ∷ []
+phases Span = Program ∷ Types ∷ Machine ∷ Mapping ∷ Resolve ∷ Race ∷ Capacity ∷ Cost ∷ []
 
 -- what the file is for that is read when a phase begins, where the words name one
 abbrev pub role_of : Phase → Option Role
@@ -25,35 +27,24 @@ role_of Machine = Some machine
 role_of Mapping = Some mapping
 role_of Input = Some input
 role_of Order = Some order
-role_of Types = None
-role_of Resolve = None
-role_of Race = None
-role_of Capacity = None
-role_of PlanPhase = None
-role_of Cost = None
+role_of Cost = Some cost
+role_of phase = None
 
 -- whether a command opens the bank
 abbrev pub opens : Kind → Bool
-opens Check = false
-opens Fmt = false
-opens Plan = false
-opens Eval = false
 opens Run = true
 opens Demo = true
+opens kind = false
+
+-- whether a command's mapping may have tunables of several alternatives
+abbrev pub varies : Kind → Bool
+varies Tune = true
+varies kind = false
 
 -- whether a phase comes behind the opening, where there is one
 abbrev pub is_late : Phase → Bool
 is_late Input = true
-is_late Program = false
-is_late Types = false
-is_late Machine = false
-is_late Mapping = false
-is_late Resolve = false
-is_late Race = false
-is_late Capacity = false
-is_late PlanPhase = false
-is_late Cost = false
-is_late Order = false
+is_late phase = false
 
 abbrev pub is_open_at : Kind → Phase → Bool
 is_open_at kind phase = is_late phase && opens kind
@@ -83,16 +74,12 @@ demo_inputs n program = Some demo_program
 demo_inputs n mapping = Some demo_mapping
 demo_inputs n machine = Some demo_machine
 demo_inputs n input = Some (demo_data n)
-demo_inputs n order = None
+demo_inputs n role = None
 
 -- the texts that a command has by itself: the demo those of its number, the others none
 abbrev pub own_inputs : Kind → Way → Inputs
-own_inputs Check way role = None
-own_inputs Fmt way role = None
-own_inputs Plan way role = None
-own_inputs Eval way role = None
-own_inputs Run way role = None
 own_inputs Demo way role = demo_inputs (seed_in way) role
+own_inputs kind way role = None
 
 -- what a file holds, and where none is named this
 abbrev pub text_or : Option (List ℕ) → Content → Option (List ℕ) → Option (List ℕ)

@@ -3,7 +3,7 @@ use Rattle.std.specs.Prelude.{ℕ, List}
 use Rattle.sq_adder.specs.Sums.{text_sum}
 use Rattle.sq_report.specs.Demo.{demo_line}
 use Rattle.sq_words.specs.declared.words.Kind.{Kind}
-use Rattle.sq_words.specs.declared.words.Kind.TheVariants.{Check, Fmt, Plan, Eval, Run, Demo}
+use Rattle.sq_words.specs.declared.words.Kind.TheVariants.{Demo}
 use Rattle.sq_words.specs.Words.{Way}
 use Rattle.sq_driver.specs.Phases.{seed_in}
 
@@ -13,9 +13,5 @@ demo_text way arrays = demo_line (seed_in way) (text_sum arrays)
 
 -- all but the demo write the text
 abbrev pub shown : Kind → Way → List ℕ → List ℕ
-shown Check way arrays = arrays
-shown Fmt way arrays = arrays
-shown Plan way arrays = arrays
-shown Eval way arrays = arrays
-shown Run way arrays = arrays
 shown Demo way arrays = demo_text way arrays
+shown kind way arrays = arrays

@@ -6,3 +6,5 @@ pub mod eval;
 pub mod fmt;
 pub mod plan;
 pub mod run;
+pub mod span;
+pub mod tune;

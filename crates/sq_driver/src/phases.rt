@@ -3,7 +3,10 @@
 pub mod capacity;
 pub mod entry;
 pub mod launch;
+pub mod costs;
 pub mod order;
+pub mod passes;
+pub mod planning;
 pub mod race;
 pub mod root;
 pub mod sources;

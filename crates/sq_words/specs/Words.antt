@@ -7,9 +7,9 @@ use Rattle.std.specs.declared.alloc.Global.{Global}
 use Rattle.sq_words.specs.declared.options.Way.{Way as ReadWay}
 use Rattle.sq_words.specs.declared.options.Way.TheVariants.{First, Last, Seed, List as Listed}
 use Rattle.sq_words.specs.declared.words.Kind.{Kind}
-use Rattle.sq_words.specs.declared.words.Kind.TheVariants.{Check, Fmt, Plan, Eval, Run, Demo}
+use Rattle.sq_words.specs.declared.words.Kind.TheVariants.{Check, Fmt, Plan, Eval, Run, Demo, Tune, Span}
 use Rattle.sq_words.specs.declared.words.Command.{Command as Read}
-use Rattle.sq_words.specs.declared.words.Command.TheVariants.{Check as ReadCheck, Fmt as ReadFmt, Plan as ReadPlan, Eval as ReadEval, Run as ReadRun, Demo as ReadDemo}
+use Rattle.sq_words.specs.declared.words.Command.TheVariants.{Check as ReadCheck, Fmt as ReadFmt, Plan as ReadPlan, Eval as ReadEval, Run as ReadRun, Demo as ReadDemo, Tune as ReadTune, Span as ReadSpan}
 
 -- ---- commands
 
@@ -20,6 +20,7 @@ pub data Role : Type 0 where
   machine : Role
   input : Role
   order : Role
+  cost : Role
 
 -- the names of files, each by what it is for
 pub record Files : Type 0 where
@@ -28,9 +29,10 @@ pub record Files : Type 0 where
   pub machine : Option (List ℕ)
   pub input : Option (List ℕ)
   pub order : Option (List ℕ)
+  pub cost : Option (List ℕ)
 
 abbrev pub no_files : Files
-no_files = record { program = None; mapping = None; machine = None; input = None; order = None }
+no_files = record { program = None; mapping = None; machine = None; input = None; order = None; cost = None }
 
 abbrev pub named : Files → Role → Option (List ℕ)
 named files program = files.program
@@ -38,6 +40,7 @@ named files mapping = files.mapping
 named files machine = files.machine
 named files input = files.input
 named files order = files.order
+named files cost = files.cost
 
 abbrev pub with_file : Role → List ℕ → Files → Files
 with_file program name files = record files { program = Some name }
@@ -45,6 +48,7 @@ with_file mapping name files = record files { mapping = Some name }
 with_file machine name files = record files { machine = Some name }
 with_file input name files = record files { input = Some name }
 with_file order name files = record files { order = Some name }
+with_file cost name files = record files { cost = Some name }
 
 -- which of its ready events a run performs next: by a seed, those that its generator draws; by a list, those that the
 -- numbers of a file say
@@ -163,7 +167,7 @@ options_of options (word ∷ words) = option_and_then (λ more. options_of more 
 
 -- the first word of a command
 abbrev pub kind_of : List ℕ → Option Kind
-kind_of word = if bytes_eq word (codes "check") then Some Check else (if bytes_eq word (codes "fmt") then Some Fmt else (if bytes_eq word (codes "plan") then Some Plan else (if bytes_eq word (codes "eval") then Some Eval else (if bytes_eq word (codes "run") then Some Run else (if bytes_eq word (codes "demo") then Some Demo else None)))))
+kind_of word = if bytes_eq word (codes "check") then Some Check else (if bytes_eq word (codes "fmt") then Some Fmt else (if bytes_eq word (codes "plan") then Some Plan else (if bytes_eq word (codes "eval") then Some Eval else (if bytes_eq word (codes "run") then Some Run else (if bytes_eq word (codes "demo") then Some Demo else (if bytes_eq word (codes "tune") then Some Tune else (if bytes_eq word (codes "span") then Some Span else None)))))))
 
 -- its further words: what the files that they name are for
 abbrev pub roles : Kind → List Role
@@ -173,6 +177,8 @@ roles Plan = program ∷ mapping ∷ machine ∷ []
 roles Eval = program ∷ mapping ∷ machine ∷ input ∷ []
 roles Run = program ∷ mapping ∷ machine ∷ input ∷ []
 roles Demo = []
+roles Tune = program ∷ mapping ∷ machine ∷ []
+roles Span = program ∷ mapping ∷ machine ∷ cost ∷ []
 
 -- a name for each of the roles, and none too many
 abbrev pub named_in_turn : List Role → List (List ℕ) → Files → Option Files
@@ -238,6 +244,16 @@ all_files name its_mapping its_machine its_input = with_file input its_input (so
 abbrev pub plan_of : List ℕ → List ℕ → List ℕ → Command
 plan_of name its_mapping its_machine = command_with Plan (source_files name its_mapping its_machine) (with_no_file first) false
 
+abbrev pub tune_of : List ℕ → List ℕ → List ℕ → Command
+tune_of name its_mapping its_machine = command_with Tune (source_files name its_mapping its_machine) (with_no_file first) false
+
+-- the names of three files and of costs
+abbrev pub span_files : List ℕ → List ℕ → List ℕ → List ℕ → Files
+span_files name its_mapping its_machine its_cost = with_file cost its_cost (source_files name its_mapping its_machine)
+
+abbrev pub span_of : List ℕ → List ℕ → List ℕ → List ℕ → Command
+span_of name its_mapping its_machine its_cost = command_with Span (span_files name its_mapping its_machine its_cost) (with_no_file first) false
+
 abbrev pub eval_of : List ℕ → List ℕ → List ℕ → List ℕ → Command
 eval_of name its_mapping its_machine its_input = command_with Eval (all_files name its_mapping its_machine its_input) (with_no_file first) false
 
@@ -263,3 +279,5 @@ meant (ReadPlan words) = plan_of words.program.now words.mapping.now words.machi
 meant (ReadEval words) = eval_of words.program.now words.mapping.now words.machine.now words.input.now
 meant (ReadRun words) = run_of words.program.now words.mapping.now words.machine.now words.input.now (asked words.order) words.traced
 meant (ReadDemo words) = demo_of words.seed
+meant (ReadTune words) = tune_of words.program.now words.mapping.now words.machine.now
+meant (ReadSpan words) = span_of words.program.now words.mapping.now words.machine.now words.cost.now

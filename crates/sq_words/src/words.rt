@@ -14,6 +14,8 @@ pub enum Kind {
     Eval,
     Run,
     Demo,
+    Tune,
+    Span,
 }
 
 /// `check PROG`
@@ -62,6 +64,23 @@ pub struct Demo {
     pub seed: u64,
 }
 
+/// `tune PROG MAP MACH`
+#[derive(Clone, Copy)]
+pub struct Tune<'a> {
+    pub program: &'a str,
+    pub mapping: &'a str,
+    pub machine: &'a str,
+}
+
+/// `span PROG MAP MACH COST`
+#[derive(Clone, Copy)]
+pub struct Span<'a> {
+    pub program: &'a str,
+    pub mapping: &'a str,
+    pub machine: &'a str,
+    pub cost: &'a str,
+}
+
 /// A command with the names of its files.
 #[derive(Clone, Copy)]
 pub enum Command<'a> {
@@ -71,6 +90,8 @@ pub enum Command<'a> {
     Eval(Eval<'a>),
     Run(Run<'a>),
     Demo(Demo),
+    Tune(Tune<'a>),
+    Span(Span<'a>),
 }
 
 /// The command that the words are, if they are one. It takes no memory.
@@ -103,6 +124,10 @@ fn kind_for(word: &str) -> Option<Kind>
         Some(Kind::Run)
     } else if word == "demo" {
         Some(Kind::Demo)
+    } else if word == "tune" {
+        Some(Kind::Tune)
+    } else if word == "span" {
+        Some(Kind::Span)
     } else {
         None
     }
@@ -146,6 +171,17 @@ fn with_words(kind: Kind, words: &[String]) -> Option<Command<'_>>
             Some(seed) => Some(Command::Demo(Demo { seed })),
             None => None,
         },
+        (Kind::Tune, [program, mapping, machine]) => Some(Command::Tune(Tune {
+            program: program.as_str(),
+            mapping: mapping.as_str(),
+            machine: machine.as_str(),
+        })),
+        (Kind::Span, [program, mapping, machine, cost]) => Some(Command::Span(Span {
+            program: program.as_str(),
+            mapping: mapping.as_str(),
+            machine: machine.as_str(),
+            cost: cost.as_str(),
+        })),
         _ => None,
     }
 }

@@ -1,5 +1,5 @@
-//! The program, the machine and the mapping of a command, read in the order of their phases.
-ghost use Rattle.std.specs.Prelude.{◌≡◌, ℕ, List, None, Some, Option, IfOk, IfErr, OnOk};
+//! The program, the machine and the mapping of a command, or its choices, read in the order of their phases.
+ghost use Rattle.std.specs.Prelude.{◌≡◌, ◌<◌, ℕ, List, None, Some, Option, IfOk, IfErr, OnOk};
 ghost use Rattle.sq_port.specs.Ports.{Content};
 ghost use Rattle.sq_text.specs.declared.fault.Fault.{Fault as SpecFault};
 ghost use Rattle.sq_ast.specs.Given.{IsGiven};
@@ -7,23 +7,25 @@ ghost use Rattle.sq_types.specs.Sites.{TypeFault};
 ghost use Rattle.sq_lexer.specs.Faults.{file_limit, most_bytes};
 ghost use Rattle.sq_machfile.specs.Machines.{WithinLimits};
 ghost use Rattle.sq_mapping.specs.Sound.{Sound};
+ghost use Rattle.sq_mapfile.specs.Made.{mapping_of};
 ghost use Rattle.sq_forms.specs.Forms.{AreForms, IsFirstMet};
 ghost use Rattle.sq_forms.specs.Resolving.{resolution};
 ghost use Rattle.sq_spec.specs.Works.{found_in};
 ghost use Rattle.sq_race.specs.Race.{IsFirstRace};
+ghost use Rattle.sq_driver.specs.Chosen.{ReadsChoices};
 ghost use Rattle.sq_driver.specs.Programs.{IsFirstTypeFault};
 ghost use Rattle.sq_driver.specs.Races.{IsResolved, IsFirstRaceFault};
 ghost use Rattle.sq_driver.specs.Ends.{ending, FileCauses};
-ghost use Rattle.sq_driver.specs.SharedFiles.{StopsSources};
+ghost use Rattle.sq_driver.specs.SharedFiles.{StopsFront, StopsSources};
 ghost use Rattle.sq_driver.specs.Steps.{ReadsFitting};
-ghost use Rattle.sq_driver.specs.Evaluating.{EndsWith, HoldsSources, ReadsMachine, ReadsMapping};
+ghost use Rattle.sq_driver.specs.Evaluating.{EndsWith, HoldsMachine, HoldsSources, ReadsMachine, ReadsMapping};
 
 use crate::outside::end::End;
 use crate::phases::race::race_fault;
 use crate::phases::tree::{MOST_BYTES, read_tree, too_long};
 use sq_ast::Program;
 use sq_machfile::{Machine, read_machine};
-use sq_mapfile::read_mapping;
+use sq_mapfile::{Choices, read_choices, read_mapping};
 use sq_mapping::Mapping;
 use sq_port::{Bytes, Files, ReadEnd, read_whole};
 use sq_race::first_race;
@@ -31,6 +33,44 @@ use sq_spec::{Resolved, resolve};
 use sq_text::{Phase, Stop};
 use sq_types::{Typed, check};
 use std::alloc::Global;
+
+/// A program that breaks no rule, and a machine.
+#[derive(Drop)]
+pub struct Front {
+    pub typed: Typed,
+    pub machine: Machine,
+}
+
+/// Reads the program and the machine of these names; it stops at the first that is missing, fails or has a fault.
+pub fn read_front<'a, F: Files>(
+    alloc: Global,
+    files: &mut F,
+    program: &'a str,
+    machine: &'a str,
+) -> Result<Front, End<'a>>
+    ensures content { F.content files.new ≡ F.content files.old }
+    ensures held { IfOk result (λ f. HoldsMachine (F.content files.old) program.now machine.now f.typed f.machine) }
+    ensures stopped { IfErr result (λ end. StopsFront (F.content files.old) program.now machine.now end) }
+    ensures cause { FileCauses (F.faults files.old) (F.faults files.new) (F.misses files.old) (F.misses files.new)
+        (ending result) }
+{
+    let tree = match read_tree(alloc, files, program) {
+        Ok(tree) => tree,
+        Err(end) => return Err(end),
+    };
+    let typed = match checked(alloc, tree) {
+        Ok(typed) => typed,
+        Err(end) => return Err(end),
+    };
+    let hierarchy = match read_hierarchy(alloc, files, machine) {
+        Ok(hierarchy) => hierarchy,
+        Err(end) => return Err(end),
+    };
+    Ok(Front {
+        typed,
+        machine: hierarchy,
+    })
+}
 
 /// A program that breaks no rule, a machine, and a mapping of the one onto the other.
 #[derive(Drop)]
@@ -57,25 +97,18 @@ pub fn read_sources<'a, F: Files>(
     ensures cause { FileCauses (F.faults files.old) (F.faults files.new) (F.misses files.old) (F.misses files.new)
         (ending result) }
 {
-    let tree = match read_tree(alloc, files, program) {
-        Ok(tree) => tree,
+    let front = match read_front(alloc, files, program, machine) {
+        Ok(front) => front,
         Err(end) => return Err(end),
     };
-    let typed = match checked(alloc, tree) {
-        Ok(typed) => typed,
-        Err(end) => return Err(end),
-    };
-    let hierarchy = match read_hierarchy(alloc, files, machine) {
-        Ok(hierarchy) => hierarchy,
-        Err(end) => return Err(end),
-    };
-    let mapped = match read_mapped(alloc, files, mapping, &typed, &hierarchy) {
+    let mapped = match read_mapped(alloc, files, mapping, &front.typed, &front.machine) {
         Ok(mapped) => mapped,
         Err(end) => return Err(end),
     };
+    let Front { typed, machine } = front;
     Ok(Sources {
         typed,
-        machine: hierarchy,
+        machine,
         mapping: mapped,
     })
 }
@@ -116,8 +149,8 @@ fn checked<'a>(alloc: Global, program: Program) -> Result<Typed, End<'a>>
     }
 }
 
-// The forms of the program.
-fn forms_of<'r, 'a>(
+/// The forms of the program.
+pub fn forms_of<'r, 'a>(
     alloc: Global,
     typed: &'r Typed,
     mapping: &'r Mapping,
@@ -138,8 +171,8 @@ fn forms_of<'r, 'a>(
     }
 }
 
-// Refuses a race.
-fn refuse_race<'a>(alloc: Global, resolved: &Resolved<'_>) -> Result<(), End<'a>>
+/// Refuses a race.
+pub fn refuse_race<'a>(alloc: Global, resolved: &Resolved<'_>) -> Result<(), End<'a>>
     ensures free { OnOk result (IsFirstRace resolved.now None) }
     ensures refused { IfErr result (λ end. EndsWith (IsFirstRaceFault resolved.now) end) }
 {
@@ -153,8 +186,8 @@ fn refuse_race<'a>(alloc: Global, resolved: &Resolved<'_>) -> Result<(), End<'a>
     }
 }
 
-// The text of a file, where it isn't too long for the phase.
-fn read_fitting<'a, F: Files>(
+/// The text of a file, where it isn't too long for the phase.
+pub fn read_fitting<'a, F: Files>(
     alloc: Global,
     files: &mut F,
     name: &'a str,
@@ -227,6 +260,32 @@ fn read_mapped<'a, F: Files>(
     };
     match read_mapping(alloc, text.as_slice(), typed, machine) {
         Ok(mapping) => Ok(mapping),
+        Err(Stop::Refused(fault)) => Err(End::Refused(fault)),
+        Err(Stop::NoMemory) => Err(End::NoMemory),
+    }
+}
+
+/// Reads the choices of a mapping of the program onto the machine, whose tunables may have several alternatives.
+pub fn read_alternatives<'a, F: Files>(
+    alloc: Global,
+    files: &mut F,
+    name: &'a str,
+    typed: &Typed,
+    machine: &Machine,
+) -> Result<Choices, End<'a>>
+    ensures content { F.content files.new ≡ F.content files.old }
+    ensures told { ReadsChoices typed.now machine.now.levels (F.content files.old) name.now result }
+    ensures sound { IfOk result (λ choices. (n : ℕ) → n < choices.number → Sound typed.now machine.now.levels
+        (mapping_of choices n)) }
+    ensures cause { FileCauses (F.faults files.old) (F.faults files.new) (F.misses files.old) (F.misses files.new)
+        (ending result) }
+{
+    let text = match read_fitting(alloc, files, name, Phase::Mapping) {
+        Ok(text) => text,
+        Err(end) => return Err(end),
+    };
+    match read_choices(alloc, text.as_slice(), typed, machine) {
+        Ok(choices) => Ok(choices),
         Err(Stop::Refused(fault)) => Err(End::Refused(fault)),
         Err(Stop::NoMemory) => Err(End::NoMemory),
     }
