@@ -9,6 +9,7 @@ pub mod Demos
 pub mod Datas
 pub mod Ending
 pub mod Entries
+pub mod FilePhase
 pub mod Evaluations
 pub mod Finals
 pub mod Finishing

@@ -1,5 +1,5 @@
--- What the phases of `tune` and `span` behind the shared ones leave behind.
-use Rattle.std.specs.Prelude.{◌≡◌, ℕ, List, Bool, false, Option, Some, Result, Ok, Err}
+-- What the phases of `tune`, `span` and `compile` behind the shared ones leave behind.
+use Rattle.std.specs.Prelude.{◌≡◌, ℕ, List, Bool, false, Option, Some, None, Result, Ok, Err}
 use Rattle.sq_port.specs.Ports.{Content}
 use Rattle.sq_text.specs.declared.code.Phase.TheVariants as phase
 use Rattle.sq_text.specs.declared.fault.Fault.{Fault}
@@ -14,6 +14,11 @@ use Rattle.sq_span.specs.Spans.{events_of, IsSpan, EventsFault}
 use Rattle.sq_span.specs.Weights.{event_weight}
 use Rattle.sq_span.specs.declared.spans.Span.{Span}
 use Rattle.sq_span_text.specs.Text.{span_text}
+use Rattle.sq_plantext.specs.Layout.{laid_out}
+use Rattle.sq_planfile.specs.File.{PlanFile}
+use Rattle.sq_planfile.specs.Limits.{TextFault}
+use Rattle.sq_planfile.specs.Written.{written}
+use Rattle.sq_text.specs.Faults.{IsFirst}
 use Rattle.sq_driver.specs.declared.outside.end.End.{End}
 use Rattle.sq_driver.specs.declared.outside.end.End.TheVariants.{Usage, Absent, FileFault, Refused, Trapped, NoMemory, SinkFault}
 use Rattle.sq_driver.specs.Holding.{Holds}
@@ -57,3 +62,18 @@ SpansTo plan costs out now_out faults now_faults (Err (Refused its)) = EventsFau
     × (now_faults ≡ faults)
 SpansTo plan costs out now_out faults now_faults (Err NoMemory) = (now_out ≡ out) × (now_faults ≡ faults)
 SpansTo plan costs out now_out faults now_faults result = WroteChain plan costs out now_out faults now_faults result
+
+-- ---- plan files
+
+-- the text was written, and the file isn't too large
+pub record WroteFile (file : PlanFile) (out now_out : Option (List ℕ)) (faults now_faults : ℕ)
+    (result : Result (Unit {0}) End) : Type 0 where
+  pub fits : IsFirst (TextFault file) None
+  pub wrote : WroteOut out now_out faults now_faults (laid_out (written file)) result
+
+-- or it is, or memory ran out
+abbrev pub FilesTo : PlanFile → Option (List ℕ) → Option (List ℕ) → ℕ → ℕ → Result (Unit {0}) End → Type 0
+FilesTo file out now_out faults now_faults (Err (Refused its)) = IsFirst (TextFault file) (Some its)
+    × (now_out ≡ out) × (now_faults ≡ faults)
+FilesTo file out now_out faults now_faults (Err NoMemory) = (now_out ≡ out) × (now_faults ≡ faults)
+FilesTo file out now_out faults now_faults result = WroteFile file out now_out faults now_faults result

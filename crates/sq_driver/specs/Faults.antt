@@ -5,6 +5,7 @@ use Rattle.sq_text.specs.declared.code.Phase.TheVariants.{Program, Types, Machin
 use Rattle.sq_text.specs.declared.fault.Fault.{Fault}
 use Rattle.sq_ast.specs.declared.program.Program.{Program as Tree}
 use Rattle.sq_words.specs.declared.words.Kind.{Kind}
+use Rattle.sq_words.specs.declared.words.Kind.TheVariants.{Compile}
 use Rattle.sq_words.specs.Words.{program}
 use Rattle.sq_driver.specs.Phases.{Inputs, varies}
 use Rattle.sq_driver.specs.Holding.{Holds}
@@ -14,6 +15,7 @@ use Rattle.sq_driver.specs.Races.{IsFirstOfResolve, IsFirstOfRace}
 use Rattle.sq_driver.specs.Capacity.{IsFirstOfCapacity}
 use Rattle.sq_driver.specs.Choosing.{IsFirstOfChoices}
 use Rattle.sq_driver.specs.Costing.{IsFirstOfCost}
+use Rattle.sq_driver.specs.Filing.{IsFirstOfText}
 use Rattle.sq_driver.specs.Orders.{IsFirstOfOrder}
 use Rattle.sq_driver.specs.Entry.{IsFirstOfInput}
 
@@ -32,7 +34,12 @@ abbrev pub IsFirstOfMappings : (varied : Bool) → Inputs → Fault → Type 0
 IsFirstOfMappings false inputs its = IsFirstOfMapping inputs its
 IsFirstOfMappings true inputs its = IsFirstOfChoices inputs its
 
--- the phase of a command has this fault before all others; no command has the phase of plan files
+-- the plan file of a command has this fault before all others
+abbrev pub IsFirstOfPlan : Kind → Inputs → Fault → Type 0
+IsFirstOfPlan Compile inputs its = IsFirstOfText inputs its
+IsFirstOfPlan kind inputs its = ⊥
+
+-- the phase of a command has this fault before all others
 abbrev pub IsFirstOf : Kind → Phase → Inputs → Fault → Type 0
 IsFirstOf kind Program inputs its = IsFirstOfProgram inputs its
 IsFirstOf kind Types inputs its = IsFirstOfTypes inputs its
@@ -41,7 +48,7 @@ IsFirstOf kind Mapping inputs its = IsFirstOfMappings (varies kind) inputs its
 IsFirstOf kind Resolve inputs its = IsFirstOfResolve inputs its
 IsFirstOf kind Race inputs its = IsFirstOfRace inputs its
 IsFirstOf kind Capacity inputs its = IsFirstOfCapacity inputs its
-IsFirstOf kind Plan inputs its = ⊥
+IsFirstOf kind Plan inputs its = IsFirstOfPlan kind inputs its
 IsFirstOf kind Cost inputs its = IsFirstOfCost inputs its
 IsFirstOf kind Order inputs its = IsFirstOfOrder inputs its
 IsFirstOf kind Input inputs its = IsFirstOfInput inputs its

@@ -9,6 +9,7 @@ pub mod Ends
 pub mod Entry
 pub mod Evaluating
 pub mod Faults
+pub mod Filing
 pub mod Givens
 pub mod Holding
 pub mod Launching

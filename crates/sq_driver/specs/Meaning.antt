@@ -6,7 +6,7 @@ use Rattle.sq_text.specs.declared.fault.Fault.{Fault}
 use Rattle.sq_ast.specs.declared.program.Program.{Program as Tree}
 use Rattle.sq_ast.specs.Canonical.{canonical}
 use Rattle.sq_words.specs.declared.words.Kind.{Kind}
-use Rattle.sq_words.specs.declared.words.Kind.TheVariants.{Check, Fmt, Plan, Eval, Run, Demo, Tune, Span}
+use Rattle.sq_words.specs.declared.words.Kind.TheVariants.{Check, Fmt, Plan, Eval, Run, Demo, Compile, Tune, Span}
 use Rattle.sq_words.specs.Words.{program, Way, Command}
 use Rattle.sq_driver.specs.Phases.{phases, file_of, Inputs, inputs_of, IsTold}
 use Rattle.sq_driver.specs.Shown.{demo_text}
@@ -16,6 +16,7 @@ use Rattle.sq_driver.specs.Entry.{GivesFlat, TrapsFlat}
 use Rattle.sq_driver.specs.Reported.{GivesReport}
 use Rattle.sq_driver.specs.Choosing.{GivesTable}
 use Rattle.sq_driver.specs.Costing.{GivesSpan}
+use Rattle.sq_driver.specs.Filing.{GivesFile}
 use Rattle.sq_driver.specs.Faults.{IsFirstOf}
 use Rattle.sq_report.specs.declared.trap.Trap.{Trap}
 
@@ -55,6 +56,7 @@ Gives Plan way inputs out = GivesReport inputs out
 Gives Eval way inputs out = GivesFlat inputs out
 Gives Run way inputs out = GivesFlat inputs out
 Gives Demo way inputs out = GivesLine way inputs out
+Gives Compile way inputs out = GivesFile inputs out
 Gives Tune way inputs out = GivesTable inputs out
 Gives Span way inputs out = GivesSpan inputs out
 

@@ -4,7 +4,7 @@ use Rattle.sq_port.specs.Ports.{Content}
 use Rattle.sq_text.specs.declared.code.Phase.{Phase}
 use Rattle.sq_text.specs.declared.code.Phase.TheVariants.{Program, Types, Machine, Mapping, Resolve, Race, Capacity, Plan as PlanPhase, Cost, Order, Input}
 use Rattle.sq_words.specs.declared.words.Kind.{Kind}
-use Rattle.sq_words.specs.declared.words.Kind.TheVariants.{Check, Fmt, Plan, Eval, Run, Demo, Tune, Span}
+use Rattle.sq_words.specs.declared.words.Kind.TheVariants.{Check, Fmt, Plan, Eval, Run, Demo, Compile, Tune, Span}
 use Rattle.sq_words.specs.Words.{Role, program, mapping, machine, input, order, cost, Way, first, last, seed, list, Files, no_files, named, Command}
 use Rattle.sq_report.specs.Demo.{demo_program, demo_mapping, demo_machine}
 use Rattle.sq_demo.specs.Data.{demo_data}
@@ -17,6 +17,7 @@ phases Plan = Program ∷ Types ∷ Machine ∷ Mapping ∷ Resolve ∷ Race ∷
 phases Eval = Program ∷ Types ∷ Machine ∷ Mapping ∷ Resolve ∷ Race ∷ Input ∷ []
 phases Run = Program ∷ Types ∷ Machine ∷ Mapping ∷ Resolve ∷ Race ∷ Capacity ∷ Order ∷ Input ∷ []
 phases Demo = Program ∷ Types ∷ Machine ∷ Mapping ∷ Resolve ∷ Race ∷ Capacity ∷ Order ∷ Input ∷ []
+phases Compile = Program ∷ Types ∷ Machine ∷ Mapping ∷ Resolve ∷ Race ∷ Capacity ∷ PlanPhase ∷ []
 phases Tune = Program ∷ Types ∷ Machine ∷ Mapping ∷ []
 phases Span = Program ∷ Types ∷ Machine ∷ Mapping ∷ Resolve ∷ Race ∷ Capacity ∷ Cost ∷ []
 

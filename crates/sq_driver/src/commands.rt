@@ -1,6 +1,7 @@
 //! The commands, one file each.
 
 pub mod check;
+pub mod compile;
 pub mod demo;
 pub mod eval;
 pub mod fmt;

@@ -174,6 +174,7 @@ fn dispatch<'a, F: Files, S: Sink, E: Sink, B: Bank>(
         Some(Command::Eval(eval)) => eval.perform(alloc, world),
         Some(Command::Run(run)) => run.perform(alloc, world),
         Some(Command::Demo(demo)) => demo.perform(alloc, world),
+        Some(Command::Compile(compile)) => compile.perform(alloc, world),
         Some(Command::Tune(tune)) => tune.perform(alloc, world),
         Some(Command::Span(span)) => span.perform(alloc, world),
         None => Err(End::Usage),

@@ -7,9 +7,9 @@ use Rattle.std.specs.declared.alloc.Global.{Global}
 use Rattle.sq_words.specs.declared.options.Way.{Way as ReadWay}
 use Rattle.sq_words.specs.declared.options.Way.TheVariants.{First, Last, Seed, List as Listed}
 use Rattle.sq_words.specs.declared.words.Kind.{Kind}
-use Rattle.sq_words.specs.declared.words.Kind.TheVariants.{Check, Fmt, Plan, Eval, Run, Demo, Tune, Span}
+use Rattle.sq_words.specs.declared.words.Kind.TheVariants.{Check, Fmt, Plan, Eval, Run, Demo, Compile, Tune, Span}
 use Rattle.sq_words.specs.declared.words.Command.{Command as Read}
-use Rattle.sq_words.specs.declared.words.Command.TheVariants.{Check as ReadCheck, Fmt as ReadFmt, Plan as ReadPlan, Eval as ReadEval, Run as ReadRun, Demo as ReadDemo, Tune as ReadTune, Span as ReadSpan}
+use Rattle.sq_words.specs.declared.words.Command.TheVariants.{Check as ReadCheck, Fmt as ReadFmt, Plan as ReadPlan, Eval as ReadEval, Run as ReadRun, Demo as ReadDemo, Compile as ReadCompile, Tune as ReadTune, Span as ReadSpan}
 
 -- ---- commands
 
@@ -167,7 +167,7 @@ options_of options (word ∷ words) = option_and_then (λ more. options_of more 
 
 -- the first word of a command
 abbrev pub kind_of : List ℕ → Option Kind
-kind_of word = if bytes_eq word (codes "check") then Some Check else (if bytes_eq word (codes "fmt") then Some Fmt else (if bytes_eq word (codes "plan") then Some Plan else (if bytes_eq word (codes "eval") then Some Eval else (if bytes_eq word (codes "run") then Some Run else (if bytes_eq word (codes "demo") then Some Demo else (if bytes_eq word (codes "tune") then Some Tune else (if bytes_eq word (codes "span") then Some Span else None)))))))
+kind_of word = if bytes_eq word (codes "check") then Some Check else (if bytes_eq word (codes "fmt") then Some Fmt else (if bytes_eq word (codes "plan") then Some Plan else (if bytes_eq word (codes "eval") then Some Eval else (if bytes_eq word (codes "run") then Some Run else (if bytes_eq word (codes "demo") then Some Demo else (if bytes_eq word (codes "compile") then Some Compile else (if bytes_eq word (codes "tune") then Some Tune else (if bytes_eq word (codes "span") then Some Span else None))))))))
 
 -- its further words: what the files that they name are for
 abbrev pub roles : Kind → List Role
@@ -177,6 +177,7 @@ roles Plan = program ∷ mapping ∷ machine ∷ []
 roles Eval = program ∷ mapping ∷ machine ∷ input ∷ []
 roles Run = program ∷ mapping ∷ machine ∷ input ∷ []
 roles Demo = []
+roles Compile = program ∷ mapping ∷ machine ∷ []
 roles Tune = program ∷ mapping ∷ machine ∷ []
 roles Span = program ∷ mapping ∷ machine ∷ cost ∷ []
 
@@ -244,6 +245,9 @@ all_files name its_mapping its_machine its_input = with_file input its_input (so
 abbrev pub plan_of : List ℕ → List ℕ → List ℕ → Command
 plan_of name its_mapping its_machine = command_with Plan (source_files name its_mapping its_machine) (with_no_file first) false
 
+abbrev pub compile_of : List ℕ → List ℕ → List ℕ → Command
+compile_of name its_mapping its_machine = command_with Compile (source_files name its_mapping its_machine) (with_no_file first) false
+
 abbrev pub tune_of : List ℕ → List ℕ → List ℕ → Command
 tune_of name its_mapping its_machine = command_with Tune (source_files name its_mapping its_machine) (with_no_file first) false
 
@@ -279,5 +283,6 @@ meant (ReadPlan words) = plan_of words.program.now words.mapping.now words.machi
 meant (ReadEval words) = eval_of words.program.now words.mapping.now words.machine.now words.input.now
 meant (ReadRun words) = run_of words.program.now words.mapping.now words.machine.now words.input.now (asked words.order) words.traced
 meant (ReadDemo words) = demo_of words.seed
+meant (ReadCompile words) = compile_of words.program.now words.mapping.now words.machine.now
 meant (ReadTune words) = tune_of words.program.now words.mapping.now words.machine.now
 meant (ReadSpan words) = span_of words.program.now words.mapping.now words.machine.now words.cost.now

@@ -14,6 +14,7 @@ pub enum Kind {
     Eval,
     Run,
     Demo,
+    Compile,
     Tune,
     Span,
 }
@@ -64,6 +65,14 @@ pub struct Demo {
     pub seed: u64,
 }
 
+/// `compile PROG MAP MACH`
+#[derive(Clone, Copy)]
+pub struct Compile<'a> {
+    pub program: &'a str,
+    pub mapping: &'a str,
+    pub machine: &'a str,
+}
+
 /// `tune PROG MAP MACH`
 #[derive(Clone, Copy)]
 pub struct Tune<'a> {
@@ -90,6 +99,7 @@ pub enum Command<'a> {
     Eval(Eval<'a>),
     Run(Run<'a>),
     Demo(Demo),
+    Compile(Compile<'a>),
     Tune(Tune<'a>),
     Span(Span<'a>),
 }
@@ -124,6 +134,8 @@ fn kind_for(word: &str) -> Option<Kind>
         Some(Kind::Run)
     } else if word == "demo" {
         Some(Kind::Demo)
+    } else if word == "compile" {
+        Some(Kind::Compile)
     } else if word == "tune" {
         Some(Kind::Tune)
     } else if word == "span" {
@@ -171,6 +183,11 @@ fn with_words(kind: Kind, words: &[String]) -> Option<Command<'_>>
             Some(seed) => Some(Command::Demo(Demo { seed })),
             None => None,
         },
+        (Kind::Compile, [program, mapping, machine]) => Some(Command::Compile(Compile {
+            program: program.as_str(),
+            mapping: mapping.as_str(),
+            machine: machine.as_str(),
+        })),
         (Kind::Tune, [program, mapping, machine]) => Some(Command::Tune(Tune {
             program: program.as_str(),
             mapping: mapping.as_str(),
