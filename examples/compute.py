@@ -15,6 +15,10 @@ def double(A):
     return {"B": ("int", [2 * a for a in A])}
 
 
+def chain(A):
+    return double(A)
+
+
 def blocks(A):
     return {"B": ("int", [2 * a for a in A])}
 
@@ -115,7 +119,7 @@ def main():
     differ = 0
     examples = (
         double, blocks, saxpy, matmul, product, convolution, stencil, prefix, histogram, dot, transpose, pairs, sort,
-        rotate, overlap,
+        rotate, overlap, chain,
     )
     for example in examples:
         folder = HERE / example.__name__

@@ -159,6 +159,8 @@ FILES = {
     "plan": ["program", "mapping", "machine"],
     "eval": ["program", "mapping", "machine", "data"],
     "run": ["program", "mapping", "machine", "data"],
+    "tune": ["program", "mapping", "machine"],
+    "span": ["program", "mapping", "machine", "cost"],
 }
 
 
