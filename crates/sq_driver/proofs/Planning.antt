@@ -3,6 +3,8 @@ use Rattle.std.proofs.Common.{◌≡◌, inl, inr, ℕ, List, [], ◌∷◌, Boo
 use Rattle.sq_port.specs.Ports.{Content}
 use Rattle.sq_text.specs.declared.code.Phase.TheVariants.{Program, Types, Machine, Mapping, Resolve, Race, Capacity}
 use Rattle.sq_ir.specs.declared.plan.Plan.{Plan}
+use Rattle.sq_ast.specs.declared.program.Program.{Program as Tree}
+use Rattle.sq_mapping.specs.declared.mapping.Mapping.{Mapping as Mapped}
 use Rattle.sq_machfile.specs.Machines.{Hierarchy}
 use Rattle.sq_spec.specs.declared.resolved.Resolved.{Resolved}
 use Rattle.sq_spec.specs.Works.{found_in}
@@ -34,6 +36,19 @@ use Rattle.sq_driver.proofs.Evaluations.{stops, closed_ends}
 use Rattle.sq_driver.proofs.Stopping.{memory_stops}
 
 -- ---- whichever the command is
+
+-- the same of equal names
+pub stops_named : (told : Option Content) (names that : Names) (end : End) → that ≡ names
+    → StopsSources told that.program that.mapping that.machine end
+    → StopsSources told names.program names.mapping names.machine end
+stops_named told names that end same stopped =
+    subst (λ (n : Names). StopsSources told n.program n.mapping n.machine end) same stopped
+
+pub holds_named : (told : Option Content) (names that : Names) (tree : Tree) (hierarchy : Hierarchy) (mapped : Mapped)
+    → that ≡ names → HoldsSources told that.program that.mapping that.machine tree hierarchy mapped
+    → HoldsSources told names.program names.mapping names.machine tree hierarchy mapped
+holds_named told names that tree hierarchy mapped same held =
+    subst (λ (n : Names). HoldsSources told n.program n.mapping n.machine tree hierarchy mapped) same held
 
 module _ (its : Command) (names : Names) (on : IsOnPlan its names) where
   pub its_told : (told : Option Content) (c : Content) → IsTold its told c → told ≡ Some c
