@@ -19,10 +19,10 @@ use std::alloc::{AllocError, Global};
 #[derive(Drop)]
 pub struct Choices {
     // The mapping of the first choice.
-    first: Mapping,
+    pub(crate) first: Mapping,
     // The tunables of each of its instances.
-    tunables: Items<Items<Ways>>,
-    number: u32,
+    pub(crate) tunables: Items<Items<Ways>>,
+    pub(crate) number: u32,
     ghost some: { 1 ≤ number },
     ghost few: { number ≤ most_choices },
 }

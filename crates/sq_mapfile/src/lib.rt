@@ -13,6 +13,7 @@ mod graph;
 mod instances;
 mod items;
 pub mod laws;
+mod parts;
 mod ranks;
 mod reader;
 mod reading;
@@ -27,4 +28,7 @@ mod tunings;
 mod walk;
 
 pub use choices::Choices;
+pub use digits::Digits;
 pub use reader::{read_choices, read_mapping};
+pub use text::Alternatives;
+pub use tunings::{Ways, digits_past};

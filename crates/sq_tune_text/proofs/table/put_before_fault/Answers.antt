@@ -1,0 +1,5 @@
+use Rattle.std.proofs.Common.{[]}
+use Rattle.sq_tune_text.proofs.table.put_before_fault.Goals as goal
+
+pub returns-clause-wrote : goal.returns-clause-wrote
+returns-clause-wrote g c = c.put.ensures.wrote _ _ _ (c.add_before_fault.ensures.gathers _ _ [] (c.new-line.ensures.begins _ _))
