@@ -25,7 +25,7 @@ use Rattle.sq_spec.specs.Works.{entry_arguments}
 use Rattle.sq_spec.specs.declared.body.FormBody.{FormBody}
 use Rattle.sq_spec.specs.declared.resolved.Resolved.{Resolved}
 use Rattle.sq_spec_laws.specs.Needs.{variant_for}
-use Rattle.sq_draft.specs.Term.Terms.{homes_in, buffer_or}
+use Rattle.sq_plan_good.specs.Term.Terms.{homes_in, buffer_or}
 use Rattle.sq_store.specs.Walk.{offsets_of}
 use Rattle.sq_plan_good.specs.Homes.declared.choice.Choice.{Choice}
 use Rattle.sq_plan_good.specs.Homes.Placed.declared.home.Homes.{Homes}
