@@ -19,7 +19,6 @@ use Rattle.sq_ir.specs.declared.plan.Note.{Note}
 use Rattle.sq_ir.specs.declared.plan.Note.TheVariants.{Overlap}
 use Rattle.sq_ir.specs.declared.plan.Plan.{Plan}
 use Rattle.sq_ir.specs.declared.plan.PlanNode.{PlanNode}
-use Rattle.sq_ir.specs.Blocks.declared.argument.Argument.{Argument}
 use Rattle.sq_spec.specs.Bodies.{body_of}
 use Rattle.sq_spec.specs.Works.{entry_arguments}
 use Rattle.sq_spec.specs.declared.body.FormBody.{FormBody}
@@ -32,16 +31,16 @@ use Rattle.sq_plan_good.specs.Homes.Placed.declared.home.Homes.{Homes}
 use Rattle.sq_plan_good.specs.Homes.Numbering.{standing, others, array_size, form_homes}
 use Rattle.sq_plan_good.specs.Homes.Drafts.{bodies_of, choice_in, instance_at, instance_by, level_by, rule_by, name_by, names_by, codes_in, homes_from, homes_of, buffer_at, buffers_from, buffers_of, leaves_in, leaves_from, leaves_of, extents_by, args_of, term_with, program_term, entry_of, IsDraftOf}
 use Rattle.sq_pass_laws.specs.Hoist.declared.sites.Site.{Site}
-use Rattle.sq_pass_laws.specs.Hoist.Choices.{body_at, choices_from, find_leaves, sites_from, sites_of, hoisted}
-use Rattle.sq_pass_laws.specs.Hoist.Notes.{param_at, param_name, notes_in, site_notes}
+use Rattle.sq_pass_laws.specs.Hoist.Choices.{choices_from, find_leaves, sites_from, sites_of, hoisted}
+use Rattle.sq_pass_laws.specs.Hoist.Notes.{param_name, notes_in, site_notes}
 use Rattle.sq_pass_laws.specs.Pipe.declared.candidate.Candidate.{Candidate}
 use Rattle.sq_pass_laws.specs.Pipe.declared.room.Room.{Room}
-use Rattle.sq_pass_laws.specs.Pipe.Runs.{Marks, flags_of, mark_below, unmarked, level_at, marks_called, marks_by, marks_from, marks_of, least_room, most_children, no_bound}
+use Rattle.sq_pass_laws.specs.Pipe.Runs.{Marks, flags_of, mark_below, unmarked, marks_called, marks_by, marks_from, marks_of, least_room, most_children, no_bound}
 use Rattle.sq_pass_laws.specs.Pipe.Greedy.{sizes_of, room_of, rooms_by, rooms_of, have_room, taken_from, candidates_in, candidates_by, candidates_of, none_taken, taken_of, overlaps_from, overlapped}
 use Rattle.sq_pass_laws.specs.Pipe.Notes.{overlap_notes, before_site, merged, notes_of}
 use Rattle.sq_plan_good.specs.DraftLaws.Memories.{plan_node}
 use Rattle.sq_plan_good.specs.Planned.{memories_of, IsPlacedFor}
-use Rattle.sq_compile.specs.Compiled.{IsPlanOf, PlansAreOne}
+use Rattle.sq_compile.specs.Compiled.{PlansAreOne}
 
 ap₃ : {A B C D : Type 0} (f : A → B → C → D) {a a' : A} {b b' : B} {c c' : C} → a ≡ a' → b ≡ b' → c ≡ c'
     → f a b c ≡ f a' b' c'
