@@ -96,11 +96,11 @@ module _ (p m k f : List ℕ) (told : Option Content) (r : Resolved) (plan : Pla
     module _ (law : PlansAreOne) (few : (its : Fault) → EventsFault plan its → ⊥) where
       no_fault : (c : Content) → told ≡ Some c → (its : Fault) → IsFirstOfCost (inputs_of c (span_of p m k f)) its → ⊥
       no_fault c is its (inl first) = (reads c is).no_fault its (
-          first.first.0,
-          first.first.1,
-          subst (λ (h : Hierarchy). IsFirstCostFault h.levels first.first.0 its)
-          ((holds.held.machine.held c is).one.only first.hierarchy first.machine_is) first.first.2,
-        )
+        first.first.0,
+        first.first.1,
+        subst (λ (h : Hierarchy). IsFirstCostFault h.levels first.first.0 its)
+            ((holds.held.machine.held c is).one.only first.hierarchy first.machine_is) first.first.2,
+      )
       no_fault c is its (inr many) = few its (subst (λ (q : Plan). EventsFault q its)
           (same_plan (span_of p m k f) reads_span p m k told r holds.are holds.held law plan holds.plan_is c is
           many.costed.its.sources many.costed.forms many.costed.its.are many.costed.plan many.costed.plan_is) many.many)

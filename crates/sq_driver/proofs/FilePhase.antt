@@ -112,7 +112,7 @@ module _ (p m k : List ℕ) (told : Option Content) (r : Resolved) (plan : Plan)
       text_cause : (c : Content) → told ≡ Some c → IsCause (compile_of p m k) c (done (laid_out (written file)) [])
       text_cause c is = (
         (let b = holds.passed c is in
-        (b.0, (b.1.0, (b.1.1.0, (b.1.1.1.0, (b.1.1.1.1.0, (b.1.1.1.1.1.0, (b.1.1.1.1.1.1.0, (file_passed c is, tt))))))))),
+            (b.0, (b.1.0, (b.1.1.0, (b.1.1.1.0, (b.1.1.1.1.0, (b.1.1.1.1.1.0, (b.1.1.1.1.1.1.0, (file_passed c is, tt))))))))),
         record { filed = filed c is; text = refl },
         λ trap no. no,
       )

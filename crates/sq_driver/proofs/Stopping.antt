@@ -39,8 +39,8 @@ module _ (command : Command) (told : Option Content) (phase : Phase) (Fails : Co
     (bank now_bank : BankSeen)
     (one : (c : Content) → IsTold command told c → told ≡ Some c)
     (reached : (c : Content) → IsTold command told c → Reached command c phase)
-    (faulty : (c : Content) → told ≡ Some c → (its : Fault) → Fails c its 
-        → IsFirstOf command.kind phase (inputs_of c command) its)
+    (faulty : (c : Content) → told ≡ Some c → (its : Fault) → Fails c its
+    → IsFirstOf command.kind phase (inputs_of c command) its)
     (left : AfterStop (is_open_at command.kind phase) command told bank now_bank)
     (kept : is_open_at command.kind phase ≡ false → now_bank ≡ bank) where
   pub phase_stops : (end : End) → Stops (is_open_at command.kind phase) phase told (file_of command phase) Fails end

@@ -40,6 +40,7 @@ impl<'a> Perform<'a> for Compile<'a> {
 
 impl<'a> OnPlan<'a> for Compile<'a> {
     ghost command = { λ words. compile_of words.program.now words.mapping.now words.machine.now };
+
     ghost sources = { λ words. record {
       program = words.program.now;
       mapping = words.mapping.now;

@@ -35,6 +35,7 @@ impl<'a> Perform<'a> for Plan<'a> {
 
 impl<'a> OnPlan<'a> for Plan<'a> {
     ghost command = { λ words. plan_of words.program.now words.mapping.now words.machine.now };
+
     ghost sources = { λ words. record {
       program = words.program.now;
       mapping = words.mapping.now;

@@ -40,6 +40,7 @@ impl<'a> Perform<'a> for Span<'a> {
 
 impl<'a> OnPlan<'a> for Span<'a> {
     ghost command = { λ words. span_of words.program.now words.mapping.now words.machine.now words.cost.now };
+
     ghost sources = { λ words. record {
       program = words.program.now;
       mapping = words.mapping.now;

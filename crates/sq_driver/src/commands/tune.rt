@@ -99,11 +99,7 @@ fn tried(
 }
 
 // Writes the table.
-fn write_table<'a, S: Sink>(
-    out: &mut S,
-    choices: &Choices,
-    table: &Table,
-) -> Result<(), End<'a>>
+fn write_table<'a, S: Sink>(out: &mut S, choices: &Choices, table: &Table) -> Result<(), End<'a>>
     ensures wrote { WroteOut (S.written out.old) (S.written out.new) (S.faults out.old) (S.faults out.new)
         (table_text choices.now table.now) result }
     ensures cause { (f : ℕ) (m : ℕ) → FileCauses f f m m (ending result) }

@@ -29,7 +29,9 @@ pub struct Passes<'a> {
 
 impl<'a> Planner for Passes<'a> {
     ghost program = { λ passes. passes.typed.now };
+
     ghost machine = { λ passes. passes.machine.now };
+
     ghost IsRow = { IsRow };
 
     fn row(&mut self, alloc: Global, mapping: &Mapping) -> Result<RowEnd, AllocError> {
