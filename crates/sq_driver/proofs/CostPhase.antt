@@ -50,7 +50,7 @@ module _ (p m k f : List ℕ) (told : Option Content) (r : Resolved) (plan : Pla
   its_told : (c : Content) → IsTold (span_of p m k f) told c → told ≡ Some c
   its_told c = one (span_of p m k f) reads_span p m k told c
 
-  its_sources : (c : Content) → told ≡ Some c → Sources (inputs_of c (span_of p m k f))
+  abbrev its_sources : (c : Content) → told ≡ Some c → Sources (inputs_of c (span_of p m k f))
   its_sources c is = sources (span_of p m k f) reads_span p m k told r.typed.now r.machine.now r.mapping.now holds.held
       c is
 
@@ -78,7 +78,7 @@ module _ (p m k f : List ℕ) (told : Option Content) (r : Resolved) (plan : Pla
       })) bank end reads)
 
   module _ (costs : List Cost) (reads : ReadsCosts r.machine.now.levels told f (Ok costs)) where
-    costed : (c : Content) → told ≡ Some c → Costed (inputs_of c (span_of p m k f))
+    abbrev costed : (c : Content) → told ≡ Some c → Costed (inputs_of c (span_of p m k f))
     costed c is = record {
       forms = r;
       its = record { sources = its_sources c is; are = holds.are };
@@ -130,8 +130,8 @@ module _ (p m k f : List ℕ) (told : Option Content) (r : Resolved) (plan : Pla
           → Evaluates (span_of p m k f) told out now_out faults now_faults result
       chain_ends (Ok value) wrote = chain_written (Ok value) wrote
       chain_ends (Err (Refused its)) ends = inr (record {
-        out_is = ends.1.0;
-        faults_is = ends.1.1;
+        out_is = ends.1;
+        faults_is = ends.2;
         stopped = λ bank. events_stop bank its ends.0;
       })
       chain_ends (Err NoMemory) ends = inr (record {

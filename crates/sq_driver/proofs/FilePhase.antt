@@ -127,8 +127,8 @@ module _ (p m k : List ℕ) (told : Option Content) (r : Resolved) (plan : Plan)
           → Evaluates (compile_of p m k) told out now_out faults now_faults result
       file_ends (Ok value) wrote = file_written (Ok value) wrote
       file_ends (Err (Refused its)) ends = inr (record {
-        out_is = ends.1.0;
-        faults_is = ends.1.1;
+        out_is = ends.1;
+        faults_is = ends.2;
         stopped = λ bank. file_stops bank its ends.0;
       })
       file_ends (Err NoMemory) ends = inr (record {

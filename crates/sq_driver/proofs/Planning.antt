@@ -77,16 +77,19 @@ module _ (its : Command) (names : Names) (on : IsOnPlan its names) where
           (capacity_ends its on.begun on.rest on.next names.program names.mapping names.machine told r.typed.now
           r.machine.now r.mapping.now held r are free bank end ends))
 
-      pub plan_held : LacksAreOne → NoneLacks r → (plan : Plan) → IsPlanOf r plan → HoldsPlan its names told r plan
-      plan_held law none plan plan_is = record {
-        are = are;
-        held = held;
-        passed = λ c is. subst (λ (x : Command). AllPassed x c
-            (Program ∷ Types ∷ Machine ∷ Mapping ∷ Resolve ∷ Race ∷ Capacity ∷ [])) (sym on.named)
-            (seven its on.begun on.rest on.next names.program names.mapping names.machine told r.typed.now
-            r.machine.now r.mapping.now held r are free law none c is);
-        plan_is = plan_is;
-      }
+  pub plan_held : (told : Option Content) (r : Resolved) → IsResolved r.typed.now r.machine.now r.mapping.now r
+      → HoldsSources told names.program names.mapping names.machine r.typed.now r.machine.now r.mapping.now
+      → IsFirstRace r None → LacksAreOne → NoneLacks r → (plan : Plan) → IsPlanOf r plan
+      → HoldsPlan its names told r plan
+  plan_held told r are held free law none plan plan_is = record {
+    are = are;
+    held = held;
+    passed = λ c is. subst (λ (x : Command). AllPassed x c
+        (Program ∷ Types ∷ Machine ∷ Mapping ∷ Resolve ∷ Race ∷ Capacity ∷ [])) (sym on.named)
+        (seven its on.begun on.rest on.next names.program names.mapping names.machine told r.typed.now
+        r.machine.now r.mapping.now held r are free law none c is);
+    plan_is = plan_is;
+  }
 
 -- the plan of forms that are found again is this one
 module _ (its : Command) (begun : ReadsSources its.kind) (p m k : List ℕ) (told : Option Content) (r : Resolved)
