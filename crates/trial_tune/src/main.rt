@@ -3,12 +3,8 @@
 #![tactic(auto)]
 
 ghost use Rattle.std.specs.Prelude.{◌<◌, ℕ};
-ghost use Rattle.sq_ast.specs.declared.program.Program.{Program};
-ghost use Rattle.sq_machfile.specs.Machines.{Hierarchy};
-ghost use Rattle.sq_mapping.specs.declared.mapping.Mapping.{Mapping};
 ghost use Rattle.sq_mapping.specs.Sound.{Sound};
 ghost use Rattle.sq_mapfile.specs.Made.{mapping_of};
-ghost use Rattle.sq_tune.specs.declared.row.RowEnd.{RowEnd};
 
 use fixture_cases::{Case, read_cases};
 use sq_machfile::{Machine, read_machine};
