@@ -2,6 +2,6 @@ mod Counted
 mod Examples
 mod Filling
 mod Lists
-mod Pieces
+pub mod Pieces
 mod Sums
 mod Texts

@@ -1,5 +1,5 @@
 -- One put after another, and texts of items one behind another.
-use Rattle.std.proofs.Common.{◌≡◌, ℕ, suc, ◌+◌, ◌<◌, List, [], ◌∷◌, ◌++◌, length, get_or, drop, append_assoc, Option, Result, Ok, Err, sym, ap, ◌∙◌, subst, add-one}
+use Rattle.std.proofs.Common.{◌≡◌, ℕ, suc, ◌+◌, ◌<◌, List, ◌∷◌, ◌++◌, length, get_or, drop, append_assoc, Option, Result, Ok, Err, sym, ap, ◌∙◌, subst, add-one}
 use Rattle.std.proofs.Math.Seq.{drop-cons}
 use Rattle.sq_port.specs.declared.sink.Failed.{Failed}
 use Rattle.sq_port.specs.Ports.{Rose, Wrote}

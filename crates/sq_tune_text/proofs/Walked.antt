@@ -2,7 +2,6 @@
 use Rattle.std.proofs.Common.{◌≡◌, ℕ, suc, ◌+◌, ◌<◌, ◌≤◌, Bool, if◌then◌else◌, List, [], ◌∷◌, ◌++◌, length, drop, get_or, slice_get, refl, sym, ◌∙◌, ap, ap₂, append_assoc, add-one, arith}
 use Rattle.std.proofs.Math.Seq.{drop-cons}
 use Rattle.std.proofs.lemmas.List.{append-nil, drop_all}
-use Rattle.sq_mapping.specs.declared.mapping.Tuning.{Tuning}
 use Rattle.sq_mapping.specs.declared.mapping.Instance.{Instance}
 use Rattle.sq_mapfile.specs.declared.tunings.Ways.{Ways}
 use Rattle.sq_mapfile.specs.declared.digits.Digits.{Digits}

@@ -1,4 +1,4 @@
-use Rattle.std.proofs.Common.{[], ◌++◌, refl, arith, slice_get}
+use Rattle.std.proofs.Common.{[], ◌++◌, refl, slice_get}
 use Rattle.sq_mapfile.specs.Chosen.{listed}
 use Rattle.sq_report.proofs.Pieces.{adds_nothing, and_then, as_piece}
 use Rattle.sq_tune_text.specs.Walk.{ways_text}

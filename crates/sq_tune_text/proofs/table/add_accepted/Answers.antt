@@ -1,5 +1,4 @@
-use Rattle.std.proofs.Common.{append_assoc}
-use Rattle.sq_report.proofs.Pieces.{and_then, as_piece}
+use Rattle.sq_report.proofs.Pieces.{and_then}
 use Rattle.sq_tune_text.proofs.table.add_accepted.Goals as goal
 
 pub returns : goal.returns
