@@ -19,6 +19,7 @@ pub mod OneAnswer
 pub mod OrderLists
 pub mod OrderPhase
 pub mod OutTexts
+pub mod Passing
 pub mod Picks
 pub mod Preparing
 pub mod Places

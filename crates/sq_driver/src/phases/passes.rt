@@ -2,6 +2,7 @@
 ghost use Rattle.std.specs.Prelude.{◌≡◌, ℕ, None, IfOk};
 ghost use Rattle.sq_compile.specs.Compiled.{IsPlanOf};
 ghost use Rattle.sq_race.specs.Race.{IsFirstRace};
+ghost use Rattle.sq_text.specs.declared.fault.Fault.{Fault as SpecFault};
 ghost use Rattle.sq_tune_text.specs.Traffic.{traffic_of};
 ghost use Rattle.sq_driver.specs.Choosing.{IsRow};
 ghost use Rattle.sq_driver.specs.Races.{IsResolved};
@@ -81,7 +82,7 @@ fn accepted(alloc: Global, resolved: &Resolved<'_>, plan: &Plan) -> Result<RowEn
 
 // A phase without a file ends with a fault, or for want of memory.
 fn refused(end: End<'_>) -> Result<RowEnd, AllocError>
-    ensures { (its : _) → end.entry ≡ End.Refused its → IfOk result (λ row. row ≡ RowEnd.Refused its) }
+    ensures { IfOk result (λ row. (its : SpecFault) × (end.entry ≡ End.Refused its) × (row ≡ RowEnd.Refused its)) }
 {
     match end {
         End::Refused(fault) => Ok(RowEnd::Refused(fault)),
