@@ -4,7 +4,7 @@
 mod print;
 mod text;
 
-pub use print::put_plan;
+pub use print::{put_head, put_leaf, put_plan, put_term};
 pub use text::{
     ArrayLine, ArrayLines, Binding, Bindings, BufferLine, BufferLines, EventText, LeafText,
     LeafTexts, Naturals, NodeLine, NodeLines, PLAN_LEVELS, PlanText, SlotText, TermText, TermTexts,
