@@ -1,0 +1,15 @@
+pub mod Joins
+pub mod Forms
+pub mod Stands
+pub mod Sizes
+pub mod Firsts
+pub mod Following
+pub mod Numbers
+pub mod Depths
+pub mod Worded
+pub mod Refusing
+pub mod Equations
+pub mod Exclusive
+pub mod WellFormed
+pub mod Again
+pub mod Stays

@@ -1,0 +1,9 @@
+pub mod File
+pub mod Left
+pub mod Written
+pub mod Limits
+pub mod Words
+pub mod Files
+pub mod Sound
+pub mod Faults
+pub mod Joined

@@ -1,0 +1,12 @@
+//! Reading the tokens of a plan file.
+#![tactic(auto)]
+
+mod cursor;
+mod events;
+mod file;
+mod lines;
+mod parse;
+mod pieces;
+mod terms;
+
+pub use parse::parse_plan;
