@@ -53,7 +53,7 @@ pub data Is (k : Kind) : List Token → List Token → Type 0 where
 first : (k : Kind) (t : Token) (ts : List Token) → t.kind ≡ k → Is k (t ∷ ts) ts
 first k t ts e = subst (λ k. Is k (t ∷ ts) ts) e this
 
-signed : (s : Sign) (k : Kind) → is_sign s k ≡ true → k ≡ tk.Sign s
+pub signed : (s : Sign) (k : Kind) → is_sign s k ≡ true → k ≡ tk.Sign s
 signed s (tk.Sign other) e = ap tk.Sign (same_true sign.the_type (search rules) other s e)
 signed s (tk.Word w) e = absurd (cc)
 signed s (tk.Number n) e = absurd (cc)
@@ -63,7 +63,7 @@ pub sign_seen : (s : Sign) (i : List Token) → sees_sign s i ≡ true → Is (t
 sign_seen s [] e = absurd (cc)
 sign_seen s (t ∷ ts) e = first (tk.Sign s) t ts (signed s t.kind e)
 
-worded : (w : List ℕ) (k : Kind) → is_word w k ≡ true → k ≡ tk.Word w
+pub worded : (w : List ℕ) (k : Kind) → is_word w k ≡ true → k ≡ tk.Word w
 worded w (tk.Word name) e = ap tk.Word ((bytes_eq-Decides name w).0 e)
 worded w (tk.Sign s) e = absurd (cc)
 worded w (tk.Number n) e = absurd (cc)
