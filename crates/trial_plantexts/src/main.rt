@@ -12,6 +12,9 @@ use std::fmt::Write;
 use std::io;
 use std::mem::forget;
 
+// Of a longer text the lines are counted.
+const MOST_LINES: usize = 20;
+
 fn main(rt: HostRuntime) -> io::Result<()> {
     let mut out = String::new(rt.alloc());
     for case in &read_cases(&rt, "texts.cases")? {
@@ -56,8 +59,12 @@ fn add_again(
     if again.as_slice() == text {
         return out.push_str(" same");
     }
-    out.push_str("\n")?;
-    out.push_str(str::from_utf8(again.as_slice()).unwrap_or("?").trim())
+    let again = str::from_utf8(again.as_slice()).unwrap_or("?").trim();
+    let lines = again.lines().count();
+    if lines > MOST_LINES {
+        return write!(out, " {lines} lines");
+    }
+    write!(out, "\n{again}")
 }
 
 fn add_stop(stop: &Stop, out: &mut String) -> Result<(), AllocError> {
