@@ -1,5 +1,5 @@
 -- What the grammar derives is read, up to the first token with a level too many: lines and whole files.
-use Rattle.std.proofs.Common.{◌≡◌, ℕ, zero, suc, ◌+◌, ◌≤◌, ℤ, pos, Bool, true, false, if◌then◌else◌, List, [], ◌∷◌, ◌++◌, length, Some, Ok, Err, refl, sym, ◌∙◌, ap, subst, arith, codes}
+use Rattle.std.proofs.Common.{◌≡◌, ℕ, zero, suc, ◌≤◌, ℤ, true, false, if◌then◌else◌, List, [], ◌∷◌, ◌++◌, Some, Ok, refl, ap, subst, arith, codes}
 use Rattle.std.specs.Str.{bytes_eq}
 use Rattle.sq_text.specs.declared.place.Place.{Place}
 use Rattle.sq_num.specs.declared.Elem.{Elem}

@@ -1,26 +1,18 @@
 -- What is read is derived: from a text of what is left after a phrase, one of what begins with it.
-use Rattle.std.proofs.Common.{◌≡◌, ℕ, zero, suc, ◌+◌, ◌≤◌, ℤ, pos, Bool, true, false, if◌then◌else◌, not, List, [], ◌∷◌, ◌++◌, length, Option, Some, None, Ok, Err, refl, sym, ◌∙◌, ap, subst, append_assoc, append-nil, arith, rules, codes}
-use Rattle.std.specs.Str.{bytes_eq}
+use Rattle.std.proofs.Common.{◌≡◌, ℕ, zero, suc, ℤ, pos, Bool, true, false, if◌then◌else◌, List, [], ◌∷◌, ◌++◌, length, Option, Some, None, Ok, Err, refl, sym, ◌∙◌, ap, subst, append_assoc, append-nil, rules}
 use Rattle.std.proofs.lemmas.Slice.Eq.{bytes_eq-Decides}
 use denote.Enum.Bare.{same_true}
 use Rattle.sq_text.specs.declared.place.Place.{Place}
-use Rattle.sq_num.specs.declared.Elem.{Elem}
-use Rattle.sq_num.specs.declared.RedOp.{RedOp}
 use Rattle.sq_lexer.specs.contracts.token.Sign as sign
 use Rattle.sq_lexer.specs.declared.token.Token.{Token}
 use Rattle.sq_lexer.specs.declared.token.Kind.{Kind}
 use Rattle.sq_lexer.specs.declared.token.Kind.TheVariants as tk
 use Rattle.sq_lexer.specs.declared.token.Sign.{Sign}
-use Rattle.sq_lexer.specs.declared.token.Sign.TheVariants as g
 use Rattle.sq_lexer.specs.Tokens.{token}
 use Rattle.sq_ast.specs.Grammar.{if_some}
-use Rattle.sq_plantext.specs.declared.text.SlotText.{SlotText}
-use Rattle.sq_plantext.specs.declared.text.ViewText.{ViewText}
-use Rattle.sq_plantext.specs.declared.text.EventText.{EventText}
-use Rattle.sq_plantext.specs.Grammar as grammar
-use Rattle.sq_plantext.specs.Grammar.{Leveled, at, word, number, sign, tokens_of, Phrase, Derives, Within}
+use Rattle.sq_plantext.specs.Grammar.{Leveled, tokens_of, Phrase, Derives, Within}
 use Rattle.sq_reader.specs.declared.error.ParseError.TheVariants.{Syntax}
-use Rattle.sq_planread.specs.Reading.{Outcome, Reader, and_then, next, kind, is_word, is_sign, name_in, natural_in, natural_from, sees_word, sees_sign, expect_word, expect_sign, expect_some, any_word, natural, opening, deeper, many_from, many_after, separated, after_comma}
+use Rattle.sq_planread.specs.Reading.{Outcome, Reader, and_then, next, is_word, is_sign, name_in, natural_in, natural_from, sees_word, sees_sign, expect_word, expect_sign, expect_some, any_word, natural, opening, deeper, many_from, many_after}
 
 -- ---- outcomes
 

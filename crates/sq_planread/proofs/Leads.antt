@@ -1,7 +1,6 @@
 -- Reading a text of the grammar: it goes on from token to token, up to the first that has a level too many.
-use Rattle.std.proofs.Common.{◌≡◌, ℕ, suc, ◌+◌, ◌≤◌, ◌<◌, Bool, true, false, if◌then◌else◌, List, [], ◌∷◌, ◌++◌, length, Ok, Err, refl, sym, ◌∙◌, ap, subst, arith, ◌⊎◌, inl, inr}
-use Rattle.sq_lexer.specs.declared.token.Token.{Token}
-use Rattle.sq_reader.specs.declared.error.ParseError.TheVariants.{Syntax, TooDeep}
+use Rattle.std.proofs.Common.{◌≡◌, ℕ, ◌≤◌, ◌<◌, List, [], ◌∷◌, ◌++◌, length, Ok, Err, refl, sym, ap, subst, arith, ◌⊎◌, inl, inr}
+use Rattle.sq_reader.specs.declared.error.ParseError.TheVariants.{TooDeep}
 use Rattle.sq_plantext.specs.Grammar.{Leveled, tokens_of, Within}
 use Rattle.sq_planread.specs.Reading.{Outcome, Reader, and_then}
 

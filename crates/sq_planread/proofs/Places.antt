@@ -1,5 +1,5 @@
 -- Where the parser refuses a plan file, in the grammar's words.
-use Rattle.std.proofs.Common.{◌≡◌, ℕ, suc, ◌+◌, ◌-◌, ◌≤◌, ◌<◌, Bool, true, false, if◌then◌else◌, List, [], ◌∷◌, ◌++◌, length, take, Option, Some, None, Ok, Err, refl, sym, ◌∙◌, ap, subst, append_assoc, length-append, arith, ◌⊎◌, inl, inr}
+use Rattle.std.proofs.Common.{◌≡◌, ℕ, suc, ◌+◌, ◌-◌, ◌≤◌, Bool, true, false, if◌then◌else◌, List, [], ◌∷◌, ◌++◌, length, take, Some, Ok, Err, refl, sym, ◌∙◌, ap, subst, append_assoc, length-append, arith, ◌⊎◌, inl, inr}
 use Rattle.std.specs.Prelude.{slice_get}
 use Rattle.std.proofs.Math.Seq.{take-append_seam}
 use Rattle.sq_text.specs.declared.place.Place.{Place}
@@ -340,3 +340,25 @@ module _ (most levels : ℕ) (given_task : Given ATask) (stops_task : (i : List 
       let s = stops ts (end_last ts end) in
       let there_too : plan (s.front ++ s.next ∷ s.later) ≡ Err (TooDeep n) = ap plan (sym s.is) ∙ e in
       subst (λ ts. DeepHalt ts n) (sym s.is) (deep_by s.way s.front s.next s.later n (not_deep s.way n (s.front ++ s.next ∷ s.later) (s.next ∷ s.later) (s.says tt s.later) there_too) (λ more. s.says tt more) s.told there_too)
+
+  -- ---- memory
+
+  finish_left : (r : List Token) (a : PlanText) → and_then (finish r) (λ u j. Ok (a, j)) ≡ Err OutOfMemory → ⊥
+  finish_left [] a e = cc
+  finish_left (t ∷ []) a e = one_left (is_end t.kind) e
+    where
+      one_left : (b : Bool) → and_then (if b then Ok (tt {0}, []) else Err (Syntax 1)) (λ u j. Ok (a, j)) ≡ Err OutOfMemory → ⊥
+      one_left true q = cc
+      one_left false q = cc
+  finish_left (t ∷ u ∷ ts) a e = cc
+
+  memory_by : (way : Way) (i r : List Token) → Ends way r (most_of i) → plan i ≡ Err OutOfMemory → ⊥
+  memory_by Reads i r h e = finish_left r h.0 (sym (by_parts i _ h.1) ∙ e)
+  memory_by Refuses i r h e = let both : ◌≡◌ {A = Outcome PlanText} (Err (Syntax (length r))) (Err OutOfMemory) = sym (by_parts i _ h) ∙ e in cc
+  memory_by Opens i r h e = let both : ◌≡◌ {A = Outcome PlanText} (Err (TooDeep (length r))) (Err OutOfMemory) = sym (by_parts i _ h) ∙ e in cc
+
+  -- the reader itself never wants any
+  pub no_memory : (ts : List Token) → HasEnd ts → plan ts ≡ Err OutOfMemory → ⊥
+  no_memory ts end e =
+      let s = stops ts (end_last ts end) in
+      memory_by s.way (s.front ++ s.next ∷ s.later) (s.next ∷ s.later) (s.says tt s.later) (ap plan (sym s.is) ∙ e)

@@ -1,6 +1,6 @@
 -- What a reader does up to a token, whatever tokens stand behind it: before the token it has read its phrase, or it
 -- refuses the token, or the token opens a level too many. What stands before is its phrase, or begins it.
-use Rattle.std.proofs.Common.{◌≡◌, ◌≢◌, ℕ, zero, suc, ◌+◌, ◌≤◌, ◌<◌, ℤ, pos, Bool, true, false, if◌then◌else◌, List, [], ◌∷◌, ◌++◌, length, Option, Some, None, Ok, Err, refl, sym, ◌∙◌, ap, subst, append_assoc, append-nil, length-append, arith}
+use Rattle.std.proofs.Common.{◌≡◌, ◌≢◌, ℕ, zero, suc, ◌≤◌, Bool, true, false, if◌then◌else◌, List, [], ◌∷◌, ◌++◌, length, Option, Some, None, Ok, Err, refl, sym, ◌∙◌, ap, subst, append_assoc, length-append, arith}
 use Rattle.sq_text.specs.declared.place.Place.{Place}
 use Rattle.sq_lexer.specs.declared.token.Token.{Token}
 use Rattle.sq_lexer.specs.declared.token.Kind.{Kind}
@@ -11,7 +11,7 @@ use Rattle.sq_lexer.specs.Tokens.{token, HasEnd}
 use Rattle.sq_ast.specs.Grammar.{if_some}
 use Rattle.sq_reader.specs.declared.error.ParseError.TheVariants.{Syntax, TooDeep}
 use Rattle.sq_plantext.specs.Grammar.{Leveled, at, tokens_of}
-use Rattle.sq_planread.specs.Reading.{Outcome, Reader, and_then, place, nowhere, is_word, is_sign, name_in, natural_in, natural_from, sees_word, sees_sign, expect_word, expect_sign, expect_some, any_word, natural, opening, deeper, many_from, many_after, separated, after_comma}
+use Rattle.sq_planread.specs.Reading.{Outcome, Reader, and_then, place, nowhere, is_word, is_sign, sees_sign, expect_word, expect_sign, expect_some, opening, deeper, many_from, many_after, separated, after_comma}
 use Rattle.sq_planread.proofs.Found.{signed, worded}
 use Rattle.sq_planread.proofs.Complete.{tokens_append}
 

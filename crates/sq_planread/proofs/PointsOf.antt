@@ -1,5 +1,5 @@
 -- Where the readers of lists, events and terms stop.
-use Rattle.std.proofs.Common.{◌≡◌, ◌≢◌, ℕ, zero, suc, ◌+◌, ◌≤◌, ℤ, pos, negsuc, ◌==◌, Bool, true, false, if◌then◌else◌, List, [], ◌∷◌, ◌++◌, Option, Some, None, Ok, Err, refl, sym, ◌∙◌, ap, subst, arith, codes}
+use Rattle.std.proofs.Common.{◌≡◌, ℕ, zero, suc, pos, negsuc, ◌==◌, Bool, true, false, if◌then◌else◌, List, [], ◌∷◌, Some, None, Ok, refl, sym, subst, arith, codes}
 use Rattle.std.proofs.lemmas.Bool.{eqb-true}
 use Rattle.sq_text.specs.declared.place.Place.{Place}
 use Rattle.sq_num.specs.declared.Elem.TheVariants.{Int}
@@ -7,7 +7,6 @@ use Rattle.sq_lexer.specs.declared.token.Token.{Token}
 use Rattle.sq_lexer.specs.declared.token.Kind.{Kind}
 use Rattle.sq_lexer.specs.declared.token.Kind.TheVariants as tk
 use Rattle.sq_lexer.specs.declared.token.Sign.TheVariants as g
-use Rattle.sq_lexer.specs.Tokens.{token}
 use Rattle.sq_ast.specs.Symbols.{keyword_of}
 use Rattle.sq_plantext.specs.declared.text.EventText.{EventText}
 use Rattle.sq_plantext.specs.declared.text.TermText.{TermText}
@@ -16,9 +15,8 @@ use Rattle.sq_plantext.specs.Grammar as grammar
 use Rattle.sq_plantext.specs.Grammar.{Leveled, at, word, number, sign, Phrase, Derives, elem_of, operator_of}
 use Rattle.sq_planread.specs.Reading as reading
 use Rattle.sq_planread.specs.Reading.{Outcome, Reader, and_then, ◌>>=◌, ◌>>◌, pure, take_token, place, nowhere, next, name_in, natural_in, one_in, sees_word, sees_sign, expect_word, expect_sign, expect_some, any_word, natural, opening, many_after, separated, after_comma, goes_on, term, term_by, inner, event}
-use Rattle.sq_planread.proofs.Steps.{term_is}
 use Rattle.sq_planread.proofs.Found.{signed, worded}
-use Rattle.sq_planread.proofs.Points.{Ended, Rel, Both, both, Nothing, nothing, Star, no_more, one_more, Fixed, fixed, OfTable, of_table, Given, given_both, given_as, given_nothing, given_fixed, given_table, given_star, Stops, stops_as, stops_alike, loosen, stops_for, stops_pure, then_, either, skips, refused_at, stops_sign, stops_word, stops_table, stops_open, stops_many, behind_word, behind_sign, stops_separated, stops_placed}
+use Rattle.sq_planread.proofs.Points.{Ended, Rel, Both, both, Nothing, nothing, Star, no_more, one_more, Fixed, fixed, OfTable, of_table, Given, given_both, given_as, given_nothing, given_fixed, given_table, Stops, stops_as, stops_for, stops_pure, then_, either, skips, refused_at, stops_sign, stops_table, stops_open, stops_many, behind_word, behind_sign, stops_separated, stops_placed}
 
 -- a phrase, whatever it stands for
 abbrev pub Phr : {V : Type 0} → (V → Phrase) → Rel

@@ -1,10 +1,9 @@
 -- Where the readers of lines and of what stands before the end of a file stop.
-use Rattle.std.proofs.Common.{◌≡◌, ◌≢◌, ℕ, zero, suc, ◌+◌, ◌≤◌, pos, true, List, [], ◌∷◌, ◌++◌, Option, Some, None, Ok, Err, refl, sym, ◌∙◌, ap, subst, arith, codes}
+use Rattle.std.proofs.Common.{◌≡◌, ℕ, pos, true, List, [], ◌∷◌, ◌++◌, Ok, Err, refl, subst, codes}
 use Rattle.sq_text.specs.declared.place.Place.{Place}
 use Rattle.sq_lexer.specs.declared.token.Token.{Token}
 use Rattle.sq_lexer.specs.declared.token.Kind.TheVariants as tk
 use Rattle.sq_lexer.specs.declared.token.Sign.TheVariants as g
-use Rattle.sq_lexer.specs.Tokens.{token}
 use Rattle.sq_ast.specs.declared.program.Mode.TheVariants.{Input}
 use Rattle.sq_ast.specs.declared.program.Variant.{Variant}
 use Rattle.sq_ast.specs.declared.program.VariantKind.TheVariants as kinds
@@ -19,8 +18,8 @@ use Rattle.sq_plantext.specs.Grammar as grammar
 use Rattle.sq_plantext.specs.Grammar.{Leveled, at, word, number, sign, symbols, unleveled, Phrase, Derives, mode_of, plan_text}
 use Rattle.sq_planread.specs.Reading as reading
 use Rattle.sq_planread.specs.Reading.{Outcome, Reader, and_then, ◌>>=◌, ◌>>◌, pure, place, nowhere, sees_word, sees_sign, expect_word, expect_sign, expect_some, any_word, natural, opening, many_after, separated, after_comma, after_word}
-use Rattle.sq_planread.proofs.Found.{signed, worded}
-use Rattle.sq_planread.proofs.Points.{Ended, Rel, Both, both, Nothing, nothing, Star, no_more, one_more, Fixed, fixed, OfTable, of_table, Given, given_both, given_as, given_nothing, given_fixed, given_table, given_star, Stops, stops_as, stops_alike, loosen, stops_for, stops_pure, then_, skips, stops_sign, stops_word, stops_table, stops_open, stops_many, behind_word, stops_separated, stops_placed}
+use Rattle.sq_planread.proofs.Found.{worded}
+use Rattle.sq_planread.proofs.Points.{Ended, Rel, Both, both, Nothing, nothing, Star, no_more, one_more, Fixed, fixed, OfTable, of_table, Given, given_both, given_nothing, given_fixed, Stops, stops_as, stops_for, stops_pure, then_, skips, stops_sign, stops_word, stops_table, stops_open, stops_many, behind_word, stops_separated, stops_placed}
 use Rattle.sq_planread.proofs.PointsOf.{Phr, ANumber, a_num, AWord, a_word, given_number, given_word, stops_natural, stops_name, stops_one, AnElem, given_elem, stops_elem, given_list, stops_list, stops_value, given_term, stops_term}
 
 -- a line, whatever lines come after it

@@ -1,8 +1,7 @@
 -- What stands before the symbol at which a leaf's task is refused begins one.
-use Rattle.std.proofs.Common.{◌≡◌, ◌≢◌, ℕ, zero, suc, pos, ◌+◌, ◌-◌, ◌≤◌, ◌<◌, Bool, true, false, List, [], ◌∷◌, ◌++◌, length, Option, Some, None, Ok, Err, refl, sym, ◌∙◌, ap, subst, append_assoc, length-append, arith, ◌⊎◌, inl, inr}
+use Rattle.std.proofs.Common.{◌≡◌, ℕ, suc, pos, ◌+◌, ◌≤◌, List, [], ◌∷◌, ◌++◌, length, Ok, Err, refl, sym, ◌∙◌, ap, subst, append_assoc, length-append, arith, ◌⊎◌, inl, inr}
 use Rattle.sq_text.specs.declared.place.Place.{Place}
 use Rattle.sq_lexer.specs.declared.token.Token.{Token}
-use Rattle.sq_lexer.specs.declared.token.Kind.{Kind}
 use Rattle.sq_lexer.specs.declared.token.Kind.TheVariants as tk
 use Rattle.sq_lexer.specs.declared.token.Sign.TheVariants as g
 use Rattle.sq_lexer.specs.Tokens.{token}
@@ -17,17 +16,15 @@ use Rattle.sq_ast.specs.Symbols.{Symbol, Word, Number, Key, Mark, Last, class_at
 use Rattle.sq_ast.specs.Symbols as sym_of
 use Rattle.sq_ast.specs.Grammar as grammar
 use Rattle.sq_ast.specs.Grammar.{Leveled, at, kinds, Within, Any, AtMost, Derives}
-use Rattle.sq_reader.specs.declared.error.ParseError.{ParseError}
-use Rattle.sq_reader.specs.declared.error.ParseError.TheVariants.{OutOfMemory, Syntax, TooDeep}
-use Rattle.sq_reader.specs.Reading.{Outcome, nowhere, leaf, task}
-use Rattle.sq_reader.proofs.Machine.{Sort, This, AWord, AMode, AnElem, ARedOp, AnAssign, AnExtent, Zero, allows, Turn, AfterTunable, AfterSet, AfterPath, Owed, Token as Due, One, Many, After, run, Verdict}
+use Rattle.sq_reader.specs.Reading.{Outcome, nowhere, task}
+use Rattle.sq_reader.proofs.Machine.{Sort, This, AWord, AMode, AnElem, ARedOp, AnAssign, AnExtent, Zero, Turn, AfterTunable, AfterSet, AfterPath, Owed, Token as Due, One, Many, After, run, Verdict}
 use Rattle.sq_reader.proofs.Steps.{fixed_at}
 use Rattle.sq_reader.proofs.Readings.{Reading}
 use Rattle.sq_reader.proofs.Programs.{task_reads}
-use Rattle.sq_reader.proofs.Runs.{Reaches, here, reads, goes_on, one_on}
-use Rattle.sq_reader.proofs.Ready.{Ready, last, a_token, owes, IsPhrase, sample, spelling, completion, completed, reached}
+use Rattle.sq_reader.proofs.Runs.{Reaches, goes_on}
+use Rattle.sq_reader.proofs.Ready.{Ready, last, a_token, owes, sample, spelling, completion, completed, reached}
 use Rattle.sq_reader.proofs.LeavesAlone.{LeafFound, leaf_found, plain}
-use Rattle.sq_planread.proofs.TaskEnds.{Own, own}
+use Rattle.sq_planread.proofs.TaskEnds.{own}
 use Rattle.sq_planread.proofs.TaskRuns.{Head, alone, rest_of, head_run, kinds_plain}
 
 -- ---- tokens that are seen as these symbols

@@ -1,12 +1,11 @@
 -- A leaf's task of the grammar is read, up to the first token with a level too many.
-use Rattle.std.proofs.Common.{◌≡◌, ℕ, suc, ◌+◌, ◌≤◌, ◌<◌, List, [], ◌∷◌, ◌++◌, length, Ok, Err, refl, sym, ◌∙◌, ap, subst, append_assoc, length-append, arith, ◌⊎◌, inl, inr}
-use Rattle.sq_lexer.specs.declared.token.Token.{Token}
+use Rattle.std.proofs.Common.{◌≡◌, ℕ, suc, ◌+◌, ◌<◌, List, [], ◌∷◌, ◌++◌, length, Ok, Err, refl, sym, ◌∙◌, ap, subst, length-append, arith, ◌⊎◌, inl, inr}
 use Rattle.sq_ast.specs.declared.program.Variant.{Variant}
 use Rattle.sq_ast.specs.declared.program.VariantKind.TheVariants as kinds_of
 use Rattle.sq_ast.specs.Symbols.{Symbol, symbol_in}
 use Rattle.sq_ast.specs.Symbols as sym_of
 use Rattle.sq_ast.specs.Grammar as ast
-use Rattle.sq_reader.specs.declared.error.ParseError.TheVariants.{Syntax, TooDeep}
+use Rattle.sq_reader.specs.declared.error.ParseError.TheVariants.{TooDeep}
 use Rattle.sq_reader.specs.Reading as reader
 use Rattle.sq_reader.proofs.LeavesAlone.{plain}
 use Rattle.sq_plantext.specs.Grammar as grammar

@@ -1,6 +1,6 @@
 -- A leaf's task, by the machine that reads programs: where it stops, whatever stands behind.
-use Rattle.std.proofs.Common.{◌≡◌, ◌≢◌, ℕ, zero, suc, ◌+◌, ◌≤◌, ◌<◌, Bool, true, false, if◌then◌else◌, leb, List, [], ◌∷◌, ◌++◌, length, Option, Some, None, Ok, Err, refl, sym, ◌∙◌, ap, subst, append_assoc, length-append, arith, ◌⊎◌, inl, inr}
-use Rattle.std.proofs.lemmas.Bool.{leb-true, leb-false, le-leb}
+use Rattle.std.proofs.Common.{◌≡◌, ◌≢◌, ℕ, suc, ◌+◌, ◌≤◌, ◌<◌, Bool, true, false, if◌then◌else◌, leb, List, [], ◌∷◌, ◌++◌, length, Option, Some, None, Ok, Err, refl, sym, ◌∙◌, ap, subst, append_assoc, length-append, arith, ◌⊎◌, inl, inr}
+use Rattle.std.proofs.lemmas.Bool.{leb-true, leb-false}
 use Rattle.sq_text.specs.declared.place.Place.{Place}
 use Rattle.sq_lexer.specs.declared.token.Sign.TheVariants as g
 use Rattle.sq_ast.specs.declared.keyword.Keyword.TheVariants as k
@@ -13,15 +13,15 @@ use Rattle.sq_ast.specs.Grammar.{Leveled, at, kinds, Within, Any, AtMost, Derive
 use Rattle.sq_reader.specs.declared.error.ParseError.{ParseError}
 use Rattle.sq_reader.specs.declared.error.ParseError.TheVariants.{OutOfMemory, Syntax, TooDeep}
 use Rattle.sq_reader.specs.Reading.{Outcome, nowhere, leaf, leaf_named, task, task_named, variant}
-use Rattle.sq_reader.proofs.Machine.{This, AWord, allows, Owed, Token, One, Many, Move, Eat, Skip, Stop, at_end, step, moved, owe, settle, Verdict, ended, found, run, labeled, label}
+use Rattle.sq_reader.proofs.Machine.{This, Owed, Token, One, Many, Move, Eat, Skip, Stop, at_end, step, moved, owe, settle, Verdict, ended, found, run, labeled, label}
 use Rattle.sq_reader.proofs.Steps.{same_self}
 use Rattle.sq_reader.proofs.Labeled.{kinds_label}
 use Rattle.sq_reader.proofs.Labels.{labels}
 use Rattle.sq_reader.proofs.Readings.{Reading, fits, too_many}
 use Rattle.sq_reader.proofs.Programs.{task_reads}
-use Rattle.sq_reader.proofs.Runs.{Reaches, here, reads, goes_on, Halt, Stuck, Opening, syntax_halts, deep_halts}
+use Rattle.sq_reader.proofs.Runs.{Reaches, goes_on, Stuck, Opening, syntax_halts, deep_halts}
 use Rattle.sq_reader.proofs.LeavesAlone.{leaf_complete, plain}
-use Rattle.sq_planread.proofs.Places.{Split, same_split}
+use Rattle.sq_planread.proofs.Places.{same_split}
 
 -- ---- the head of a leaf
 

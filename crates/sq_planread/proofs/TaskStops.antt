@@ -1,18 +1,14 @@
 -- Where the reader of a leaf's task stops.
-use Rattle.std.proofs.Common.{◌≡◌, ◌≢◌, ℕ, zero, suc, pos, ◌+◌, ◌-◌, ◌≤◌, ◌<◌, List, [], ◌∷◌, ◌++◌, length, drop, Some, Ok, Err, refl, sym, ◌∙◌, ap, subst, append_assoc, append-nil, length-append, arith, ◌⊎◌, inl, inr}
+use Rattle.std.proofs.Common.{◌≡◌, ℕ, suc, pos, ◌+◌, ◌≤◌, List, [], ◌∷◌, ◌++◌, length, Some, Ok, Err, refl, sym, ◌∙◌, ap, subst, append_assoc, append-nil, length-append, arith, ◌⊎◌, inl, inr}
 use Rattle.sq_text.specs.declared.place.Place.{Place}
 use Rattle.sq_lexer.specs.declared.token.Token.{Token}
-use Rattle.sq_lexer.specs.declared.token.Kind.{Kind}
-use Rattle.sq_lexer.specs.declared.token.Kind.TheVariants as tk
 use Rattle.sq_lexer.specs.declared.token.Sign.TheVariants as g
 use Rattle.sq_ast.specs.declared.keyword.Keyword.TheVariants as k
-use Rattle.sq_ast.specs.declared.class.Class.{Class}
 use Rattle.sq_ast.specs.declared.class.Class.TheVariants as c
 use Rattle.sq_num.specs.declared.Elem.TheVariants.{Byte}
 use Rattle.sq_ast.specs.declared.program.Mode.TheVariants.{Input}
 use Rattle.sq_ast.specs.declared.program.Extent.TheVariants.{Fixed}
 use Rattle.sq_ast.specs.declared.program.Variant.{Variant}
-use Rattle.sq_ast.specs.declared.program.VariantKind.TheVariants as kinds_of
 use Rattle.sq_ast.specs.Symbols.{Symbol, Word, Number, Key, Mark, Last, class_at, symbol_in, keyword_of}
 use Rattle.sq_ast.specs.Symbols as sym_of
 use Rattle.sq_ast.specs.Grammar as ast
@@ -22,22 +18,20 @@ use Rattle.sq_reader.specs.declared.error.ParseError.TheVariants.{OutOfMemory, S
 use Rattle.sq_reader.specs.Reading as reader
 use Rattle.sq_reader.specs.Reading.{nowhere, leaf, leaf_named}
 use Rattle.sq_reader.proofs.LeavesAlone.{LeafFound, leaf_found, plain}
-use Rattle.sq_reader.proofs.Runs.{Reaches, here, reads, one_on, Halt, Stuck, Opening, syntax_halts, deep_halts}
+use Rattle.sq_reader.proofs.Runs.{Reaches, here, reads, one_on, Stuck, Opening, syntax_halts, deep_halts}
 use Rattle.sq_reader.proofs.Ready.{Ready, reached, end_ends}
-use Rattle.sq_reader.proofs.Machine.{Owed, settle, run, ended, Verdict}
+use Rattle.sq_reader.proofs.Machine.{Owed, settle, ended, Verdict}
 use Rattle.sq_plantext.specs.Grammar as grammar
 use Rattle.sq_plantext.specs.Grammar.{Leveled, tokens_of, symbols, unleveled, Within}
 use Rattle.sq_planread.specs.Reading as reading
 use Rattle.sq_planread.specs.Reading.{Outcome, back}
-use Rattle.sq_planread.proofs.Tasks as tasks
-use Rattle.sq_planread.proofs.Tasks.{Split, split, symbols_length, symbols_append, kinds_append, task_complete}
+use Rattle.sq_planread.proofs.Tasks.{split, symbols_length, symbols_append, kinds_append, task_complete}
 use Rattle.sq_planread.proofs.Complete.{tokens_append}
-use Rattle.sq_planread.proofs.Points.{Ended, Given, Begins, Whole, Way, Reads, Refuses, Opens, Ends, Told, whole, begun, opened, Stops}
+use Rattle.sq_planread.proofs.Points.{Ended, Given, Begins, Reads, Refuses, Opens, whole, begun, opened, Stops}
 use Rattle.sq_planread.proofs.PointsOfLines.{ATask}
-use Rattle.sq_planread.proofs.TaskRuns as runs
-use Rattle.sq_planread.proofs.TaskRuns.{Head, named_head, void_head, alone, rest_of, refusing, refused_within, refuses_again, opens_again, after_head, no_memory, kinds_plain}
+use Rattle.sq_planread.proofs.TaskRuns.{Head, named_head, void_head, rest_of, refused_within, refuses_again, opens_again, after_head, no_memory, kinds_plain}
 use Rattle.sq_planread.proofs.TaskBegins.{Seen, seen_key, seen_mark, seen_zero, seen_a, LeafBegun, leaf_begun, any_behind, Ending, head_ready, cancel}
-use Rattle.sq_planread.proofs.TaskEnds.{Own, own}
+use Rattle.sq_planread.proofs.TaskEnds.{own}
 
 -- ---- symbols that end
 

@@ -1,5 +1,5 @@
 -- A leaf's task within a plan file: what the parser of programs reads is derived, and what is derived is read.
-use Rattle.std.proofs.Common.{◌≡◌, ℕ, zero, suc, ◌+◌, ◌-◌, ◌≤◌, List, [], ◌∷◌, ◌++◌, length, drop, Ok, Err, refl, sym, ◌∙◌, ap, subst, arith, length-append}
+use Rattle.std.proofs.Common.{◌≡◌, ℕ, suc, ◌+◌, ◌-◌, List, [], ◌∷◌, ◌++◌, length, drop, Ok, Err, refl, sym, ◌∙◌, ap, subst, arith, length-append}
 use Rattle.sq_lexer.specs.declared.token.Token.{Token}
 use Rattle.sq_ast.specs.declared.program.Variant.{Variant}
 use Rattle.sq_ast.specs.declared.program.VariantKind.TheVariants as kinds
@@ -13,8 +13,8 @@ use Rattle.sq_plantext.specs.Grammar.{Leveled, tokens_of, symbols, unleveled, Wi
 use Rattle.sq_planread.specs.Reading as reading
 use Rattle.sq_planread.specs.Reading.{Outcome, back}
 use Rattle.sq_planread.proofs.Found.{Reading}
-use Rattle.sq_planread.proofs.DerivedLines.{Task, IsTask}
-use Rattle.sq_planread.proofs.Complete.{tokens_append, within_behind}
+use Rattle.sq_planread.proofs.DerivedLines.{IsTask}
+use Rattle.sq_planread.proofs.Complete.{tokens_append}
 
 -- ---- tokens as symbols
 

@@ -1,5 +1,5 @@
 -- A plan file is read exactly as what its tokens stand for.
-use Rattle.std.proofs.Common.{◌≡◌, ◌≢◌, ℕ, ◌+◌, ◌∙◌, sym, ◌-◌, length, Option, Some, ap, subst, List, [], Ok, Err, refl, arith, inl, inr}
+use Rattle.std.proofs.Common.{◌≡◌, ◌≢◌, ℕ, ◌+◌, ◌∙◌, sym, ◌-◌, length, Some, ap, subst, List, [], Ok, Err, refl, arith, ◌⊎◌, inl, inr}
 use Rattle.std.specs.Prelude.{slice_get}
 use Rattle.sq_text.specs.Answers.{Gives, IfRefused, Refuses}
 use Rattle.sq_reader.specs.declared.error.ParseError.{ParseError}
@@ -23,7 +23,7 @@ use Rattle.sq_planread.proofs.CompleteLines.{plan_complete}
 use Rattle.sq_planread.proofs.Tasks.{task_read}
 use Rattle.sq_planread.proofs.TaskStops.{given_task, stops_task}
 use Rattle.sq_planread.proofs.TaskLeads.{task_leads}
-use Rattle.sq_planread.proofs.Places.{syntax_at, deep_at}
+use Rattle.sq_planread.proofs.Places.{syntax_at, deep_at, no_memory}
 use Rattle.sq_planread.proofs.Unique.{one_fault, no_fault}
 
 -- the levels of a task and those that are counted round it
@@ -88,3 +88,14 @@ refuses ts (TooDeep n) g end e f = one_fault ts _ g (refused ts (TooDeep n) end 
 
 pub none_refused : (ts j : List Token) (x : PlanText) (g : Fault) → reading.plan most_levels ast.most_levels ts ≡ Ok (x, j) → SyntaxFault ts g → Refuses {A = PlanText} (Ok x) g
 none_refused ts j x g e f = no_fault ts x g (found ts j x e) f
+
+-- ---- lines or a fault
+
+pub lines_or_fault : (ts : List Token) → HasEnd ts → ((x : PlanText) × StandsFor most_levels ts x) ⊎ ((f : Fault) × SyntaxFault ts f)
+lines_or_fault ts end = of_outcome (reading.plan most_levels ast.most_levels ts) refl
+  where
+    of_outcome : (r : Outcome PlanText) → reading.plan most_levels ast.most_levels ts ≡ r → ((x : PlanText) × StandsFor most_levels ts x) ⊎ ((f : Fault) × SyntaxFault ts f)
+    of_outcome (Ok p) e = inl (p.0, found ts p.1 p.0 e)
+    of_outcome (Err (Syntax n)) e = inr (_, refused ts (Syntax n) end (λ q. e))
+    of_outcome (Err (TooDeep n)) e = inr (_, refused ts (TooDeep n) end (λ q. e))
+    of_outcome (Err OutOfMemory) e = absurd (no_memory most_levels ast.most_levels given_task (stops_task most_levels ast.most_levels levels_add) (task_leads most_levels ast.most_levels levels_add) ts end e)
