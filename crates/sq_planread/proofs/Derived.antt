@@ -1,9 +1,7 @@
 -- What each reader reads is derived.
-use Rattle.std.proofs.Common.{◌≡◌, ℕ, zero, suc, ◌+◌, ◌≤◌, ℤ, pos, Bool, true, false, List, [], ◌∷◌, ◌++◌, length, Option, Some, None, Ok, Err, refl, sym, ◌∙◌, ap, subst, arith, rules, codes}
-use Rattle.std.specs.Prelude.{not, neg_ℤ}
-use Rattle.sq_text.specs.declared.place.Place.{Place}
+use Rattle.std.proofs.Common.{◌≡◌, ℕ, suc, ◌+◌, ◌≤◌, ℤ, pos, List, [], ◌∷◌, Some, Ok, Err, refl, sym, ap, subst, arith, codes}
+use Rattle.std.specs.Prelude.{neg_ℤ}
 use Rattle.sq_num.specs.declared.Elem.{Elem}
-use Rattle.sq_num.specs.declared.RedOp.{RedOp}
 use Rattle.sq_lexer.specs.declared.token.Token.{Token}
 use Rattle.sq_lexer.specs.declared.token.Kind.{Kind}
 use Rattle.sq_lexer.specs.declared.token.Kind.TheVariants as tk
@@ -11,15 +9,11 @@ use Rattle.sq_lexer.specs.declared.token.Sign.TheVariants as g
 use Rattle.sq_lexer.specs.Tokens.{token}
 use Rattle.sq_plantext.specs.declared.text.SlotText.{SlotText}
 use Rattle.sq_plantext.specs.declared.text.ViewText.{ViewText}
-use Rattle.sq_plantext.specs.declared.text.EventText.{EventText}
-use Rattle.sq_plantext.specs.declared.text.EventText.TheVariants as event
-use Rattle.sq_plantext.specs.declared.text.TermText.{TermText}
-use Rattle.sq_plantext.specs.declared.text.TermText.TheVariants as term
 use Rattle.sq_plantext.specs.Grammar as grammar
 use Rattle.sq_plantext.specs.Grammar.{Leveled, at, word, number, sign, tokens_of, Phrase, Derives, Within, elem_of, operator_of, slot_text, view_text}
 use Rattle.sq_planread.specs.Reading as reading
 use Rattle.sq_planread.specs.Reading.{Outcome, Reader, and_then, next, sees_word, sees_sign, expect_sign, expect_some, natural, opening, many_after, separated, after_comma, goes_on}
-use Rattle.sq_planread.proofs.Found.{Reading, phrase, gives_more, choose, Is, this, IsOf, Opens, sign_seen, word_seen, sign_read, word_read, table_read, name_read, natural_read, opening_read, Before, Found, Adds, after_read}
+use Rattle.sq_planread.proofs.Found.{Reading, phrase, gives_more, choose, Is, this, sign_seen, word_seen, sign_read, table_read, natural_read, opening_read, Found, Adds, after_read}
 
 module _ (most : ℕ) where
   -- ---- numbers

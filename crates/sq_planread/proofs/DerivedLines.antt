@@ -1,5 +1,5 @@
 -- What the readers of lines and of whole files read is derived.
-use Rattle.std.proofs.Common.{◌≡◌, ℕ, zero, suc, ◌+◌, ◌≤◌, ◌-◌, ℤ, pos, Bool, true, false, if◌then◌else◌, ◌==◌, negsuc, List, [], ◌∷◌, ◌++◌, length, Option, Some, None, Ok, Err, refl, sym, ◌∙◌, ap, subst, arith, codes}
+use Rattle.std.proofs.Common.{◌≡◌, ℕ, ◌≤◌, ℤ, pos, Bool, true, false, if◌then◌else◌, ◌==◌, negsuc, List, [], ◌∷◌, ◌++◌, Some, None, Ok, Err, refl, sym, ap, subst, arith, codes}
 use Rattle.std.proofs.lemmas.Bool.{eqb-true}
 use Rattle.sq_text.specs.declared.place.Place.{Place}
 use Rattle.sq_text.specs.declared.word.Word as tree
@@ -23,7 +23,7 @@ use Rattle.sq_plantext.specs.Grammar as grammar
 use Rattle.sq_plantext.specs.Grammar.{Leveled, at, word, number, sign, tokens_of, symbols, unleveled, Derives, Within, elem_of, mode_of, name_at, binding, node_line, buffer_line, leaf_text, array_line, plan_text, IsText, StandsFor}
 use Rattle.sq_planread.specs.Reading as reading
 use Rattle.sq_planread.specs.Reading.{Outcome, Reader, and_then, next, place, sees_word, sees_sign, expect_word, expect_sign, expect_some, any_word, natural, opening, many_after, separated, after_comma, after_word, one_in, finish, is_end}
-use Rattle.sq_planread.proofs.Found.{Reading, phrase, gives_more, choose, Is, this, IsOf, Opens, sign_seen, word_seen, sign_read, word_read, table_read, name_read, natural_read, opening_read, Before, Found, Adds, after_read}
+use Rattle.sq_planread.proofs.Found.{Reading, phrase, gives_more, choose, Is, this, sign_seen, word_seen, sign_read, word_read, table_read, name_read, natural_read, opening_read, Found, Adds, after_read}
 use Rattle.sq_planread.proofs.Derived.{list_read, value_read}
 use Rattle.sq_planread.proofs.DerivedTerms.{term_read}
 

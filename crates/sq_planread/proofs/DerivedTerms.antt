@@ -1,5 +1,5 @@
 -- What the readers of events and terms read is derived.
-use Rattle.std.proofs.Common.{◌≡◌, ℕ, zero, suc, ◌+◌, ◌≤◌, ℤ, pos, Bool, true, false, List, [], ◌∷◌, ◌++◌, length, Some, Ok, Err, refl, sym, ◌∙◌, ap, subst, arith, codes}
+use Rattle.std.proofs.Common.{◌≡◌, ℕ, zero, suc, ◌+◌, ◌≤◌, ℤ, pos, true, List, [], ◌∷◌, Some, refl, sym, ap, subst, arith, codes}
 use Rattle.sq_text.specs.declared.place.Place.{Place}
 use Rattle.sq_num.specs.declared.Elem.{Elem}
 use Rattle.sq_num.specs.declared.RedOp.{RedOp}
@@ -18,7 +18,7 @@ use Rattle.sq_plantext.specs.Grammar as grammar
 use Rattle.sq_plantext.specs.Grammar.{Leveled, at, word, number, sign, tokens_of, Derives, Within, elem_of, operator_of}
 use Rattle.sq_planread.specs.Reading as reading
 use Rattle.sq_planread.specs.Reading.{Outcome, Reader, and_then, next, place, sees_word, expect_sign, expect_some, natural, opening, many_after, separated, goes_on, refuse, term, term_by}
-use Rattle.sq_planread.proofs.Found.{Reading, phrase, gives_more, choose, Is, this, IsOf, Opens, word_seen, sign_read, table_read, natural_read, opening_read, Before, Found, Adds, after_read}
+use Rattle.sq_planread.proofs.Found.{Reading, phrase, gives_more, choose, Is, this, word_seen, sign_read, table_read, natural_read, opening_read, Found, Adds, after_read}
 use Rattle.sq_planread.proofs.Derived.{list_read, value_read, slot_read, views_read}
 
 module _ (most : ℕ) where

@@ -1,26 +1,18 @@
 -- What is read is derived: from a text of what is left after a phrase, one of what begins with it.
-use Rattle.std.proofs.Common.{◌≡◌, ℕ, zero, suc, ◌+◌, ◌≤◌, ℤ, pos, Bool, true, false, if◌then◌else◌, not, List, [], ◌∷◌, ◌++◌, length, Option, Some, None, Ok, Err, refl, sym, ◌∙◌, ap, subst, append_assoc, append-nil, arith, rules, codes}
-use Rattle.std.specs.Str.{bytes_eq}
+use Rattle.std.proofs.Common.{◌≡◌, ℕ, zero, suc, ℤ, pos, Bool, true, false, if◌then◌else◌, List, [], ◌∷◌, ◌++◌, length, Option, Some, None, Ok, Err, refl, sym, ◌∙◌, ap, subst, append_assoc, append-nil, rules}
 use Rattle.std.proofs.lemmas.Slice.Eq.{bytes_eq-Decides}
 use denote.Enum.Bare.{same_true}
 use Rattle.sq_text.specs.declared.place.Place.{Place}
-use Rattle.sq_num.specs.declared.Elem.{Elem}
-use Rattle.sq_num.specs.declared.RedOp.{RedOp}
 use Rattle.sq_lexer.specs.contracts.token.Sign as sign
 use Rattle.sq_lexer.specs.declared.token.Token.{Token}
 use Rattle.sq_lexer.specs.declared.token.Kind.{Kind}
 use Rattle.sq_lexer.specs.declared.token.Kind.TheVariants as tk
 use Rattle.sq_lexer.specs.declared.token.Sign.{Sign}
-use Rattle.sq_lexer.specs.declared.token.Sign.TheVariants as g
 use Rattle.sq_lexer.specs.Tokens.{token}
 use Rattle.sq_ast.specs.Grammar.{if_some}
-use Rattle.sq_plantext.specs.declared.text.SlotText.{SlotText}
-use Rattle.sq_plantext.specs.declared.text.ViewText.{ViewText}
-use Rattle.sq_plantext.specs.declared.text.EventText.{EventText}
-use Rattle.sq_plantext.specs.Grammar as grammar
-use Rattle.sq_plantext.specs.Grammar.{Leveled, at, word, number, sign, tokens_of, Phrase, Derives, Within}
+use Rattle.sq_plantext.specs.Grammar.{Leveled, tokens_of, Phrase, Derives, Within}
 use Rattle.sq_reader.specs.declared.error.ParseError.TheVariants.{Syntax}
-use Rattle.sq_planread.specs.Reading.{Outcome, Reader, and_then, next, kind, is_word, is_sign, name_in, natural_in, natural_from, sees_word, sees_sign, expect_word, expect_sign, expect_some, any_word, natural, opening, deeper, many_from, many_after, separated, after_comma}
+use Rattle.sq_planread.specs.Reading.{Outcome, Reader, and_then, next, is_word, is_sign, name_in, natural_in, natural_from, sees_word, sees_sign, expect_word, expect_sign, expect_some, any_word, natural, opening, deeper, many_from, many_after}
 
 -- ---- outcomes
 
@@ -53,7 +45,7 @@ pub data Is (k : Kind) : List Token → List Token → Type 0 where
 first : (k : Kind) (t : Token) (ts : List Token) → t.kind ≡ k → Is k (t ∷ ts) ts
 first k t ts e = subst (λ k. Is k (t ∷ ts) ts) e this
 
-signed : (s : Sign) (k : Kind) → is_sign s k ≡ true → k ≡ tk.Sign s
+pub signed : (s : Sign) (k : Kind) → is_sign s k ≡ true → k ≡ tk.Sign s
 signed s (tk.Sign other) e = ap tk.Sign (same_true sign.the_type (search rules) other s e)
 signed s (tk.Word w) e = absurd (cc)
 signed s (tk.Number n) e = absurd (cc)
@@ -63,7 +55,7 @@ pub sign_seen : (s : Sign) (i : List Token) → sees_sign s i ≡ true → Is (t
 sign_seen s [] e = absurd (cc)
 sign_seen s (t ∷ ts) e = first (tk.Sign s) t ts (signed s t.kind e)
 
-worded : (w : List ℕ) (k : Kind) → is_word w k ≡ true → k ≡ tk.Word w
+pub worded : (w : List ℕ) (k : Kind) → is_word w k ≡ true → k ≡ tk.Word w
 worded w (tk.Word name) e = ap tk.Word ((bytes_eq-Decides name w).0 e)
 worded w (tk.Sign s) e = absurd (cc)
 worded w (tk.Number n) e = absurd (cc)

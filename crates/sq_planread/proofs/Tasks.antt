@@ -1,5 +1,5 @@
 -- A leaf's task within a plan file: what the parser of programs reads is derived, and what is derived is read.
-use Rattle.std.proofs.Common.{◌≡◌, ℕ, zero, suc, ◌+◌, ◌-◌, ◌≤◌, List, [], ◌∷◌, ◌++◌, length, drop, Ok, Err, refl, sym, ◌∙◌, ap, subst, arith, length-append}
+use Rattle.std.proofs.Common.{◌≡◌, ℕ, suc, ◌+◌, ◌-◌, List, [], ◌∷◌, ◌++◌, length, drop, Ok, Err, refl, sym, ◌∙◌, ap, subst, arith, length-append}
 use Rattle.sq_lexer.specs.declared.token.Token.{Token}
 use Rattle.sq_ast.specs.declared.program.Variant.{Variant}
 use Rattle.sq_ast.specs.declared.program.VariantKind.TheVariants as kinds
@@ -13,12 +13,12 @@ use Rattle.sq_plantext.specs.Grammar.{Leveled, tokens_of, symbols, unleveled, Wi
 use Rattle.sq_planread.specs.Reading as reading
 use Rattle.sq_planread.specs.Reading.{Outcome, back}
 use Rattle.sq_planread.proofs.Found.{Reading}
-use Rattle.sq_planread.proofs.DerivedLines.{Task, IsTask}
-use Rattle.sq_planread.proofs.Complete.{tokens_append, within_behind}
+use Rattle.sq_planread.proofs.DerivedLines.{IsTask}
+use Rattle.sq_planread.proofs.Complete.{tokens_append}
 
 -- ---- tokens as symbols
 
-symbols_length : (ts : List Token) → length (sym_of.symbols ts) ≡ length ts
+pub symbols_length : (ts : List Token) → length (sym_of.symbols ts) ≡ length ts
 symbols_length [] = refl
 symbols_length (t ∷ ts) = ap suc (symbols_length ts)
 
@@ -30,11 +30,11 @@ kinds_unleveled : (ts : List Leveled) → ast.kinds (unleveled ts) ≡ sym_of.sy
 kinds_unleveled [] = refl
 kinds_unleveled (t ∷ ts) = ap (λ ss. symbol_in t.token.place t.token.kind ∷ ss) (kinds_unleveled ts)
 
-kinds_append : (a b : List ast.Leveled) → ast.kinds (a ++ b) ≡ ast.kinds a ++ ast.kinds b
+pub kinds_append : (a b : List ast.Leveled) → ast.kinds (a ++ b) ≡ ast.kinds a ++ ast.kinds b
 kinds_append [] b = refl
 kinds_append (t ∷ a) b = ap (λ ss. t.kind ∷ ss) (kinds_append a b)
 
-symbols_append : (a b : List Token) → sym_of.symbols (a ++ b) ≡ sym_of.symbols a ++ sym_of.symbols b
+pub symbols_append : (a b : List Token) → sym_of.symbols (a ++ b) ≡ sym_of.symbols a ++ sym_of.symbols b
 symbols_append [] b = refl
 symbols_append (t ∷ a) b = ap (λ ss. symbol_in t.place t.kind ∷ ss) (symbols_append a b)
 
@@ -55,11 +55,11 @@ task_within : (most : ℕ) (task l : List Leveled) → Within most (task ++ l) �
 task_within most [] l w = unleveled_within most l
 task_within most (t ∷ task) l w = (w.0, task_within most task l w.1)
 
-all_symbols : (task l : List Leveled) → ast.kinds (symbols task ++ unleveled l) ≡ sym_of.symbols (tokens_of (task ++ l))
+pub all_symbols : (task l : List Leveled) → ast.kinds (symbols task ++ unleveled l) ≡ sym_of.symbols (tokens_of (task ++ l))
 all_symbols task l = kinds_append (symbols task) (unleveled l) ∙ ap (λ ss. ss ++ ast.kinds (unleveled l)) (kinds_symbols task) ∙ ap (λ ss. sym_of.symbols (tokens_of task) ++ ss) (kinds_unleveled l)
     ∙ sym (symbols_append (tokens_of task) (tokens_of l)) ∙ ap sym_of.symbols (sym (tokens_append task l))
 
-backed : (v : Variant) (a b : List Token) → back (a ++ b) (Ok (v, sym_of.symbols b)) ≡ Ok (v, b)
+pub backed : (v : Variant) (a b : List Token) → back (a ++ b) (Ok (v, sym_of.symbols b)) ≡ Ok (v, b)
 backed v a b = ap (λ n. Ok (v, drop (length (a ++ b) - n) (a ++ b))) (symbols_length b) ∙ ap (λ ts. Ok (v, ts)) (drop_front a b)
 
 pub task_complete : (most levels : ℕ) → levels + grammar.round_tasks ≡ most → (v : Variant) (task l : List Leveled) → ast.Derives (ast.One ast.Task grammar.round_tasks v) (symbols task ++ unleveled l) (unleveled l)
@@ -73,7 +73,7 @@ task_complete most levels eq v task l h leaf w =
 -- ---- what is read is derived
 
 -- the tokens of these symbols, and what is left after them
-record Split (most : ℕ) (front : List ast.Leveled) (i : List Token) (js : List Symbol) : Type 0 where
+pub record Split (most : ℕ) (front : List ast.Leveled) (i : List Token) (js : List Symbol) : Type 0 where
   pub task : List Leveled
   pub rest : List Token
   pub is : tokens_of task ++ rest ≡ i
@@ -81,7 +81,7 @@ record Split (most : ℕ) (front : List ast.Leveled) (i : List Token) (js : List
   pub left : sym_of.symbols rest ≡ js
   pub within : Within most task
 
-split : (most : ℕ) (front : List ast.Leveled) (i : List Token) (js : List Symbol) → ast.kinds front ++ js ≡ sym_of.symbols i → ast.Within most front → Split most front i js
+pub split : (most : ℕ) (front : List ast.Leveled) (i : List Token) (js : List Symbol) → ast.kinds front ++ js ≡ sym_of.symbols i → ast.Within most front → Split most front i js
 split most [] i js e w = record { task = []; rest = i; is = refl; same = refl; left = sym e; within = tt }
 split most (x ∷ front) [] js e w = absurd (cc)
 split most (x ∷ front) (t ∷ ts) js e w =
@@ -101,7 +101,7 @@ kinds_plain : (js : List Symbol) → ast.kinds (plain js) ≡ js
 kinds_plain [] = refl
 kinds_plain (s ∷ js) = ap (λ ss. s ∷ ss) (kinds_plain js)
 
-unleveled_plain : (J : List Leveled) → unleveled J ≡ plain (sym_of.symbols (tokens_of J))
+pub unleveled_plain : (J : List Leveled) → unleveled J ≡ plain (sym_of.symbols (tokens_of J))
 unleveled_plain [] = refl
 unleveled_plain (t ∷ J) = ap (λ ts. ast.at (symbol_in t.token.place t.token.kind) 0 ∷ ts) (unleveled_plain J)
 

@@ -4,6 +4,7 @@
 mod cursor;
 mod events;
 mod file;
+pub mod laws;
 mod lines;
 mod parse;
 mod pieces;

@@ -1,9 +1,11 @@
 //! Reading a whole plan file.
 
 ghost use Rattle.std.specs.Prelude.{◌≡◌, IfOk};
-ghost use Rattle.sq_text.specs.Answers.{Gives};
+ghost use Rattle.sq_text.specs.Answers.{Gives, IfRefused, Refuses};
+ghost use Rattle.sq_text.specs.declared.fault.Fault.{Fault};
 ghost use Rattle.sq_lexer.specs.Tokens.{HasEnd};
 ghost use Rattle.sq_plantext.specs.declared.text.PlanText.{PlanText};
+ghost use Rattle.sq_plantext.specs.Faults.{SyntaxFault};
 ghost use Rattle.sq_plantext.specs.Grammar.{StandsFor, most_levels};
 ghost use Rattle.sq_planread.specs.Parsing as parsing;
 
@@ -52,6 +54,9 @@ pub fn parse_plan(alloc: Global, tokens: &TokenList) -> Result<PlanText, Stop>
     ensures found { IfOk result (λ x. StandsFor most_levels tokens.now x) }
     // They stand for nothing else, and what they stand for is found.
     ensures only { (x : PlanText) → StandsFor most_levels tokens.now x → Gives result x }
+    // Otherwise their one fault is told.
+    ensures refused { IfRefused result (λ f. SyntaxFault tokens.now f) }
+    ensures refuses { (f : Fault) → SyntaxFault tokens.now f → Refuses result f }
 {
     let list = tokens.as_slice();
     let mut rest = Cursor::new(list);

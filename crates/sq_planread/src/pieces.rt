@@ -136,7 +136,7 @@ fn negative(tokens: &mut Cursor<'_>) -> Result<i64, ParseError>
 }
 
 /// A number with a sign of its own, or the least.
-#[tactic(auto, unfolding(crate::specs::Grammar::lowest))]
+#[tactic(auto, unfolding(sq_plantext::specs::Grammar::lowest))]
 pub fn value(tokens: &mut Cursor<'_>) -> Result<i64, ParseError>
     ensures { Reads (spec.value tokens.old) result tokens.new }
 {
