@@ -1,0 +1,7 @@
+//! Where the bytes of strided views stand, and whether two views share one.
+#![tactic(auto)]
+
+mod areas;
+pub mod laws;
+
+pub use areas::{Area, Step};
