@@ -1,2 +1,3 @@
 pub mod Areas
 pub mod Viewed
+pub mod Alike

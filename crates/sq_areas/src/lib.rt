@@ -3,5 +3,6 @@
 
 mod areas;
 pub mod laws;
+mod view;
 
 pub use areas::{Area, Step};
