@@ -64,7 +64,7 @@ pairs_from A B P (x ∷ xs) ys h k f = (each_map B (P x) ys (λ y b. f x y h.0 b
 abbrev AtEach : Touch → Touch → Type 0
 AtEach x y = (a : Spot) → touched x a ≡ true → touched y a ≡ true → agree x.kind y.kind ≡ true
 
-share_found : (xs ys : List ℕ) (k : ℕ) → is_among xs k ≡ true → is_among ys k ≡ true → share xs ys ≡ true
+pub share_found : (xs ys : List ℕ) (k : ℕ) → is_among xs k ≡ true → is_among ys k ≡ true → share xs ys ≡ true
 share_found [] ys k h g = cc
 share_found (x ∷ xs) ys k h g = by (or_either (nat_eq k x) (is_among xs k) h) (λ i. share_found xs ys k i g)
   where
@@ -72,10 +72,10 @@ share_found (x ∷ xs) ys k h g = by (or_either (nat_eq k x) (is_among xs k) h) 
     by (inl e) f = or_left (is_among ys x) (share xs ys) (subst (λ z. is_among ys z ≡ true) (same_number k x e) g)
     by (inr i) f = or_right (is_among ys x) (share xs ys) (f i)
 
-abbrev Common : List ℕ → List ℕ → Type 0
+abbrev pub Common : List ℕ → List ℕ → Type 0
 Common xs ys = (k : ℕ) × (is_among xs k ≡ true) × (is_among ys k ≡ true)
 
-found_share : (xs ys : List ℕ) → share xs ys ≡ true → Common xs ys
+pub found_share : (xs ys : List ℕ) → share xs ys ≡ true → Common xs ys
 found_share [] ys h = cc
 found_share (x ∷ xs) ys h = by (or_either (is_among ys x) (share xs ys) h) (found_share xs ys)
   where

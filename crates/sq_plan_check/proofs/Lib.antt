@@ -1,2 +1,5 @@
 pub mod Sweeping
 pub mod Pairing
+pub mod Counting
+pub mod Walking
+pub mod Entering

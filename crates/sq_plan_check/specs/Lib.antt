@@ -1,3 +1,5 @@
 pub mod Pairs
 pub mod Tops
 pub mod Sweep
+pub mod Walked
+pub mod Entered

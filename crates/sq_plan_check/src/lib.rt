@@ -1,12 +1,18 @@
 //! The checker of plans that were written out: whether they are good, or their first flaw.
 #![tactic(auto)]
 
+mod count;
+mod entry;
+mod events;
 mod pairs;
 mod reach;
 mod sweep;
 mod top;
 mod tops;
+mod walk;
 
+pub use entry::{Deed, Entries, Entry};
+pub use events::entries_of;
 pub use pairs::{Pair, Pairs, first_clash};
 pub use reach::{Reach, Row};
 pub use sq_areas::{Area, Step};
