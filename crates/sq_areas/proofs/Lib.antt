@@ -2,3 +2,4 @@ pub mod Among
 pub mod Bytes
 pub mod Coordinates
 pub mod Laying
+pub mod Apart

@@ -3,6 +3,7 @@
 ghost use Rattle.std.specs.Prelude.{◌≡◌, ◌+◌, ◌*◌, ◌<◌, ◌≤◌, ◌^◌, true, false};
 ghost use Rattle.sq_areas.specs.Areas as spec;
 
+use crate::residues::are_apart;
 use sqlite_items::Items;
 
 /// So many turns, of which each begins so many bytes behind the one before.
@@ -137,13 +138,42 @@ fn meets_area(at: u64, run: u64, steps: &[Step], other: &Area) -> bool
 }
 
 impl Area {
-    /// Whether a byte is in both areas.
-    pub fn meets(&self, other: &Area) -> bool
+    // Where what the runs reach over ends.
+    fn end(&self) -> u64
+        requires { self.now.at + spec.reach_of self.now.steps self.now.run < 2 ^ 63 }
+        ensures { result ≡ self.now.at + spec.reach_of self.now.steps self.now.run }
+    {
+        self.at + reach_of(self.steps.as_slice(), self.run)
+    }
+
+    // The same as `meets`, by going over the runs.
+    fn meets_somewhere(&self, other: &Area) -> bool
         requires here { self.now.at + spec.reach_of self.now.steps self.now.run < 2 ^ 63 }
         requires there { other.now.at + spec.reach_of other.now.steps other.now.run < 2 ^ 63 }
         ensures yes { result ≡ true → spec.Share self.now.at self.now.run self.now.steps other.now }
         ensures none { result ≡ false → ¬ spec.Share self.now.at self.now.run self.now.steps other.now }
     {
         meets_area(self.at, self.run, self.steps.as_slice(), other)
+    }
+
+    /// Whether a byte is in both areas. Runs are looked at only where what they reach over meets, and where they don't
+    /// lie apart by their places modulo what all steps are multiples of.
+    #[tactic(auto, using(crate::proofs::Apart::lie_apart))]
+    pub fn meets(&self, other: &Area) -> bool
+        requires here { self.now.at + spec.reach_of self.now.steps self.now.run < 2 ^ 63 }
+        requires there { other.now.at + spec.reach_of other.now.steps other.now.run < 2 ^ 63 }
+        ensures yes { result ≡ true → spec.Share self.now.at self.now.run self.now.steps other.now }
+        ensures none { result ≡ false → ¬ spec.Share self.now.at self.now.run self.now.steps other.now }
+    {
+        if self.end() <= other.at {
+            return false;
+        }
+        if other.end() <= self.at {
+            return false;
+        }
+        if are_apart(self, other) {
+            return false;
+        }
+        self.meets_somewhere(other)
     }
 }

@@ -3,6 +3,7 @@
 
 mod areas;
 pub mod laws;
+mod residues;
 mod view;
 
 pub use areas::{Area, Step};
