@@ -3,3 +3,5 @@ pub mod Pairing
 pub mod Counting
 pub mod Walking
 pub mod Entering
+pub mod Showing
+pub mod Acted

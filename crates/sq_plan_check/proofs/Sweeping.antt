@@ -28,22 +28,22 @@ still_reached : (x y : Row) (old new : Tops) → HasReached x old → IsRaisedBy
 still_reached x y old new h r = record { holds = λ a s key other i p q d. r.kept key other x.end (h.holds a s key other i p q d) }
 
 -- the last of a list with one more
-last_of : {X : Type 0} (xs : List X) (x y : X) (j : ℕ) → slice_get (xs ++ x ∷ []) j ≡ Some y → length xs ≤ j → x ≡ y
+pub last_of : {X : Type 0} (xs : List X) (x y : X) (j : ℕ) → slice_get (xs ++ x ∷ []) j ≡ Some y → length xs ≤ j → x ≡ y
 last_of [] x y zero h l = cc
 last_of [] x y (suc j) h l = cc
 last_of (z ∷ xs) x y zero h l = absurd (omega arith)
 last_of (z ∷ xs) x y (suc j) h l = last_of xs x y j h (omega (arith, l))
 
-front_of : {X : Type 0} (xs : List X) (x : X) (j : ℕ) → j < length xs → slice_get (xs ++ x ∷ []) j ≡ slice_get xs j
+pub front_of : {X : Type 0} (xs : List X) (x : X) (j : ℕ) → j < length xs → slice_get (xs ++ x ∷ []) j ≡ slice_get xs j
 front_of [] x j l = absurd (omega arith)
 front_of (z ∷ xs) x zero l = refl
 front_of (z ∷ xs) x (suc j) l = front_of xs x j (omega (arith, l))
 
-length_more : {X : Type 0} (xs : List X) (x : X) → length (xs ++ x ∷ []) ≡ suc (length xs)
+pub length_more : {X : Type 0} (xs : List X) (x : X) → length (xs ++ x ∷ []) ≡ suc (length xs)
 length_more [] x = refl
 length_more (z ∷ xs) x = ap suc (length_more xs x)
 
-below_or : (i n : ℕ) → i < suc n → (i < n) ⊎ (i ≡ n)
+pub below_or : (i n : ℕ) → i < suc n → (i < n) ⊎ (i ≡ n)
 below_or i zero l = inr (omega (arith, l))
 below_or zero (suc n) l = inl (omega arith)
 below_or (suc i) (suc n) l = by (below_or i n (omega (arith, l)))

@@ -3,3 +3,5 @@ pub mod Tops
 pub mod Sweep
 pub mod Walked
 pub mod Entered
+pub mod Shown
+pub mod Acted
