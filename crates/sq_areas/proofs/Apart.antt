@@ -1,5 +1,5 @@
 -- Areas that have no byte in common.
-use Rattle.std.proofs.Common.{◌≡◌, ℕ, zero, suc, ◌+◌, ◌-◌, ◌*◌, ◌/◌, ◌%◌, ◌<◌, ◌≤◌, List, [], ◌∷◌, refl, sym, ap, ap₂, subst, ◌∙◌, ◌⊎◌, inl, inr, arith}
+use Rattle.std.proofs.Common.{◌≡◌, ℕ, zero, suc, ◌+◌, ◌-◌, ◌*◌, ◌/◌, ◌%◌, ◌<◌, ◌≤◌, List, [], ◌∷◌, sym, ap, ap₂, subst, ◌∙◌, ◌⊎◌, inl, inr, arith}
 use Rattle.std.proofs.Math.Nat.{mul-le-mul_right, mul_assoc, add-mul, zero-mul, div-add-mod, mod-lt, mul_comm}
 use Rattle.sq_areas.specs.Areas.{HasByte, reach_of, Share}
 use Rattle.sq_areas.specs.Residues.{Divides, DividesBoth, DividesSteps, DividesAll, LieApart}

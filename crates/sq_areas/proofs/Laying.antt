@@ -1,5 +1,5 @@
 -- Steps that have the same bytes.
-use Rattle.std.proofs.Common.{◌≡◌, ℕ, zero, suc, ◌+◌, ◌-◌, ◌*◌, ◌<◌, ◌≤◌, List, [], ◌∷◌, ◌++◌, length, slice_get, take, drop, Some, append-nil, append_assoc, Result, Ok, Err, refl, sym, ap, ap₂, subst, ◌∙◌, ◌⊎◌, inl, inr, arith}
+use Rattle.std.proofs.Common.{◌≡◌, ℕ, zero, suc, ◌+◌, ◌-◌, ◌*◌, ◌<◌, ◌≤◌, List, [], ◌∷◌, ◌++◌, length, slice_get, Some, append-nil, append_assoc, Result, Ok, Err, refl, sym, ap, ap₂, subst, ◌∙◌, ◌⊎◌, inl, inr, arith}
 use Rattle.std.specs.Prelude.{remove, ◌^◌, OnOk}
 use Rattle.std.specs.List.{All}
 use Rattle.std.proofs.Math.Nat.{mul-le-mul_right, mul_assoc, suc-mul}
@@ -7,7 +7,6 @@ use Rattle.sq_num.specs.declared.Elem.{Elem}
 use Rattle.sq_num.specs.declared.Elem.TheVariants as el
 use Rattle.sq_num.specs.Elements.{width}
 use Rattle.sq_rect.specs.declared.view.View.{View}
-use Rattle.sq_ir.specs.Events.{places, is_among}
 use Rattle.sq_areas.specs.Areas.{HasByte, reach_of}
 use Rattle.sq_areas.specs.Viewed.{steps_of}
 use Rattle.sq_areas.specs.Alike.{AreAlike, AreMany, IsIdle, IsPut, IsJoined, span_of, IsAreaOf, IsBelow}

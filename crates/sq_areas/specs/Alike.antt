@@ -1,9 +1,9 @@
 -- Steps that have the same bytes, and the area of a view.
-use Rattle.std.specs.Prelude.{◌≡◌, ℕ, ◌+◌, ◌-◌, ◌*◌, ◌<◌, ◌≤◌, ◌^◌, ◌⊎◌, true, List, [], ◌∷◌, ◌++◌, length, slice_get, Some}
+use Rattle.std.specs.Prelude.{◌≡◌, ℕ, ◌+◌, ◌-◌, ◌*◌, ◌<◌, ◌≤◌, ◌^◌, ◌⊎◌, true, List, [], ◌∷◌, ◌++◌}
 use Rattle.std.specs.List.{All}
 use Rattle.sq_rect.specs.declared.view.View.{View}
 use Rattle.sq_ir.specs.Events.{places, is_among}
-use Rattle.sq_areas.specs.Areas.{HasByte, reach_of}
+use Rattle.sq_areas.specs.Areas.{HasByte}
 use Rattle.sq_areas.specs.declared.areas.Step.{Step}
 use Rattle.sq_areas.specs.declared.areas.Area.{Area}
 

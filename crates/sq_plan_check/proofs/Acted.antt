@@ -1,5 +1,5 @@
 -- Acts of entries, one more at a time.
-use Rattle.std.proofs.Common.{◌≡◌, ℕ, zero, suc, ◌+◌, ◌<◌, ◌≤◌, ◌⊎◌, inl, inr, List, [], ◌∷◌, ◌++◌, length, slice_get, Option, Some, refl, sym, ap, subst, ◌∙◌, arith}
+use Rattle.std.proofs.Common.{◌≡◌, ℕ, zero, suc, ◌+◌, ◌<◌, ◌⊎◌, inl, inr, List, [], ◌∷◌, ◌++◌, length, slice_get, Some, refl, sym, ap, subst, ◌∙◌, arith}
 use Rattle.sq_ir.specs.DraftLeaves.{leaves_of}
 use Rattle.sq_ir.specs.declared.plan.Plan.{Plan}
 use Rattle.sq_touches.specs.Acts.{AreNear}

@@ -1,12 +1,11 @@
 -- The events of a whole plan are those of its tree.
-use Rattle.std.proofs.Common.{◌≡◌, ℕ, ◌+◌, ◌<◌, ◌≤◌, List, ◌++◌, Some, None, refl, sym, ap, ap₂, ◌∙◌, subst, arith}
-use Rattle.sq_ir.specs.Tree.{Tree, Skip, Act, Stuck, Seq, Par, Within, seq, par, within, waiting}
+use Rattle.std.proofs.Common.{◌≡◌, ℕ, ◌+◌, ◌<◌, List, ◌++◌, Some, None, refl, sym, ap, ap₂, ◌∙◌, subst, arith}
+use Rattle.sq_ir.specs.Tree.{Tree, Skip, Act, Stuck, Seq, Par, Within, waiting}
 use Rattle.sq_ir.specs.Events.{Leaves}
-use Rattle.sq_ir.specs.Plans.{tree_of, IsWellFormed}
+use Rattle.sq_ir.specs.Plans.{IsWellFormed}
 use Rattle.sq_ir.specs.declared.plan.Plan.{Plan}
 use Rattle.sq_check_laws.specs.Whole.{whole_of, trimmed}
 use Rattle.sq_check_laws.specs.Flaws.{most_events}
-use Rattle.sq_check_laws.specs.Orders.{items}
 use Rattle.sq_check_laws.proofs.Trimming.{trees_are_trimmed}
 use Rattle.sq_sched.specs.Shapes.{written}
 use Rattle.sq_sched.specs.Forms.{plan_form}

@@ -1,8 +1,8 @@
 -- The steps by which the first clash is found.
-use Rattle.std.proofs.Common.{◌≡◌, ℕ, zero, suc, ◌+◌, ◌<◌, ◌≤◌, ◌⊎◌, inl, inr, Bool, true, false, List, [], ◌∷◌, length, slice_get, Some, None, sym, subst, arith}
+use Rattle.std.proofs.Common.{◌≡◌, ℕ, zero, suc, ◌+◌, ◌<◌, ◌≤◌, ◌⊎◌, inl, inr, Bool, false, List, [], ◌∷◌, length, slice_get, Some, None, sym, subst, arith}
 use Rattle.sq_touches.specs.declared.act.Act.{Act}
 use Rattle.sq_plan_check.specs.Sweep.{AreMarked}
-use Rattle.sq_plan_check.specs.Pairs.{DependAt, ClashAt, AreReached, IsFirstWith, IsFirstPair}
+use Rattle.sq_plan_check.specs.Pairs.{ClashAt, AreReached, IsFirstWith, IsFirstPair}
 use Rattle.sq_plan_check.specs.declared.reach.Row.{Row}
 
 -- none of the first so many events clashes with this one

@@ -1,5 +1,5 @@
 -- Acts by a leaf's flags show what events touch.
-use Rattle.std.proofs.Common.{◌≡◌, ℕ, Bool, List, refl, sym, ap, subst, ◌∙◌}
+use Rattle.std.proofs.Common.{◌≡◌, ℕ, Bool, List, refl, ap, subst, ◌∙◌}
 use Rattle.sq_ir.specs.Events.{Event, Copy, Fill, Accumulate, Leaf, Leaves}
 use Rattle.sq_check_laws.specs.Touches.{touches, view_touches}
 use Rattle.sq_touches.specs.ActLaws.{ShowsTouches, Shows}

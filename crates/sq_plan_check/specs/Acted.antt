@@ -1,8 +1,8 @@
 -- The acts of entries, one for each.
-use Rattle.std.specs.Prelude.{◌≡◌, ℕ, ◌<◌, List, length, slice_get, Some}
+use Rattle.std.specs.Prelude.{◌≡◌, ℕ, List, length, slice_get, Some}
 use Rattle.sq_ir.specs.DraftLeaves.{leaves_of}
 use Rattle.sq_ir.specs.declared.plan.Plan.{Plan}
-use Rattle.sq_touches.specs.Acts.{AreNear, Depend}
+use Rattle.sq_touches.specs.Acts.{AreNear}
 use Rattle.sq_touches.specs.ActLaws.{Shows}
 use Rattle.sq_touches.specs.declared.act.Act.{Act}
 use Rattle.sq_plan_check.specs.Walked.{seen_deed}

@@ -1,5 +1,5 @@
 -- Which touches are in conflict.
-use Rattle.std.proofs.Common.{◌≡◌, ℕ, Bool, true, false, Option, Some, None, List, [], ◌∷◌, refl, sym, ap, subst, ◌∙◌, ◌⊎◌, inl, inr}
+use Rattle.std.proofs.Common.{◌≡◌, Bool, true, false, List, [], ◌∷◌, sym, subst, ◌∙◌, ◌⊎◌, inl, inr}
 use Rattle.sq_areas.specs.Areas.{Share}
 use Rattle.sq_check_laws.specs.Touches.{agree}
 use Rattle.sq_touches.specs.Acts.{seen_way, IsNear, AreNear, Conflict, ConflictAny, ConflictAll, same_paths, Depend}

@@ -1,8 +1,7 @@
 -- Acts that show events depend on one another exactly where the events aren't independent.
-use Rattle.std.proofs.Common.{◌≡◌, ℕ, Bool, true, false, ◌&&◌, ◌||◌, Option, Some, None, List, [], ◌∷◌, refl, sym, ap, ap₂, subst, ◌∙◌, ◌⊎◌, inl, inr}
+use Rattle.std.proofs.Common.{◌≡◌, Bool, true, false, ◌&&◌, List, [], ◌∷◌, refl, sym, ap₂, ◌∙◌, ◌⊎◌, inl, inr}
 use Rattle.std.specs.Prelude.{if◌then◌else◌, nat_eq, not}
-use Rattle.sq_ir.specs.Events.{Event, Copy, Fill, Accumulate, Leaf, Leaves, AreIndependent, is_among}
-use Rattle.sq_areas.specs.Areas.{HasByte, Share}
+use Rattle.sq_ir.specs.Events.{Event, Copy, Fill, Accumulate, Leaf, Leaves, AreIndependent}
 use Rattle.sq_areas.proofs.Among.{same_number, number_same}
 use Rattle.sq_check_laws.specs.Touches as spec
 use Rattle.sq_check_laws.specs.Touches.{Kind, agree, share, meet, get_along, along_all, all_along, same_numbers, same_path, are_independent, touches}

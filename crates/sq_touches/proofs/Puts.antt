@@ -1,5 +1,5 @@
 -- Touches of rows and views show what events touch.
-use Rattle.std.proofs.Common.{◌≡◌, ℕ, ◌+◌, ◌<◌, ◌≤◌, Bool, true, false, List, [], ◌∷◌, ◌++◌, length, Result, Ok, Err, append-nil, append_assoc, refl, sym, ap, ap₂, subst, ◌∙◌, arith}
+use Rattle.std.proofs.Common.{◌≡◌, ℕ, ◌+◌, ◌<◌, Bool, true, false, List, [], ◌∷◌, ◌++◌, Result, Ok, Err, append-nil, append_assoc, refl, sym, ap, subst, ◌∙◌}
 use Rattle.std.specs.Prelude.{OnOk, ◌^◌}
 use Rattle.sq_rect.specs.declared.view.View.{View}
 use Rattle.sq_areas.specs.Areas.{HasByte, reach_of}
@@ -7,11 +7,10 @@ use Rattle.sq_areas.specs.Alike.{IsAreaOf, IsBelow}
 use Rattle.sq_areas.specs.declared.areas.Step.{Step}
 use Rattle.sq_areas.specs.declared.areas.Area.{Area}
 use Rattle.sq_areas.proofs.Among.{range_in, in_range}
-use Rattle.sq_check_laws.specs.Touches as spec
 use Rattle.sq_check_laws.specs.Touches.{row_touch, view_touch, view_touches}
 use Rattle.sq_touches.specs.Acts.{IsNear, AreNear, seen_way}
 use Rattle.sq_touches.specs.ActLaws.{ShowsTouch, ShowsTouches}
-use Rattle.sq_touches.specs.Puts.{ArePut, AreBelow, HaveStrides, first_flag, rest_flags, way_of}
+use Rattle.sq_touches.specs.Puts.{ArePut, AreBelow, first_flag, rest_flags, way_of}
 use Rattle.sq_touches.specs.declared.touch.Way.{Way}
 use Rattle.sq_touches.specs.declared.touch.Touch.{Touch}
 

@@ -1,5 +1,5 @@
 -- What acts show of events.
-use Rattle.std.specs.Prelude.{◌≡◌, ℕ, true, false, Option, Some, None, List, [], ◌∷◌}
+use Rattle.std.specs.Prelude.{◌≡◌, ℕ, true, Option, Some, None, List, [], ◌∷◌}
 use Rattle.sq_ir.specs.Events.{Event, Copy, Fill, Accumulate, Leaf, Leaves, AreIndependent, is_among}
 use Rattle.sq_areas.specs.Areas.{HasByte}
 use Rattle.sq_check_laws.specs.Touches as spec

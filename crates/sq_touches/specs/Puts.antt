@@ -1,5 +1,5 @@
 -- Touches of views that are put behind others.
-use Rattle.std.specs.Prelude.{◌≡◌, ℕ, ◌^◌, Bool, true, false, List, [], ◌∷◌, ◌++◌, length}
+use Rattle.std.specs.Prelude.{◌≡◌, ◌^◌, Bool, true, false, List, [], ◌∷◌, ◌++◌, length}
 use Rattle.sq_rect.specs.declared.view.View.{View}
 use Rattle.sq_areas.specs.Alike.{IsBelow}
 use Rattle.sq_check_laws.specs.Touches as spec

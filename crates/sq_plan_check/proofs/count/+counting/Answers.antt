@@ -1,6 +1,5 @@
-use Rattle.std.proofs.Common.{◌+◌, length, refl, sym, ap, ap₂, ◌∙◌}
+use Rattle.std.proofs.Common.{◌+◌, length, sym, ap, ap₂, ◌∙◌}
 use Rattle.sq_ir.specs.Tree.{waiting}
-use Rattle.sq_ir.specs.Written.{scoped}
 use Rattle.sq_sched.specs.declared.frames.Spread.{Spread}
 use Rattle.sq_sched.specs.Words.{env_of, value, node_here}
 use Rattle.sq_sched.specs.Shapes.{seq_of, par_of, written}

@@ -1,15 +1,14 @@
-use Rattle.std.proofs.Common.{◌≡◌, ◌+◌, ◌-◌, ◌++◌, length, map, refl, sym, ap, ap₂, ◌∙◌, subst, arith}
+use Rattle.std.proofs.Common.{◌≡◌, ◌+◌, ◌-◌, ◌++◌, length, sym, ap, ap₂, ◌∙◌, subst}
 use Rattle.std.specs.Prelude.{OnOk}
-use Rattle.sq_ir.specs.Tree.{waiting}
 use Rattle.sq_sched.specs.declared.frames.Spread.{Spread}
 use Rattle.sq_sched.specs.Words.{env_of, value, node_here}
-use Rattle.sq_sched.specs.Shapes.{seq_of, par_of, written}
+use Rattle.sq_sched.specs.Shapes.{par_of, written}
 use Rattle.sq_sched.specs.Forms.{made, inside}
 use Rattle.sq_walks.specs.Walks.{tree_at, part_at, turn_at, child_at, loop_of, spread_of}
 use Rattle.sq_walks.proofs.Trees.{tree-par, tree-loop, tree-spread, tree-case, tree-within, arm_in, turn-here, turn-elsewhere}
 use Rattle.sq_plan_check.specs.Walked.{few, numbered, seen_entries}
-use Rattle.sq_plan_check.proofs.Counting.{weights, waiting-turns, waiting-lanes}
-use Rattle.sq_plan_check.proofs.Walking.{numbered-scope, turn-start, turn-more, turn-passed, turn-end, beside-start, beside-more, beside-end, length-seen, after-start, after-more}
+use Rattle.sq_plan_check.proofs.Counting.{waiting-turns, waiting-lanes}
+use Rattle.sq_plan_check.proofs.Walking.{numbered-scope, turn-start, turn-more, turn-passed, beside-start, beside-more, length-seen, after-start, after-more}
 use Rattle.sq_plan_check.proofs.walk.+walking.Goals as goal
 
 pub walk-returns-in-Par : goal.walk-returns-in-Par

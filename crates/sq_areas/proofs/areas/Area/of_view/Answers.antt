@@ -1,4 +1,3 @@
-use Rattle.std.proofs.Common.{rules}
 use Rattle.sq_areas.proofs.Laying.{area-of, area-near}
 use Rattle.sq_areas.proofs.areas.Area.of_view.Goals as goal
 
