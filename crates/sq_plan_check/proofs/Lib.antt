@@ -3,5 +3,4 @@ pub mod Pairing
 pub mod Counting
 pub mod Walking
 pub mod Entering
-pub mod Showing
 pub mod Acted
