@@ -1,0 +1,5 @@
+pub mod Among
+pub mod Bytes
+pub mod Coordinates
+pub mod Laying
+pub mod Apart

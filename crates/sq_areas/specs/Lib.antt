@@ -1,0 +1,4 @@
+pub mod Areas
+pub mod Viewed
+pub mod Alike
+pub mod Residues
