@@ -9,6 +9,7 @@ use Rattle.sq_mapping.specs.declared.mapping.Mapping.{Mapping as Mapped}
 use Rattle.sq_forms.specs.Resolving.{entry_extents}
 use Rattle.sq_ir.specs.declared.plan.Plan.{Plan}
 use Rattle.sq_plantext.specs.Layout.{laid_out}
+use Rattle.sq_planfile.specs.declared.entry.EntryArray.{EntryArray}
 use Rattle.sq_planfile.specs.File.{PlanFile, entry_arrays}
 use Rattle.sq_planfile.specs.Limits.{TextFault}
 use Rattle.sq_planfile.specs.Written.{written}
@@ -45,16 +46,19 @@ on_compile p m k = record { begun = reads_compile; rest = PlanPhase ∷ []; next
 same_file : (r s : Resolved) (p q : Plan) (f g : PlanFile) → s.typed.now ≡ r.typed.now → s.mapping.now ≡ r.mapping.now
     → q ≡ p → IsFileOf r p f → IsFileOf s q g → g ≡ f
 same_file r s p q f g trees maps plans its that =
-    let extents : that.entry.extents ≡ its.entry.extents = ok_same that.entry.extents its.entry.extents
-    (sym that.entry.are ∙ (ap (λ (t : Tree). entry_extents s.mapping.now.sizes (params_of t s.mapping.now)) trees
-    ∙ (ap (λ (m : Mapped). entry_extents m.sizes (params_of r.typed.now m)) maps ∙ its.entry.are))) in
-    let arrays : entry_arrays (params_of s.typed.now s.mapping.now) that.entry.extents q.draft.entry
-    ≡ entry_arrays (params_of r.typed.now r.mapping.now) its.entry.extents p.draft.entry =
-    ap (λ (t : Tree). entry_arrays (params_of t s.mapping.now) that.entry.extents q.draft.entry) trees
-    ∙ (ap (λ (m : Mapped). entry_arrays (params_of r.typed.now m) that.entry.extents q.draft.entry) maps
-    ∙ ap₂ (λ (es : List (List ℕ)) (x : Plan). entry_arrays (params_of r.typed.now r.mapping.now) es x.draft.entry)
-    extents plans) in
-    that.is ∙ (ap₂ (λ (x : Plan) (xs : List _). record { plan = x; arrays = xs }) plans arrays ∙ sym its.is)
+    let mine = its.arrays.entry in
+    let other = that.arrays.entry in
+    let extents : other.extents ≡ mine.extents = ok_same other.extents mine.extents
+    (sym other.are ∙ (ap (λ (t : Tree). entry_extents s.mapping.now.sizes (params_of t s.mapping.now)) trees
+    ∙ (ap (λ (m : Mapped). entry_extents m.sizes (params_of r.typed.now m)) maps ∙ mine.are))) in
+    let arrays : g.arrays ≡ f.arrays =
+    that.arrays.are
+    ∙ (ap (λ (t : Tree). entry_arrays (params_of t s.mapping.now) other.extents q.draft.entry) trees
+    ∙ (ap (λ (m : Mapped). entry_arrays (params_of r.typed.now m) other.extents q.draft.entry) maps
+    ∙ (ap₂ (λ (es : List (List ℕ)) (x : Plan). entry_arrays (params_of r.typed.now r.mapping.now) es x.draft.entry)
+    extents plans ∙ sym its.arrays.are))) in
+    let whole : g.plan ≡ f.plan = that.plan_is ∙ (plans ∙ sym its.plan_is) in
+    ap₂ (λ (x : Plan) (xs : List EntryArray). record { plan = x; arrays = xs }) whole arrays
 
 module _ (p m k : List ℕ) (told : Option Content) (r : Resolved) (plan : Plan)
     (holds : HoldsPlan (compile_of p m k) (plan_names p m k) told r plan) (file : PlanFile)

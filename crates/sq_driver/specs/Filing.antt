@@ -4,6 +4,7 @@ use Rattle.sq_text.specs.declared.fault.Fault.{Fault}
 use Rattle.sq_text.specs.Faults.{IsFirst}
 use Rattle.sq_ir.specs.declared.plan.Plan.{Plan}
 use Rattle.sq_plantext.specs.Layout.{laid_out}
+use Rattle.sq_planfile.specs.declared.entry.EntryArray.{EntryArray}
 use Rattle.sq_planfile.specs.File.{PlanFile, entry_arrays}
 use Rattle.sq_planfile.specs.Limits.{TextFault}
 use Rattle.sq_planfile.specs.Written.{written}
@@ -14,13 +15,15 @@ use Rattle.sq_driver.specs.Capacity.{AreFormsOf}
 use Rattle.sq_driver.specs.Entry.{params_of}
 use Rattle.sq_driver.specs.Givens.{Extents}
 
--- the plan of the forms, with the arrays of the entry in their buffers
-pub record IsFileOf (forms : Resolved) (plan : Plan) (file : PlanFile) : Type 0 where
+-- the arrays of the entry, in the buffers that the plan has for them
+pub record AreArraysOf (forms : Resolved) (plan : Plan) (arrays : List EntryArray) : Type 0 where
   pub entry : Extents forms
-  pub is : file ≡ record {
-    plan = plan;
-    arrays = entry_arrays (params_of forms.typed.now forms.mapping.now) entry.extents plan.draft.entry;
-  }
+  pub are : arrays ≡ entry_arrays (params_of forms.typed.now forms.mapping.now) entry.extents plan.draft.entry
+
+-- the plan of the forms, with the arrays of the entry
+pub record IsFileOf (forms : Resolved) (plan : Plan) (file : PlanFile) : Type 0 where
+  pub plan_is : file.plan ≡ plan
+  pub arrays : AreArraysOf forms plan file.arrays
 
 -- the file of the plan that is good for the program
 pub record Filed (inputs : Inputs) : Type 0 where

@@ -6,7 +6,7 @@ ghost use Rattle.sq_ir.specs.Plans.{IsWellFormed};
 ghost use Rattle.sq_words.specs.Words.{compile_of};
 ghost use Rattle.sq_driver.specs.Chosen.{FilesTo};
 ghost use Rattle.sq_driver.specs.Ends.{ending, FileCauses};
-ghost use Rattle.sq_driver.specs.Filing.{IsFileOf};
+ghost use Rattle.sq_driver.specs.Filing.{AreArraysOf};
 
 use crate::outside::end::End;
 use crate::outside::world::{Perform, World};
@@ -15,8 +15,8 @@ use crate::phases::planning::{Names, OnPlan, on_plan};
 use sq_compile::laws::plans_are_one;
 use sq_ir::Plan;
 use sq_meant::places_fit;
-use sq_planfile::{PlanFile, entry_arrays, plan_text};
-use sq_port::{Failed, Files, Sink, put_next};
+use sq_planfile::{EntryArrays, PlanFile, entry_arrays, plan_text};
+use sq_port::{Failed, Files, Sink, put_all};
 use sq_spec::Resolved;
 use sq_text::Stop;
 use sq_tree::Bank;
@@ -65,31 +65,54 @@ impl<'a> OnPlan<'a> for Compile<'a> {
         plan: Plan,
     ) -> Result<(), End<'a>> {
         plans_are_one();
-        match file_of(alloc, resolved, plan) {
-            Ok(file) => {
-                let ended = write_file(alloc, out, &file);
-                drop(file);
-                ended
-            }
-            Err(_) => Err(End::NoMemory),
-        }
+        let arrays = match arrays_of(alloc, resolved, &plan) {
+            Ok(arrays) => arrays,
+            Err(_) => return Err(End::NoMemory),
+        };
+        write_plan(alloc, out, plan, arrays)
     }
 }
 
-// The plan with the arrays of the entry.
-fn file_of(alloc: Global, resolved: &Resolved<'_>, plan: Plan) -> Result<PlanFile, AllocError>
-    requires { IsPlanOf resolved.now plan }
-    ensures file { IfOk result (λ file. IsFileOf resolved.now plan file) }
-    ensures formed { IfOk result (λ file. IsWellFormed (leaves_of file.plan.draft) file.plan) }
+// The arrays of the entry, in the buffers of the plan.
+fn arrays_of(
+    alloc: Global,
+    resolved: &Resolved<'_>,
+    plan: &Plan,
+) -> Result<EntryArrays, AllocError>
+    requires { IsPlanOf resolved.now plan.now }
+    ensures { IfOk result (λ arrays. AreArraysOf resolved.now plan.now arrays) }
 {
     // Each of the arrays has a buffer.
     places_fit();
-    let arrays = entry_arrays(
+    entry_arrays(
         alloc,
         resolved.entry_params(),
         entry_dims(resolved),
         plan.draft.entry.as_slice(),
-    )?;
+    )
+}
+
+// Writes the file of a plan and its arrays.
+fn write_plan<'a, S: Sink>(
+    alloc: Global,
+    out: &mut S,
+    plan: Plan,
+    arrays: EntryArrays,
+) -> Result<(), End<'a>>
+    requires { IsWellFormed (leaves_of plan.draft) plan }
+    ensures files { FilesTo (record { plan = plan; arrays = arrays }) (S.written out.old) (S.written out.new)
+        (S.faults out.old) (S.faults out.new) result }
+    ensures cause { (f : ℕ) (m : ℕ) → FileCauses f f m m (ending result) }
+{
+    match filed(alloc, plan, arrays) {
+        Ok(file) => write_file(alloc, out, &file),
+        Err(_) => Err(End::NoMemory),
+    }
+}
+
+fn filed(alloc: Global, plan: Plan, arrays: EntryArrays) -> Result<PlanFile, AllocError>
+    ensures { IfOk result (λ file. file ≡ record { plan = plan; arrays = arrays }) }
+{
     let plan = Rc::new(alloc, plan)?;
     Ok(PlanFile::new(plan, arrays))
 }
@@ -102,7 +125,7 @@ fn write_file<'a, S: Sink>(alloc: Global, out: &mut S, file: &PlanFile) -> Resul
     ensures cause { (f : ℕ) (m : ℕ) → FileCauses f f m m (ending result) }
 {
     match plan_text(alloc, file) {
-        Ok(text) => match put_next(out, Ok(()), text.as_slice()) {
+        Ok(text) => match put_all(out, text.as_slice()) {
             Ok(()) => Ok(()),
             Err(Failed) => Err(End::SinkFault),
         },
