@@ -1,9 +1,10 @@
 -- The phase of plan files of `compile`, behind those from program to capacity, and how it ends.
-use Rattle.std.proofs.Common.{◌≡◌, inl, inr, ℕ, List, [], ◌∷◌, Bool, false, Option, Some, None, Result, Ok, Err, refl, sym, ap, ap₂, ◌∙◌, subst}
+use Rattle.std.proofs.Common.{◌≡◌, inl, inr, ℕ, List, [], ◌∷◌, Bool, false, Option, Some, None, Result, Ok, Err, IfOk, refl, sym, ap, ap₂, ◌∙◌, subst}
 use Rattle.sq_port.specs.Ports.{Content}
 use Rattle.sq_text.specs.declared.code.Phase.TheVariants.{Program, Types, Machine, Mapping, Resolve, Race, Capacity, Plan as PlanPhase}
 use Rattle.sq_text.specs.declared.fault.Fault.{Fault}
 use Rattle.sq_text.specs.Faults.{IsFirst}
+use Rattle.sq_ast.specs.declared.program.Param.{Param}
 use Rattle.sq_ast.specs.declared.program.Program.{Program as Tree}
 use Rattle.sq_mapping.specs.declared.mapping.Mapping.{Mapping as Mapped}
 use Rattle.sq_forms.specs.Resolving.{entry_extents}
@@ -25,7 +26,7 @@ use Rattle.sq_driver.specs.Sources.{Sources}
 use Rattle.sq_driver.specs.Races.{IsResolved}
 use Rattle.sq_driver.specs.Entry.{params_of}
 use Rattle.sq_driver.specs.Givens.{Extents}
-use Rattle.sq_driver.specs.Filing.{IsFileOf, Filed, IsFirstOfText}
+use Rattle.sq_driver.specs.Filing.{AreArraysOf, IsFileOf, Filed, IsFirstOfText}
 use Rattle.sq_driver.specs.Chosen.{WroteFile, FilesTo}
 use Rattle.sq_driver.specs.Meaning.{Passed, AllPassed, done, IsCause}
 use Rattle.sq_driver.specs.Planned.{IsOnPlan, HoldsPlan}
@@ -41,6 +42,17 @@ reads_compile = record { rest = Capacity ∷ PlanPhase ∷ []; split = refl; fix
 
 pub on_compile : (p m k : List ℕ) → IsOnPlan (compile_of p m k) (plan_names p m k)
 on_compile p m k = record { begun = reads_compile; rest = PlanPhase ∷ []; next = refl; named = refl; closed = refl }
+
+pub arrays_are : {E : Type 0} (r : Resolved) (plan : Plan) (params : List Param) (dims : List (List ℕ))
+    (buffers : List ℕ) (result : Result (List EntryArray) E) → params ≡ params_of r.typed.now r.mapping.now
+    → entry_extents r.mapping.now.sizes (params_of r.typed.now r.mapping.now) ≡ Ok dims → buffers ≡ plan.draft.entry
+    → IfOk result (λ arrays. arrays ≡ entry_arrays params dims buffers) → IfOk result (AreArraysOf r plan)
+arrays_are r plan params dims buffers (Ok arrays) params_are fit same told = record {
+  entry = record { extents = dims; are = fit };
+  are = told ∙ (ap (λ (ps : List Param). entry_arrays ps dims buffers) params_are
+      ∙ ap (λ (bs : List ℕ). entry_arrays (params_of r.typed.now r.mapping.now) dims bs) same);
+}
+arrays_are r plan params dims buffers (Err e) params_are fit same told = tt
 
 -- the file of a plan is one
 same_file : (r s : Resolved) (p q : Plan) (f g : PlanFile) → s.typed.now ≡ r.typed.now → s.mapping.now ≡ r.mapping.now
@@ -66,7 +78,7 @@ module _ (p m k : List ℕ) (told : Option Content) (r : Resolved) (plan : Plan)
   its_told : (c : Content) → IsTold (compile_of p m k) told c → told ≡ Some c
   its_told c = one (compile_of p m k) reads_compile p m k told c
 
-  filed : (c : Content) → told ≡ Some c → Filed (inputs_of c (compile_of p m k))
+  abbrev filed : (c : Content) → told ≡ Some c → Filed (inputs_of c (compile_of p m k))
   filed c is = record {
     forms = r;
     its = record {

@@ -74,22 +74,16 @@ impl<'a> OnPlan<'a> for Compile<'a> {
 }
 
 // The arrays of the entry, in the buffers of the plan.
-fn arrays_of(
-    alloc: Global,
-    resolved: &Resolved<'_>,
-    plan: &Plan,
-) -> Result<EntryArrays, AllocError>
+fn arrays_of(alloc: Global, resolved: &Resolved<'_>, plan: &Plan) -> Result<EntryArrays, AllocError>
     requires { IsPlanOf resolved.now plan.now }
     ensures { IfOk result (λ arrays. AreArraysOf resolved.now plan.now arrays) }
 {
     // Each of the arrays has a buffer.
     places_fit();
-    entry_arrays(
-        alloc,
-        resolved.entry_params(),
-        entry_dims(resolved),
-        plan.draft.entry.as_slice(),
-    )
+    let params = resolved.entry_params();
+    let dims = entry_dims(resolved);
+    let buffers = plan.draft.entry.as_slice();
+    entry_arrays(alloc, params, dims, buffers)
 }
 
 // Writes the file of a plan and its arrays.
