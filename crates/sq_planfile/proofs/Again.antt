@@ -26,7 +26,7 @@ use Rattle.sq_planfile.specs.declared.left.Left.{Left}
 use Rattle.sq_planfile.specs.declared.left.Left.TheVariants.{Alone}
 use Rattle.sq_planfile.specs.Left.{then_seq, then_par, scope, whole}
 use Rattle.sq_planfile.specs.Written.{slot_text, view_text, event_text, seq_parts, par_parts, reading_of, left_of, line_of, buffer_lines, text_of, array_of}
-use Rattle.sq_planfile.specs.Joined.{all_seq, all_par, joined_step, joined, bare_buffer, bare_leaf, bare_array, ReadsBack}
+use Rattle.sq_planfile.specs.Joined.{joined_step, joined, bare_buffer, bare_leaf, bare_array, ReadsBack}
 use Rattle.sq_planfile.specs.Sound.{AskedOfTexts, AreEvents, IsScope, IsSound}
 use Rattle.sq_planfile.specs.Sound as sound
 use Rattle.sq_planfile.proofs.Equations.{below, below_seq, below_par, below_at, below_act, sound_seq, sound_par, sound_at, sound_act}
@@ -60,17 +60,17 @@ module _ (s : Setting) (env : Env) where
 
 -- ---- the equations of what is joined
 
-pub joined_seq : (xs : List TermText) → joined (t.Seq xs) ≡ all_seq (map joined xs)
-joined_seq xs = ap joined (sym (t.rolls-Seq xs)) ∙ fold-roll-TermText Left joined_step (TermText-F.Seq xs)
+pub joined_seq : (xs : List TermText) → joined (t.Seq xs) ≡ joined_step (TermText-F.Seq (map joined xs))
+joined_seq xs = ap joined (sym (t.rolls-Seq xs)) ∙ fold-roll-TermText (ℕ → Left) joined_step (TermText-F.Seq xs)
 
-pub joined_par : (xs : List TermText) → joined (t.Par xs) ≡ all_par (map joined xs)
-joined_par xs = ap joined (sym (t.rolls-Par xs)) ∙ fold-roll-TermText Left joined_step (TermText-F.Par xs)
+pub joined_par : (xs : List TermText) → joined (t.Par xs) ≡ joined_step (TermText-F.Par (map joined xs))
+joined_par xs = ap joined (sym (t.rolls-Par xs)) ∙ fold-roll-TermText (ℕ → Left) joined_step (TermText-F.Par xs)
 
-pub joined_at : (p : Place) (node : ℕ) (bs : List ℕ) (x : TermText) → joined (t.At p node bs x) ≡ scope node bs (joined x)
-joined_at p node bs x = ap joined (sym (t.rolls-At p node bs x)) ∙ fold-roll-TermText Left joined_step (TermText-F.At p node bs x)
+pub joined_at : (p : Place) (node : ℕ) (bs : List ℕ) (x : TermText) → joined (t.At p node bs x) ≡ joined_step (TermText-F.At p node bs (joined x))
+joined_at p node bs x = ap joined (sym (t.rolls-At p node bs x)) ∙ fold-roll-TermText (ℕ → Left) joined_step (TermText-F.At p node bs x)
 
-pub joined_act : (p : Place) (e : EventText) → joined (t.Act p e) ≡ Alone (t.Act nowhere e)
-joined_act p e = ap joined (sym (t.rolls-Act p e)) ∙ fold-roll-TermText Left joined_step (TermText-F.Act p e)
+pub joined_act : (p : Place) (e : EventText) → joined (t.Act p e) ≡ joined_step (TermText-F.Act p e)
+joined_act p e = ap joined (sym (t.rolls-Act p e)) ∙ fold-roll-TermText (ℕ → Left) joined_step (TermText-F.Act p e)
 
 -- ---- lists of lines
 
@@ -109,7 +109,7 @@ module _ (x : PlanText) (nodes : AreNodes (nodes_of x)) where
   S = setting_of (plan_of x)
 
   abbrev Same : TermText → Type 0
-  Same y = (env : Env) (bs : List ℕ) → AreEvents x y env bs → left_of S (below (nodes_of x) y (node_of env)) env ≡ joined y
+  Same y = (env : Env) (bs : List ℕ) → AreEvents x y env bs → left_of S (below (nodes_of x) y (node_of env)) env ≡ joined y (node_of env)
 
   abbrev M : Type 0
   M = (y : TermText) × Same y
@@ -117,25 +117,25 @@ module _ (x : PlanText) (nodes : AreNodes (nodes_of x)) where
   abbrev texts : List M → List TermText
   texts xs = map (λ m. m.0) xs
 
-  seq_same : (xs : List M) (env : Env) (bs : List ℕ) → sound.each_part (AreEvents x) (texts xs) env bs → seq_parts (map (left_of S) (each_below (map (below (nodes_of x)) (texts xs)) (node_of env))) env ≡ all_seq (map joined (texts xs))
+  seq_same : (xs : List M) (env : Env) (bs : List ℕ) → sound.each_part (AreEvents x) (texts xs) env bs → seq_parts (map (left_of S) (each_below (map (below (nodes_of x)) (texts xs)) (node_of env))) env ≡ seq_parts (map joined (texts xs)) (node_of env)
   seq_same [] env bs h = refl
-  seq_same (m ∷ xs) env bs h = ap (λ a. then_seq a (seq_parts (map (left_of S) (each_below (map (below (nodes_of x)) (texts xs)) (node_of env))) env)) (m.1 env bs h.0) ∙ ap (λ b. then_seq (joined m.0) b) (seq_same xs env bs h.1)
+  seq_same (m ∷ xs) env bs h = ap (λ a. then_seq a (seq_parts (map (left_of S) (each_below (map (below (nodes_of x)) (texts xs)) (node_of env))) env)) (m.1 env bs h.0) ∙ ap (λ b. then_seq (joined m.0 (node_of env)) b) (seq_same xs env bs h.1)
 
-  par_same : (xs : List M) (env : Env) (bs : List ℕ) → sound.each_part (AreEvents x) (texts xs) env bs → par_parts (map (left_of S) (each_below (map (below (nodes_of x)) (texts xs)) (node_of env))) env ≡ all_par (map joined (texts xs))
+  par_same : (xs : List M) (env : Env) (bs : List ℕ) → sound.each_part (AreEvents x) (texts xs) env bs → par_parts (map (left_of S) (each_below (map (below (nodes_of x)) (texts xs)) (node_of env))) env ≡ par_parts (map joined (texts xs)) (node_of env)
   par_same [] env bs h = refl
-  par_same (m ∷ xs) env bs h = ap (λ a. then_par a (par_parts (map (left_of S) (each_below (map (below (nodes_of x)) (texts xs)) (node_of env))) env)) (m.1 env bs h.0) ∙ ap (λ b. then_par (joined m.0) b) (par_same xs env bs h.1)
+  par_same (m ∷ xs) env bs h = ap (λ a. then_par a (par_parts (map (left_of S) (each_below (map (below (nodes_of x)) (texts xs)) (node_of env))) env)) (m.1 env bs h.0) ∙ ap (λ b. then_par (joined m.0 (node_of env)) b) (par_same xs env bs h.1)
 
-  by_equations : (y : TermText) (asks : AskedOfTexts) (b : Below) (j : Left) → AreEvents x y ≡ asks → below (nodes_of x) y ≡ b → joined y ≡ j → ((env : Env) (bs : List ℕ) → asks env bs → left_of S (b (node_of env)) env ≡ j) → Same y
-  by_equations y asks b j e q r h env bs s = ap (λ f. left_of S (f (node_of env)) env) q ∙ h env bs (subst (λ (f : AskedOfTexts). f env bs) e s) ∙ sym r
+  by_equations : (y : TermText) (asks : AskedOfTexts) (b : Below) (j : ℕ → Left) → AreEvents x y ≡ asks → below (nodes_of x) y ≡ b → joined y ≡ j → ((env : Env) (bs : List ℕ) → asks env bs → left_of S (b (node_of env)) env ≡ j (node_of env)) → Same y
+  by_equations y asks b j e q r h env bs s = ap (λ f. left_of S (f (node_of env)) env) q ∙ h env bs (subst (λ (f : AskedOfTexts). f env bs) e s) ∙ sym (ap (λ f. f (node_of env)) r)
 
   scope_same : (node : ℕ) (buffers : List ℕ) (m : M) (env : Env) (bs : List ℕ) → IsScope x env node buffers → AreEvents x m.0 (sound.inside x env node) (buffers ++ bs)
-      → left_of S (term.Within (child_at (nodes_of x) (node_of env) node) buffers (below (nodes_of x) m.0 node)) env ≡ scope node buffers (joined m.0)
+      → left_of S (term.Within (child_at (nodes_of x) (node_of env) node) buffers (below (nodes_of x) m.0 node)) env ≡ scope (node_of env) node buffers (joined m.0 node)
   scope_same node buffers m env bs h g =
       let inner = sound.inside x env node in
       let at : node_of inner ≡ node = (at_node x nodes env node buffers h (node_of env == node) refl).1 in
       ap (λ f. f env) (left_within (reading_of S) (child_at (nodes_of x) (node_of env) node) buffers (below (nodes_of x) m.0 node))
-      ∙ ap (λ k. scope k buffers (left_of S (below (nodes_of x) m.0 node) inner)) at
-      ∙ ap (λ k. scope node buffers (left_of S (below (nodes_of x) m.0 k) inner)) (sym at) ∙ ap (scope node buffers) (m.1 inner (buffers ++ bs) g)
+      ∙ ap (λ k. scope (node_of env) k buffers (left_of S (below (nodes_of x) m.0 node) inner)) at
+      ∙ ap (λ k. scope (node_of env) node buffers (left_of S (below (nodes_of x) m.0 k) inner)) (sym at) ∙ ap (scope (node_of env) node buffers) (m.1 inner (buffers ++ bs) g ∙ ap (joined m.0) at)
 
   step : (y : TermText-F M) → Same (roll-TermText (map-TermText M TermText (λ m. m.0) y))
   step (TermText-F.Seq xs) = subst Same (sym (t.rolls-Seq (texts xs))) (by_equations (t.Seq (texts xs)) _ _ _ (sound_seq x (texts xs)) (below_seq (nodes_of x) (texts xs)) (joined_seq (texts xs))
@@ -155,6 +155,6 @@ lines_same n m b c l k a e y z p q r s t = cc
 
 -- a file that was read is written out as its lines were
 pub reads_back : (x : PlanText) → ReadsBack x
-reads_back x s = lines_same _ x.nodes _ (map bare_buffer x.buffers) _ (map bare_leaf x.leaves) _ (map bare_array x.arrays) _ (whole (joined x.term))
+reads_back x s = lines_same _ x.nodes _ (map bare_buffer x.buffers) _ (map bare_leaf x.leaves) _ (map bare_array x.arrays) _ (whole (joined x.term 0))
     (nodes_again x.nodes) (buffers_again [] x.buffers) (leaves_again x.leaves) (arrays_again x.arrays)
     (ap whole (term_same x s.nodes x.term at_root (map (λ a. a.buffer) x.arrays) s.events))

@@ -15,7 +15,7 @@ use Rattle.sq_planfile.specs.declared.left.Left.{Left}
 use Rattle.sq_planfile.specs.declared.left.Left.TheVariants.{Nothing}
 use Rattle.sq_planfile.specs.Left.{then_seq, then_par, scope}
 use Rattle.sq_planfile.specs.Written.{Reading, seq_parts, par_parts, arm_of, arm_at, turn_at, left_step, left_by}
-use Rattle.sq_planfile.proofs.Joins.{seq_of_nothing, par_of_nothing}
+use Rattle.sq_planfile.proofs.Joins.{seq_of_nothing, par_of_nothing, no_scope}
 
 either_false : (x y : Bool) → (x || y) ≡ false → (x ≡ false) × (y ≡ false)
 either_false false y h = (refl, h)
@@ -99,7 +99,7 @@ module _ {At : Type 0} (r : Reading At) where
       ∙ par_of_nothing m _ 0 (λ c. seq_of_nothing k (turn_at r rule k m (left_by r y.0) at c) 0 (λ u. turn_none rule k m (left_by r y.0) at c u (y.1 (sym (acts_spread n rule y.0) ∙ h) (r.turn at u)))))
   empty_step (Term-F.Case n ys) = subst Empty (sym (t.rolls-Case n (terms ys))) (λ h at. ap (λ f. f at) (left_case n (terms ys)) ∙ arms_none ys (sym (acts_case n (terms ys)) ∙ h) (r.value n at) at)
   empty_step (Term-F.Within c bs y) = subst Empty (sym (t.rolls-Within c bs y.0)) (λ h at. ap (λ f. f at) (left_within c bs y.0)
-      ∙ ap (scope (r.node (r.inside c at)) bs) (y.1 (sym (acts_within c bs y.0) ∙ h) (r.inside c at)))
+      ∙ ap (scope (r.node at) (r.node (r.inside c at)) bs) (y.1 (sym (acts_within c bs y.0) ∙ h) (r.inside c at)) ∙ no_scope (r.node at) (r.node (r.inside c at)) bs)
 
   pub no_action : (x : Term) → Empty x
   no_action = ind-Term Empty (λ x y is. subst (λ z. Empty (roll-Term z)) is (empty_step y))

@@ -1,11 +1,12 @@
 -- How what is left of parts is joined.
-use Rattle.std.proofs.Common.{◌≡◌, ℕ, zero, suc, ◌+◌, ◌-◌, ◌<◌, ◌≤◌, true, false, List, [], ◌∷◌, ◌++◌, length, refl, sym, ap, ◌∙◌, arith, append_assoc}
+use Rattle.std.proofs.Common.{◌≡◌, ℕ, zero, suc, ◌+◌, ◌-◌, ◌<◌, ◌≤◌, true, false, List, [], ◌∷◌, ◌++◌, length, refl, sym, ap, ◌∙◌, arith, append_assoc, Bool}
+use Rattle.std.specs.Prelude.{if◌then◌else◌}
 use Rattle.sq_ast.specs.Unplaced.{nowhere}
 use Rattle.sq_plantext.specs.declared.text.TermText.{TermText}
 use Rattle.sq_plantext.specs.declared.text.TermText.TheVariants as text
 use Rattle.sq_planfile.specs.declared.left.Left.{Left}
 use Rattle.sq_planfile.specs.declared.left.Left.TheVariants.{Nothing, InTurn, Beside, Alone}
-use Rattle.sq_planfile.specs.Left.{is_nothing, in_turn, beside, then_seq, then_par, whole, scope}
+use Rattle.sq_planfile.specs.Left.{is_nothing, is_left_out, in_turn, beside, then_seq, then_par, whole, lines_of, scope}
 use Rattle.sq_planfile.specs.Written.{seq_parts, par_parts, seq_of, par_of, arm_of}
 
 pub seq_first : (a b : Left) → is_nothing a ≡ true → then_seq a b ≡ b
@@ -83,14 +84,28 @@ seq_both a b h g = seq_is (is_some a h) (is_some b g)
 pub par_both : (a b : Left) → is_nothing a ≡ false → is_nothing b ≡ false → then_par a b ≡ Beside (beside a ++ beside b)
 par_both a b h g = par_is (is_some a h) (is_some b g)
 
-pub scope_nothing : (node : ℕ) (bs : List ℕ) (a : Left) → is_nothing a ≡ true → scope node bs a ≡ Nothing
-scope_nothing node bs a h = ap (scope node bs) (nothing_is a h)
+pub lines_some : (node : ℕ) (bs : List ℕ) (a : Left) → is_nothing a ≡ false → lines_of node bs a ≡ Alone (text.At nowhere node bs (whole a))
+lines_some node bs Nothing h = absurd (cc)
+lines_some node bs (InTurn ts) h = refl
+lines_some node bs (Beside ts) h = refl
+lines_some node bs (Alone t) h = refl
 
-pub scope_some : (node : ℕ) (bs : List ℕ) (a : Left) → is_nothing a ≡ false → scope node bs a ≡ Alone (text.At nowhere node bs (whole a))
-scope_some node bs Nothing h = absurd (cc)
-scope_some node bs (InTurn ts) h = refl
-scope_some node bs (Beside ts) h = refl
-scope_some node bs (Alone t) h = refl
+-- round nothing there is no scope
+pub no_scope : (here node : ℕ) (bs : List ℕ) → scope here node bs Nothing ≡ Nothing
+no_scope here node bs = by (is_left_out here node bs)
+  where
+    by : (v : Bool) → (if v then Nothing else Nothing) ≡ Nothing
+    by true = refl
+    by false = refl
+
+pub scope_nothing : (here node : ℕ) (bs : List ℕ) (a : Left) → is_nothing a ≡ true → scope here node bs a ≡ Nothing
+scope_nothing here node bs a h = ap (scope here node bs) (nothing_is a h) ∙ no_scope here node bs
+
+pub scope_out : (here node : ℕ) (bs : List ℕ) (a : Left) → is_left_out here node bs ≡ true → scope here node bs a ≡ a
+scope_out here node bs a h = ap (λ v. if v then a else lines_of node bs a) h
+
+pub scope_some : (here node : ℕ) (bs : List ℕ) (a : Left) → is_nothing a ≡ false → is_left_out here node bs ≡ false → scope here node bs a ≡ Alone (text.At nowhere node bs (whole a))
+scope_some here node bs a h k = ap (λ v. if v then a else lines_of node bs a) k ∙ lines_some node bs a h
 
 -- ---- joining is associative
 

@@ -1,5 +1,6 @@
 -- How many events are left: of parts together it is the sum, whether in turn or beside one another.
-use Rattle.std.proofs.Common.{◌≡◌, ℕ, zero, suc, ◌+◌, ◌-◌, ◌<◌, ◌≤◌, Option, List, [], ◌∷◌, ◌++◌, map, refl, sym, ap, ap₂, ◌∙◌, arith}
+use Rattle.std.proofs.Common.{◌≡◌, ℕ, zero, suc, ◌+◌, ◌-◌, ◌<◌, ◌≤◌, Option, List, [], ◌∷◌, ◌++◌, map, refl, sym, ap, ap₂, ◌∙◌, arith, Bool, true, false}
+use Rattle.std.specs.Prelude.{if◌then◌else◌}
 use Rattle.sq_ir.specs.declared.num.Num.{Num}
 use Rattle.sq_ir.specs.declared.term.Action.{Action}
 use Rattle.sq_ir.specs.declared.term.Term.{Term}
@@ -11,7 +12,7 @@ use Rattle.sq_plantext.specs.declared.text.TermText.{TermText}
 use Rattle.sq_plantext.specs.declared.text.TermText.TheVariants as t
 use Rattle.sq_planfile.specs.declared.left.Left.{Left}
 use Rattle.sq_planfile.specs.declared.left.Left.TheVariants.{Nothing, InTurn, Beside, Alone}
-use Rattle.sq_planfile.specs.Left.{in_turn, beside, then_seq, then_par, whole, scope}
+use Rattle.sq_planfile.specs.Left.{in_turn, beside, then_seq, then_par, whole, is_left_out, lines_of, scope}
 use Rattle.sq_planfile.specs.Written.{seq_of, par_of}
 use Rattle.sq_planfile.specs.Limits.{most_events, sum, size}
 use Rattle.sq_planfile.specs.Words.{number, few, event_at, left_in, left_within}
@@ -72,17 +73,24 @@ number_seq a b = seq_shown a b (shown a) (shown b)
 pub number_par : (a b : Left) → number (then_par a b) ≡ number a + number b
 number_par a b = par_shown a b (shown a) (shown b)
 
-pub number_scope : (node : ℕ) (bs : List ℕ) (a : Left) → number (scope node bs a) ≡ number a
-number_scope node bs Nothing = refl
-number_scope node bs (InTurn ts) = size_at nowhere node bs (t.Seq ts) ∙ size_seq ts
-number_scope node bs (Beside ts) = size_at nowhere node bs (t.Par ts) ∙ size_par ts
-number_scope node bs (Alone x) = size_at nowhere node bs x
+number_lines : (node : ℕ) (bs : List ℕ) (a : Left) → number (lines_of node bs a) ≡ number a
+number_lines node bs Nothing = refl
+number_lines node bs (InTurn ts) = size_at nowhere node bs (t.Seq ts) ∙ size_seq ts
+number_lines node bs (Beside ts) = size_at nowhere node bs (t.Par ts) ∙ size_par ts
+number_lines node bs (Alone x) = size_at nowhere node bs x
+
+pub number_scope : (here node : ℕ) (bs : List ℕ) (a : Left) → number (scope here node bs a) ≡ number a
+number_scope here node bs a = by (is_left_out here node bs)
+  where
+    by : (v : Bool) → number (if v then a else lines_of node bs a) ≡ number a
+    by true = refl
+    by false = number_lines node bs a
 
 pub number_event : (env : Env) (a : Action) → number (event_at env a) ≡ 1
 number_event env a = size_act nowhere _
 
 pub number_within : (env : Env) (c : Option Num) (bs : List ℕ) (b : Term) → number (left_within env c bs b) ≡ number (left_in env c b)
-number_within env c bs b = number_scope (node_here (inside env.plan.now c (env_of env))) bs (left_in env c b)
+number_within env c bs b = number_scope (node_here (env_of env)) (node_here (inside env.plan.now c (env_of env))) bs (left_in env c b)
 
 -- rows of the same parts in turn and beside one another
 pub number_rows : (n : ℕ) (f : ℕ → Left) (k : ℕ) → number (par_of n f k) ≡ number (seq_of n f k)

@@ -1,6 +1,7 @@
 -- What is written out is joined already.
 use Rattle.std.proofs.Common.{◌≡◌, ℕ, zero, suc, ◌+◌, ◌==◌, Bool, true, false, Some, if◌then◌else◌, ℤ, pos, negsuc, List, [], ◌∷◌, ◌++◌, map, refl, sym, ap, ap₂, ◌∙◌, subst, get_or}
 use Rattle.std.specs.Map.{lookup}
+use Rattle.std.proofs.lemmas.Bool.{eqb-true}
 use Rattle.std.proofs.lemmas.Slice.Eq.{bytes_eq-Decides}
 use Rattle.sq_text.specs.Names.{Bytes, same_name}
 use Rattle.sq_text.specs.Spreading.{child_of}
@@ -9,7 +10,7 @@ use Rattle.sq_blocks.specs.Names.{Numbers, or_zero, number_of}
 use Rattle.sq_ir.specs.declared.term.Term.{Term, roll-Term}
 use Rattle.sq_ir.specs.declared.term.Term.TheOpen.{Term-F}
 use Rattle.sq_ir.specs.declared.term.Term.TheFolds.{fold-roll-Term, ind-Term, map-Term}
-use Rattle.sq_ir.specs.Written.{at_root}
+use Rattle.sq_ir.specs.Written.{Setting, Env, at_root, node_of, at_turn, value_of, count_of, inside_of}
 use Rattle.sq_ir.specs.Plans.{setting_of}
 use Rattle.sq_ir.specs.declared.plan.Buffer.{Buffer}
 use Rattle.sq_ir.specs.declared.plan.Leaf.{Leaf}
@@ -20,83 +21,103 @@ use Rattle.sq_plantext.specs.Grammar.{name_at, binding, buffer_line, leaf_text, 
 use Rattle.sq_planfile.specs.declared.entry.EntryArray.{EntryArray}
 use Rattle.sq_planfile.specs.declared.left.Left.{Left}
 use Rattle.sq_planfile.specs.declared.left.Left.TheVariants.{Nothing, Alone}
-use Rattle.sq_planfile.specs.Left.{in_turn, beside, then_seq, then_par, whole, scope}
+use Rattle.sq_planfile.specs.Left.{in_turn, beside, then_seq, then_par, whole, lines_of, scope}
 use Rattle.sq_planfile.specs.File.{PlanFile}
-use Rattle.sq_planfile.specs.Written.{Reading, reading_of, seq_parts, par_parts, seq_of, par_of, arm_of, arm_at, turn_at, event_text, left_step, left_by, left_of, names_in, firsts, buffer_lines, text_of, array_of, written}
-use Rattle.sq_planfile.specs.Joined.{all_seq, all_par, joined, bare_buffer, bare_leaf, bare_array, StaysWritten}
+use Rattle.sq_planfile.specs.Written.{Reading, reading_of, seq_parts, par_parts, seq_of, par_of, arm_of, arm_at, turn_at, event_text, left_step, left_of, names_in, firsts, buffer_lines, text_of, array_of, written}
+use Rattle.sq_planfile.specs.Joined.{joined, bare_buffer, bare_leaf, bare_array, StaysWritten}
 use Rattle.sq_planfile.proofs.Again.{joined_seq, joined_par, joined_at, joined_act, lines_same}
 use Rattle.sq_planfile.proofs.Joins.{IsSome, turns, besides, alone, Shown, none, some, shown, seq_is, par_is, seq_nothing, par_nothing, seq_assoc, par_assoc}
 
 -- ---- lists of lines
 
-all_seq_append : (xs ys : List TermText) → all_seq (map joined (xs ++ ys)) ≡ then_seq (all_seq (map joined xs)) (all_seq (map joined ys))
-all_seq_append [] ys = refl
-all_seq_append (x ∷ xs) ys = ap (then_seq (joined x)) (all_seq_append xs ys) ∙ sym (seq_assoc (joined x) (all_seq (map joined xs)) (all_seq (map joined ys)))
+seq_append : (here : ℕ) (xs ys : List TermText) → seq_parts (map joined (xs ++ ys)) here ≡ then_seq (seq_parts (map joined xs) here) (seq_parts (map joined ys) here)
+seq_append here [] ys = refl
+seq_append here (x ∷ xs) ys = ap (then_seq (joined x here)) (seq_append here xs ys)
+    ∙ sym (seq_assoc (joined x here) (seq_parts (map joined xs) here) (seq_parts (map joined ys) here))
 
-all_par_append : (xs ys : List TermText) → all_par (map joined (xs ++ ys)) ≡ then_par (all_par (map joined xs)) (all_par (map joined ys))
-all_par_append [] ys = refl
-all_par_append (x ∷ xs) ys = ap (then_par (joined x)) (all_par_append xs ys) ∙ sym (par_assoc (joined x) (all_par (map joined xs)) (all_par (map joined ys)))
+par_append : (here : ℕ) (xs ys : List TermText) → par_parts (map joined (xs ++ ys)) here ≡ then_par (par_parts (map joined xs) here) (par_parts (map joined ys) here)
+par_append here [] ys = refl
+par_append here (x ∷ xs) ys = ap (then_par (joined x here)) (par_append here xs ys)
+    ∙ sym (par_assoc (joined x here) (par_parts (map joined xs) here) (par_parts (map joined ys) here))
 
--- ---- what is joined stays
+-- ---- what is joined stays, where a node is in force
 
-pub record Stays (a : Left) : Type 0 where
-  pub is : joined (whole a) ≡ a
+pub record Stays (here : ℕ) (a : Left) : Type 0 where
+  pub is : joined (whole a) here ≡ a
 
-nothing : Stays Nothing
-nothing = record { is = joined_seq [] }
+module _ (here : ℕ) where
+  nothing : Stays here Nothing
+  nothing = record { is = ap (λ f. f here) (joined_seq []) }
 
-as_seq : {a : Left} → IsSome a → Stays a → all_seq (map joined (in_turn a)) ≡ a
-as_seq (turns {ts = ts}) h = sym (joined_seq ts) ∙ h.is
-as_seq (besides {ts = ts}) h = seq_nothing (joined (t.Par ts)) ∙ h.is
-as_seq (alone {y = y}) h = seq_nothing (joined y) ∙ h.is
+  as_seq : {a : Left} → IsSome a → Stays here a → seq_parts (map joined (in_turn a)) here ≡ a
+  as_seq (turns {ts = ts}) h = sym (ap (λ f. f here) (joined_seq ts)) ∙ h.is
+  as_seq (besides {ts = ts}) h = seq_nothing (joined (t.Par ts) here) ∙ h.is
+  as_seq (alone {y = y}) h = seq_nothing (joined y here) ∙ h.is
 
-as_par : {a : Left} → IsSome a → Stays a → all_par (map joined (beside a)) ≡ a
-as_par (turns {ts = ts}) h = par_nothing (joined (t.Seq ts)) ∙ h.is
-as_par (besides {ts = ts}) h = sym (joined_par ts) ∙ h.is
-as_par (alone {y = y}) h = par_nothing (joined y) ∙ h.is
+  as_par : {a : Left} → IsSome a → Stays here a → par_parts (map joined (beside a)) here ≡ a
+  as_par (turns {ts = ts}) h = par_nothing (joined (t.Seq ts) here) ∙ h.is
+  as_par (besides {ts = ts}) h = sym (ap (λ f. f here) (joined_par ts)) ∙ h.is
+  as_par (alone {y = y}) h = par_nothing (joined y here) ∙ h.is
 
-seq_stays : (a b : Left) → Shown a → Shown b → Stays a → Stays b → Stays (then_seq a b)
-seq_stays a b (none e) y h g = subst (λ a. Stays (then_seq a b)) (sym e) g
-seq_stays a b (some x) (none e) h g = subst (λ b. Stays (then_seq a b)) (sym e) (subst Stays (sym (seq_nothing a)) h)
-seq_stays a b (some x) (some y) h g = subst Stays (sym (seq_is x y)) (record {
-  is = joined_seq (in_turn a ++ in_turn b) ∙ all_seq_append (in_turn a) (in_turn b) ∙ ap (λ l. then_seq l (all_seq (map joined (in_turn b)))) (as_seq x h) ∙ ap (then_seq a) (as_seq y g) ∙ seq_is x y;
-})
+  seq_stays : (a b : Left) → Shown a → Shown b → Stays here a → Stays here b → Stays here (then_seq a b)
+  seq_stays a b (none e) y h g = subst (λ a. Stays here (then_seq a b)) (sym e) g
+  seq_stays a b (some x) (none e) h g = subst (λ b. Stays here (then_seq a b)) (sym e) (subst (Stays here) (sym (seq_nothing a)) h)
+  seq_stays a b (some x) (some y) h g = subst (Stays here) (sym (seq_is x y)) (record {
+    is = ap (λ f. f here) (joined_seq (in_turn a ++ in_turn b)) ∙ seq_append here (in_turn a) (in_turn b)
+        ∙ ap (λ l. then_seq l (seq_parts (map joined (in_turn b)) here)) (as_seq x h) ∙ ap (then_seq a) (as_seq y g) ∙ seq_is x y;
+  })
 
-par_stays : (a b : Left) → Shown a → Shown b → Stays a → Stays b → Stays (then_par a b)
-par_stays a b (none e) y h g = subst (λ a. Stays (then_par a b)) (sym e) g
-par_stays a b (some x) (none e) h g = subst (λ b. Stays (then_par a b)) (sym e) (subst Stays (sym (par_nothing a)) h)
-par_stays a b (some x) (some y) h g = subst Stays (sym (par_is x y)) (record {
-  is = joined_par (beside a ++ beside b) ∙ all_par_append (beside a) (beside b) ∙ ap (λ l. then_par l (all_par (map joined (beside b)))) (as_par x h) ∙ ap (then_par a) (as_par y g) ∙ par_is x y;
-})
+  par_stays : (a b : Left) → Shown a → Shown b → Stays here a → Stays here b → Stays here (then_par a b)
+  par_stays a b (none e) y h g = subst (λ a. Stays here (then_par a b)) (sym e) g
+  par_stays a b (some x) (none e) h g = subst (λ b. Stays here (then_par a b)) (sym e) (subst (Stays here) (sym (par_nothing a)) h)
+  par_stays a b (some x) (some y) h g = subst (Stays here) (sym (par_is x y)) (record {
+    is = ap (λ f. f here) (joined_par (beside a ++ beside b)) ∙ par_append here (beside a) (beside b)
+        ∙ ap (λ l. then_par l (par_parts (map joined (beside b)) here)) (as_par x h) ∙ ap (then_par a) (as_par y g) ∙ par_is x y;
+  })
 
-scope_is : (node : ℕ) (bs : List ℕ) {a : Left} → IsSome a → scope node bs a ≡ Alone (t.At nowhere node bs (whole a))
-scope_is node bs turns = refl
-scope_is node bs besides = refl
-scope_is node bs alone = refl
+  lines_are : (node : ℕ) (bs : List ℕ) {a : Left} → IsSome a → lines_of node bs a ≡ Alone (t.At nowhere node bs (whole a))
+  lines_are node bs turns = refl
+  lines_are node bs besides = refl
+  lines_are node bs alone = refl
 
-scope_stays : (node : ℕ) (bs : List ℕ) (a : Left) → Shown a → Stays a → Stays (scope node bs a)
-scope_stays node bs a (none e) h = subst (λ a. Stays (scope node bs a)) (sym e) nothing
-scope_stays node bs a (some x) h = subst Stays (sym (scope_is node bs x)) (record { is = joined_at nowhere node bs (whole a) ∙ ap (scope node bs) h.is ∙ scope_is node bs x })
+  -- lines that are those of the scope where the node is in force
+  lines_stay : (node : ℕ) (bs : List ℕ) (a : Left) → Shown a → Stays node a → scope here node bs a ≡ lines_of node bs a → Stays here (lines_of node bs a)
+  lines_stay node bs a (none e) h k = subst (λ a. Stays here (lines_of node bs a)) (sym e) nothing
+  lines_stay node bs a (some x) h k = subst (Stays here) (sym (lines_are node bs x)) (record {
+    is = ap (λ f. f here) (joined_at nowhere node bs (whole a)) ∙ ap (scope here node bs) h.is ∙ k ∙ lines_are node bs x;
+  })
+
+  scope_stays : (node : ℕ) (bs : List ℕ) (a : Left) → Stays node a → Stays here (scope here node bs a)
+  scope_stays node (b ∷ bs) a h = lines_stay node (b ∷ bs) a (shown a) h refl
+  scope_stays node [] a h = by (here == node) refl
+    where
+      by : (v : Bool) → (here == node) ≡ v → Stays here (if v then a else lines_of node [] a)
+      by true e = subst (λ n. Stays n a) (sym (eqb-true here node e)) h
+      by false e = lines_stay node [] a (shown a) h (ap (λ v. if v then a else lines_of node [] a) e)
 
 -- ---- terms
 
-seq_of_stays : (n : ℕ) (f : ℕ → Left) (k : ℕ) → ((k : ℕ) → Stays (f k)) → Stays (seq_of n f k)
-unfolding seq_of
-seq_of_stays zero f k h = nothing
-seq_of_stays (suc n) f k h = seq_stays (f k) (seq_of n f (k + 1)) (shown _) (shown _) (h k) (seq_of_stays n f (k + 1) h)
+module _ (here : ℕ) where
+  seq_of_stays : (n : ℕ) (f : ℕ → Left) (k : ℕ) → ((k : ℕ) → Stays here (f k)) → Stays here (seq_of n f k)
+  unfolding seq_of
+  seq_of_stays zero f k h = nothing here
+  seq_of_stays (suc n) f k h = seq_stays here (f k) (seq_of n f (k + 1)) (shown _) (shown _) (h k) (seq_of_stays n f (k + 1) h)
 
-par_of_stays : (n : ℕ) (f : ℕ → Left) (k : ℕ) → ((k : ℕ) → Stays (f k)) → Stays (par_of n f k)
-unfolding par_of
-par_of_stays zero f k h = nothing
-par_of_stays (suc n) f k h = par_stays (f k) (par_of n f (k + 1)) (shown _) (shown _) (h k) (par_of_stays n f (k + 1) h)
+  par_of_stays : (n : ℕ) (f : ℕ → Left) (k : ℕ) → ((k : ℕ) → Stays here (f k)) → Stays here (par_of n f k)
+  unfolding par_of
+  par_of_stays zero f k h = nothing here
+  par_of_stays (suc n) f k h = par_stays here (f k) (par_of n f (k + 1)) (shown _) (shown _) (h k) (par_of_stays n f (k + 1) h)
 
-either : (b : Bool) (a : Left) → Stays a → Stays (if b then a else Nothing)
-either true a h = h
-either false a h = nothing
+  either : (b : Bool) (a : Left) → Stays here a → Stays here (if b then a else Nothing)
+  either true a h = h
+  either false a h = nothing here
 
-module _ {At : Type 0} (r : Reading At) where
+module _ (s : Setting) where
+  abbrev r : Reading Env
+  r = reading_of s
+
   abbrev Holds : Term → Type 0
-  Holds x = (at : At) → Stays (left_by r x at)
+  Holds x = (env : Env) → Stays (node_of env) (left_of s x env)
 
   abbrev M : Type 0
   M = (x : Term) × Holds x
@@ -104,47 +125,47 @@ module _ {At : Type 0} (r : Reading At) where
   abbrev terms : List M → List Term
   terms xs = map (λ m. m.0) xs
 
-  seq_parts_stay : (xs : List M) (at : At) → Stays (seq_parts (map (left_by r) (terms xs)) at)
-  seq_parts_stay [] at = nothing
-  seq_parts_stay (m ∷ xs) at = seq_stays (left_by r m.0 at) (seq_parts (map (left_by r) (terms xs)) at) (shown _) (shown _) (m.1 at) (seq_parts_stay xs at)
+  seq_parts_stay : (xs : List M) (env : Env) → Stays (node_of env) (seq_parts (map (left_of s) (terms xs)) env)
+  seq_parts_stay [] env = nothing (node_of env)
+  seq_parts_stay (m ∷ xs) env = seq_stays (node_of env) (left_of s m.0 env) (seq_parts (map (left_of s) (terms xs)) env) (shown _) (shown _) (m.1 env) (seq_parts_stay xs env)
 
-  par_parts_stay : (xs : List M) (at : At) → Stays (par_parts (map (left_by r) (terms xs)) at)
-  par_parts_stay [] at = nothing
-  par_parts_stay (m ∷ xs) at = par_stays (left_by r m.0 at) (par_parts (map (left_by r) (terms xs)) at) (shown _) (shown _) (m.1 at) (par_parts_stay xs at)
+  par_parts_stay : (xs : List M) (env : Env) → Stays (node_of env) (par_parts (map (left_of s) (terms xs)) env)
+  par_parts_stay [] env = nothing (node_of env)
+  par_parts_stay (m ∷ xs) env = par_stays (node_of env) (left_of s m.0 env) (par_parts (map (left_of s) (terms xs)) env) (shown _) (shown _) (m.1 env) (par_parts_stay xs env)
 
-  arm_stays : (xs : List M) (k : ℕ) (at : At) → Stays (arm_of (map (left_by r) (terms xs)) k at)
-  arm_stays [] k at = nothing
-  arm_stays (m ∷ xs) zero at = m.1 at
-  arm_stays (m ∷ xs) (suc k) at = arm_stays xs k at
+  arm_stays : (xs : List M) (k : ℕ) (env : Env) → Stays (node_of env) (arm_of (map (left_of s) (terms xs)) k env)
+  arm_stays [] k env = nothing (node_of env)
+  arm_stays (m ∷ xs) zero env = m.1 env
+  arm_stays (m ∷ xs) (suc k) env = arm_stays xs k env
 
-  arm_at_stays : (xs : List M) (z : ℤ) (at : At) → Stays (arm_at (map (left_by r) (terms xs)) z at)
-  arm_at_stays xs (pos k) at = arm_stays xs k at
-  arm_at_stays xs (negsuc k) at = nothing
+  arm_at_stays : (xs : List M) (z : ℤ) (env : Env) → Stays (node_of env) (arm_at (map (left_of s) (terms xs)) z env)
+  arm_at_stays xs (pos k) env = arm_stays xs k env
+  arm_at_stays xs (negsuc k) env = nothing (node_of env)
 
   -- of one level
-  level : (y : Term-F M) (at : At) → Stays (left_step r (map-Term Term (At → Left) (left_by r) (map-Term M Term (λ m. m.0) y)) at)
-  level Term-F.Skip at = nothing
-  level (Term-F.Act a) at = record { is = joined_act nowhere (event_text (λ n. r.count n at) a) }
-  level (Term-F.Seq xs) at = seq_parts_stay xs at
-  level (Term-F.Par xs) at = par_parts_stay xs at
-  level (Term-F.Loop n m) at = seq_of_stays (r.count n at) (λ k. left_by r m.0 (r.turn at k)) 0 (λ k. m.1 (r.turn at k))
-  level (Term-F.Spread n rule m) at =
-      let n_is = r.count n at in
-      let k_is = r.children at in
-      par_of_stays k_is (λ c. seq_of n_is (turn_at r rule n_is k_is (left_by r m.0) at c) 0) 0
-      (λ c. seq_of_stays n_is (turn_at r rule n_is k_is (left_by r m.0) at c) 0 (λ k. either (child_of rule n_is k_is k == c) (left_by r m.0 (r.turn at k)) (m.1 (r.turn at k))))
-  level (Term-F.Case n xs) at = arm_at_stays xs (r.value n at) at
-  level (Term-F.Within c bs m) at = scope_stays (r.node (r.inside c at)) bs (left_by r m.0 (r.inside c at)) (shown _) (m.1 (r.inside c at))
+  level : (y : Term-F M) (env : Env) → Stays (node_of env) (left_step r (map-Term Term (Env → Left) (left_of s) (map-Term M Term (λ m. m.0) y)) env)
+  level Term-F.Skip env = nothing (node_of env)
+  level (Term-F.Act a) env = record { is = ap (λ f. f (node_of env)) (joined_act nowhere (event_text (λ n. count_of s n env) a)) }
+  level (Term-F.Seq xs) env = seq_parts_stay xs env
+  level (Term-F.Par xs) env = par_parts_stay xs env
+  level (Term-F.Loop n m) env = seq_of_stays (node_of env) (count_of s n env) (λ k. left_of s m.0 (at_turn env k)) 0 (λ k. m.1 (at_turn env k))
+  level (Term-F.Spread n rule m) env =
+      let k = count_of s n env in
+      let c = s.children (node_of env) in
+      par_of_stays (node_of env) c (λ i. seq_of k (turn_at r rule k c (left_of s m.0) env i) 0) 0
+      (λ i. seq_of_stays (node_of env) k (turn_at r rule k c (left_of s m.0) env i) 0 (λ u. either (node_of env) (child_of rule k c u == i) (left_of s m.0 (at_turn env u)) (m.1 (at_turn env u))))
+  level (Term-F.Case n xs) env = arm_at_stays xs (value_of s n env) env
+  level (Term-F.Within c bs m) env = scope_stays (node_of env) (node_of (inside_of s env c)) bs (left_of s m.0 (inside_of s env c)) (m.1 (inside_of s env c))
 
   step : (y : Term-F M) → Holds (roll-Term (map-Term M Term (λ m. m.0) y))
-  step y at = subst (λ f. Stays (f at)) (sym (fold-roll-Term (At → Left) (left_step r) (map-Term M Term (λ m. m.0) y))) (level y at)
+  step y env = subst (λ f. Stays (node_of env) (f env)) (sym (fold-roll-Term (Env → Left) (left_step r) (map-Term M Term (λ m. m.0) y))) (level y env)
 
   pub all_stay : (x : Term) → Holds x
   all_stay = ind-Term Holds (λ x y is. subst (λ z. Holds (roll-Term z)) is (step y))
 
 -- what a file is written out as is joined already
-stays_written : (f : PlanFile) → joined (written f).term ≡ left_of (setting_of f.plan) f.plan.draft.term at_root
-stays_written f = (all_stay (reading_of (setting_of f.plan)) f.plan.draft.term at_root).is
+stays_written : (f : PlanFile) → joined (written f).term 0 ≡ left_of (setting_of f.plan) f.plan.draft.term at_root
+stays_written f = (all_stay (setting_of f.plan) f.plan.draft.term at_root).is
 
 buffers_bare : (n : ℕ) (os : List ℕ) (bs : List Buffer) → map bare_buffer (buffer_lines n os bs) ≡ buffer_lines n os bs
 buffers_bare n os [] = refl

@@ -129,14 +129,15 @@ module _ (plan : Plan) where
 
     within_same : (c : Option Num) (buffers : List ℕ) (m : M) (env : whole.Env) (at : Env) (bs : List ℕ) → Agree plan env at → IsChild s env c
         → Meets s asked m.0 (inside_of s env c) bs
-        → scope (node_here (inside plan c at)) buffers (left_by (reading plan) m.0 (inside plan c at)) ≡ scope (node_of (inside_of s env c)) buffers (left_of s m.0 (inside_of s env c))
-    within_same None buffers m env at bs ag h f = ap₂ (λ n l. scope n buffers l) ag.here (m.1 env at bs ag f)
+        → scope (node_here at) (node_here (inside plan c at)) buffers (left_by (reading plan) m.0 (inside plan c at)) ≡ scope (node_of env) (node_of (inside_of s env c)) buffers (left_of s m.0 (inside_of s env c))
+    within_same None buffers m env at bs ag h f = ap₂ (λ n l. scope n n buffers l) ag.here (m.1 env at bs ag f)
     within_same (Some c) buffers m env at bs ag h f =
         let k = count_of s c env in
         let e = count-is plan env at ag c h.0 in
         let inner = agree-child plan env at are ag k h.1 in
-        ap (λ n. scope (node_here (words.at_child plan at n)) buffers (left_by (reading plan) m.0 (words.at_child plan at n))) e
-        ∙ ap₂ (λ n l. scope n buffers l) inner.here (m.1 (whole.at_child s env k) (words.at_child plan at k) bs inner f)
+        ap (λ n. scope (node_here at) (node_here (words.at_child plan at n)) buffers (left_by (reading plan) m.0 (words.at_child plan at n))) e
+        ∙ ap (λ n. scope n (node_here (words.at_child plan at k)) buffers (left_by (reading plan) m.0 (words.at_child plan at k))) ag.here
+        ∙ ap₂ (λ n l. scope (node_of env) n buffers l) inner.here (m.1 (whole.at_child s env k) (words.at_child plan at k) bs inner f)
 
     by_equations : (x : Term) (env : whole.Env) (at : Env) (a b : Left) → left_by (reading plan) x at ≡ a → left_of s x env ≡ b → a ≡ b → left_by (reading plan) x at ≡ left_of s x env
     by_equations x env at a b e f g = e ∙ g ∙ sym f

@@ -1,6 +1,6 @@
--- What is left of the lines of a file where they are written out again: their terms joined, the numbers of leaves in the
--- order of their tasks, and no places.
-use Rattle.std.specs.Prelude.{◌≡◌, List, [], ◌∷◌, map}
+-- What is left of the lines of a file where they are written out again: their terms joined and without scopes
+-- that change nothing, the numbers of leaves in the order of their tasks, and no places.
+use Rattle.std.specs.Prelude.{◌≡◌, ℕ, map}
 use Rattle.sq_ast.specs.Unplaced.{nowhere}
 use Rattle.sq_plantext.specs.Grammar.{name_at}
 use Rattle.sq_plantext.specs.declared.text.BufferLine.{BufferLine}
@@ -12,29 +12,22 @@ use Rattle.sq_plantext.specs.declared.text.TermText.TheOpen.{TermText-F}
 use Rattle.sq_plantext.specs.declared.text.TermText.TheFolds.{fold-TermText}
 use Rattle.sq_plantext.specs.declared.text.PlanText.{PlanText}
 use Rattle.sq_planfile.specs.declared.left.Left.{Left}
-use Rattle.sq_planfile.specs.declared.left.Left.TheVariants.{Nothing, Alone}
-use Rattle.sq_planfile.specs.Left.{then_seq, then_par, scope, whole}
+use Rattle.sq_planfile.specs.declared.left.Left.TheVariants.{Alone}
+use Rattle.sq_planfile.specs.Left.{scope, whole}
 use Rattle.sq_planfile.specs.File.{PlanFile}
 use Rattle.sq_planfile.specs.Files.{numbers_of, file_of}
-use Rattle.sq_planfile.specs.Written.{bindings_of, written}
+use Rattle.sq_planfile.specs.Written.{seq_parts, par_parts, bindings_of, written}
 use Rattle.sq_planfile.specs.Sound.{IsSound}
 
-abbrev pub all_seq : List Left → Left
-all_seq [] = Nothing
-all_seq (a ∷ as_) = then_seq a (all_seq as_)
+-- where this node is in force
+abbrev pub joined_step : TermText-F (ℕ → Left) → (here : ℕ) → Left
+joined_step (TermText-F.Seq parts) here = seq_parts parts here
+joined_step (TermText-F.Par parts) here = par_parts parts here
+joined_step (TermText-F.At place node buffers body) here = scope here node buffers (body node)
+joined_step (TermText-F.Act place e) here = Alone (text.Act nowhere e)
 
-abbrev pub all_par : List Left → Left
-all_par [] = Nothing
-all_par (a ∷ as_) = then_par a (all_par as_)
-
-abbrev pub joined_step : TermText-F Left → Left
-joined_step (TermText-F.Seq parts) = all_seq parts
-joined_step (TermText-F.Par parts) = all_par parts
-joined_step (TermText-F.At place node buffers body) = scope node buffers body
-joined_step (TermText-F.Act place e) = Alone (text.Act nowhere e)
-
-abbrev pub joined : TermText → Left
-joined = fold-TermText Left joined_step
+abbrev pub joined : TermText → (here : ℕ) → Left
+joined = fold-TermText (ℕ → Left) joined_step
 
 abbrev pub bare_buffer : BufferLine → BufferLine
 bare_buffer b = record { place = nowhere; level = b.level; offset = b.offset; size = b.size; instance = b.instance; array = b.array }
@@ -47,7 +40,7 @@ abbrev pub bare_array : ArrayLine → ArrayLine
 bare_array a = record { mode = a.mode; elem = a.elem; name = name_at nowhere a.name.name; extents = a.extents; buffer = a.buffer }
 
 abbrev pub again : PlanText → PlanText
-again x = record { nodes = x.nodes; buffers = map bare_buffer x.buffers; leaves = map bare_leaf x.leaves; arrays = map bare_array x.arrays; term = whole (joined x.term) }
+again x = record { nodes = x.nodes; buffers = map bare_buffer x.buffers; leaves = map bare_leaf x.leaves; arrays = map bare_array x.arrays; term = whole (joined x.term 0) }
 
 -- A file that was read is written out as its lines were.
 abbrev pub ReadsBack : PlanText → Type 0

@@ -1,6 +1,7 @@
--- What is left of a part of a plan that is written out, and how parts are joined. Empty parts are left out, a `seq` or a
--- `par` of one part is that part, and a `seq` in a `seq`, or a `par` in a `par`, is joined with it.
-use Rattle.std.specs.Prelude.{ℕ, Bool, true, false, List, [], ◌∷◌, ◌++◌}
+-- What is left of a part of a plan that is written out, and how parts are joined. Empty parts are left out, and scopes
+-- that change nothing; a `seq` or a `par` of one part is that part, and a `seq` in a `seq`, or a `par` in a `par`, is
+-- joined with it.
+use Rattle.std.specs.Prelude.{ℕ, ◌==◌, if◌then◌else◌, Bool, true, false, List, [], ◌∷◌, ◌++◌}
 use Rattle.sq_ast.specs.Unplaced.{nowhere}
 use Rattle.sq_plantext.specs.declared.text.TermText.{TermText}
 use Rattle.sq_plantext.specs.declared.text.TermText.TheVariants as text
@@ -44,6 +45,15 @@ whole (InTurn ts) = text.Seq ts
 whole (Beside ts) = text.Par ts
 whole (Alone t) = t
 
-abbrev pub scope : (node : ℕ) → (buffers : List ℕ) → Left → Left
-scope node buffers Nothing = Nothing
-scope node buffers a = Alone (text.At nowhere node buffers (whole a))
+-- the lines of a scope; round nothing there are none
+abbrev pub lines_of : (node : ℕ) → (buffers : List ℕ) → Left → Left
+lines_of node buffers Nothing = Nothing
+lines_of node buffers a = Alone (text.At nowhere node buffers (whole a))
+
+-- where this node is in force a scope changes nothing: it stays there, and names no buffers
+abbrev pub is_left_out : (here node : ℕ) → (buffers : List ℕ) → Bool
+is_left_out here node [] = here == node
+is_left_out here node (b ∷ bs) = false
+
+abbrev pub scope : (here node : ℕ) → (buffers : List ℕ) → Left → Left
+scope here node buffers a = if is_left_out here node buffers then a else lines_of node buffers a

@@ -44,15 +44,15 @@ part_at env ts i = arm_of (map (left_by (reading env.plan.now)) ts) i (env_of en
 abbrev pub left_in : Env → Option Num → Term → Left
 left_in env c t = left_by (reading env.plan.now) t (inside env.plan.now c (env_of env))
 
--- of an event, of a scope of these buffers at the node in force, and of one at a child
+-- of an event, of a scope of these buffers that comes to the node in force from another one, and of one at a child
 abbrev pub event_at : Env → Action → Left
 event_at env a = Alone (text.Act nowhere (event_text (λ n. count env.plan.now n (env_of env)) a))
 
-abbrev pub scope_at : Env → List ℕ → Term → Left
-scope_at env buffers t = scope (node_here (env_of env)) buffers (left_at env t)
+abbrev pub scope_at : Env → (here : ℕ) → List ℕ → Term → Left
+scope_at env here buffers t = scope here (node_here (env_of env)) buffers (left_at env t)
 
 abbrev pub left_within : Env → Option Num → List ℕ → Term → Left
-left_within env c buffers t = scope (node_here (inside env.plan.now c (env_of env))) buffers (left_in env c t)
+left_within env c buffers t = scope (node_here (env_of env)) (node_here (inside env.plan.now c (env_of env))) buffers (left_in env c t)
 
 -- the iterations of a spread at one child, in turn: of those that stand at other children there is nothing
 abbrev pub turn_at : Env → Spread → Term → (child turn : ℕ) → Left

@@ -111,7 +111,7 @@ module _ {At : Type 0} (r : Reading At) where
   left_step (Term-F.Spread n rule body) at =
       par_of (r.children at) (λ c. seq_of (r.count n at) (turn_at rule (r.count n at) (r.children at) body at c) 0) 0
   left_step (Term-F.Case pick arms) at = arm_at arms (r.value pick at) at
-  left_step (Term-F.Within child buffers body) at = scope (r.node (r.inside child at)) buffers (body (r.inside child at))
+  left_step (Term-F.Within child buffers body) at = scope (r.node at) (r.node (r.inside child at)) buffers (body (r.inside child at))
 
   abbrev pub left_by : Term → At → Left
   left_by = fold-Term (At → Left) left_step

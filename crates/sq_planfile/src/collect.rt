@@ -215,8 +215,9 @@ fn collect_within(
     ensures { OnOk result (out.new ≡ then_seq out.old (left_within env.now child.now buffers.now body.now)) }
 {
     match child {
-        None => collect_scope(alloc, buffers, body, env, out),
+        None => collect_scope(alloc, node_of(env), buffers, body, env, out),
         Some(child) => {
+            let here = node_of(env);
             let child = count_of(child, env);
             let nodes = Chain::Link(child_node(env, child), env.nodes);
             let inner = Env {
@@ -224,38 +225,40 @@ fn collect_within(
                 fans: rest_of(env.fans),
                 ..*env
             };
-            collect_scope(alloc, buffers, body, &inner, out)
+            collect_scope(alloc, here, buffers, body, &inner, out)
         }
     }
 }
 
-// The scope of these buffers at the node in force, round its body.
+// The scope of these buffers that comes to the node in force from this one, round its body.
 #[cycle(collecting)]
 fn collect_scope(
     alloc: Global,
+    here: u64,
     buffers: &[u32],
     body: &Term,
     env: &Env<'_>,
     out: &mut Left,
 ) -> Result<(), AllocError>
-    ensures { OnOk result (out.new ≡ then_seq out.old (words.scope_at env.now buffers.now body.now)) }
+    ensures { OnOk result (out.new ≡ then_seq out.old (words.scope_at env.now here buffers.now body.now)) }
 {
     let mut inside = Left::Nothing;
     collect(alloc, body, env, &mut inside)?;
-    put_scope(alloc, node_of(env), buffers, inside, out)
+    put_scope(alloc, here, node_of(env), buffers, inside, out)
 }
 
 fn put_scope(
     alloc: Global,
+    here: u64,
     node: u64,
     buffers: &[u32],
     inside: Left,
     out: &mut Left,
 ) -> Result<(), AllocError>
-    ensures { OnOk result (out.new ≡ then_seq out.old (scope node buffers.now inside)) }
+    ensures { OnOk result (out.new ≡ then_seq out.old (scope here node buffers.now inside)) }
 {
     match naturals(alloc, buffers) {
-        Ok(buffers) => match inside.within(alloc, node, buffers) {
+        Ok(buffers) => match inside.within(alloc, here, node, buffers) {
             Ok(scope) => out.then(alloc, scope),
             Err(_) => Err(AllocError),
         },

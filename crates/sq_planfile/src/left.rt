@@ -4,7 +4,7 @@ ghost use Rattle.std.specs.Prelude.{◌≡◌, ◌++◌, ◌∷◌, [], true, If
 ghost use Rattle.sq_ast.specs.Unplaced.{nowhere};
 ghost use Rattle.sq_planfile.specs.declared.left.Left.TheVariants as is;
 ghost use Rattle.sq_planfile.specs.Left as spec;
-ghost use Rattle.sq_planfile.specs.Left.{is_nothing};
+ghost use Rattle.sq_planfile.specs.Left.{is_nothing, is_left_out};
 
 use sq_plantext::{Naturals, TermText, TermTexts};
 use sq_text::Place;
@@ -51,6 +51,16 @@ fn beside(alloc: Global, left: Left) -> Result<TermTexts, AllocError>
         Left::InTurn(parts) => one(alloc, TermText::Seq(parts)),
         Left::Beside(parts) => Ok(parts),
         Left::Alone(part) => one(alloc, part),
+    }
+}
+
+// Whether a scope changes nothing: it stays at its node, and names no buffers.
+fn is_left_out(here: u64, node: u64, buffers: &[u64]) -> bool
+    ensures { result ≡ is_left_out here node buffers.now }
+{
+    match buffers {
+        [] => here == node,
+        [_, ..] => false,
     }
 }
 
@@ -148,18 +158,22 @@ impl Left {
         }
     }
 
-    /// A scope round it; round nothing there is none.
-    #[tactic(auto, using(crate::proofs::Joins::scope_nothing, crate::proofs::Joins::scope_some))]
+    /// A scope round it where this node is in force; there is none round nothing, and none that changes nothing.
+    #[tactic(auto, using(crate::proofs::Joins::scope_nothing, crate::proofs::Joins::scope_out, crate::proofs::Joins::scope_some))]
     pub(crate) fn within(
         self,
         alloc: Global,
+        here: u64,
         node: u64,
         buffers: Naturals,
     ) -> Result<Left, AllocError>
-        ensures { IfOk result (λ l. l ≡ spec.scope node buffers self) }
+        ensures { IfOk result (λ l. l ≡ spec.scope here node buffers self) }
     {
         if self.is_nothing() {
             return Ok(Left::Nothing);
+        }
+        if is_left_out(here, node, buffers.as_slice()) {
+            return Ok(self);
         }
         let body = Box::new(alloc, self.whole(alloc))?;
         Ok(Left::Alone(TermText::At {
