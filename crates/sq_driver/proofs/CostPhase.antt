@@ -1,7 +1,6 @@
 -- The phase cost, behind those from program to capacity, and how `span` ends.
-use Rattle.std.proofs.Common.{◌≡◌, inl, inr, ℕ, List, [], ◌∷◌, Bool, false, Option, Some, None, Result, Ok, Err, refl, subst}
+use Rattle.std.proofs.Common.{◌≡◌, inl, inr, ℕ, List, [], ◌∷◌, false, Option, Some, Result, Ok, Err, refl, subst}
 use Rattle.sq_port.specs.Ports.{Content}
-use Rattle.sq_text.specs.declared.code.Phase.{Phase}
 use Rattle.sq_text.specs.declared.code.Phase.TheVariants.{Program, Types, Machine, Mapping, Resolve, Race, Capacity, Cost as CostPhase}
 use Rattle.sq_text.specs.declared.fault.Fault.{Fault}
 use Rattle.sq_machfile.specs.Machines.{Hierarchy}
@@ -10,7 +9,6 @@ use Rattle.sq_ir.specs.declared.plan.Plan.{Plan}
 use Rattle.sq_spec.specs.declared.resolved.Resolved.{Resolved}
 use Rattle.sq_compile.specs.Compiled.{PlansAreOne}
 use Rattle.sq_span.specs.Spans.{EventsFault}
-use Rattle.sq_span.specs.declared.spans.Span.{Span}
 use Rattle.sq_span_text.specs.Text.{span_text}
 use Rattle.sq_tree.specs.Bank.{BankSeen}
 use Rattle.sq_words.specs.declared.words.Kind.TheVariants as kind
@@ -20,10 +18,10 @@ use Rattle.sq_driver.specs.declared.outside.end.End.TheVariants.{Usage, Absent, 
 use Rattle.sq_driver.specs.Phases.{inputs_of, IsTold}
 use Rattle.sq_driver.specs.Holding.{Holds}
 use Rattle.sq_driver.specs.Sources.{Sources}
-use Rattle.sq_driver.specs.Costing.{AreCostsText, IsFirstCostFault, Costed, IsFirstOfCost}
+use Rattle.sq_driver.specs.Costing.{IsFirstCostFault, Costed, IsFirstOfCost}
 use Rattle.sq_driver.specs.Chosen.{ReadsCosts, WroteChain, SpansTo}
-use Rattle.sq_driver.specs.Meaning.{Passed, AllPassed, Reached, done, IsCause}
-use Rattle.sq_driver.specs.Planned.{Names, IsOnPlan, HoldsPlan}
+use Rattle.sq_driver.specs.Meaning.{Passed, AllPassed, done, IsCause}
+use Rattle.sq_driver.specs.Planned.{IsOnPlan, HoldsPlan}
 use Rattle.sq_driver.specs.Steps.{Stops, Stopped}
 use Rattle.sq_driver.specs.Evaluating.{Evaluates}
 use Rattle.sq_driver.specs.SharedFiles.{ReadsSources}

@@ -1,5 +1,5 @@
 -- The data of a command that runs a program, and what the program means on it.
-use Rattle.std.proofs.Common.{◌≡◌, ℕ, List, [], ◌∷◌, ◌++◌, Bool, Option, Some, Result, Ok, Err, refl, sym, ◌∙◌, ap, subst}
+use Rattle.std.proofs.Common.{◌≡◌, ℕ, List, [], ◌∷◌, ◌++◌, Option, Some, Result, Ok, Err, refl, sym, ◌∙◌, ap, subst}
 use Rattle.std.specs.Prelude.{ℤ}
 use Rattle.sq_port.specs.Ports.{Content}
 use Rattle.sq_text.specs.declared.code.Phase.{Phase}
@@ -21,11 +21,10 @@ use Rattle.sq_report.specs.declared.trap.Trap.{Trap}
 use Rattle.sq_driver.specs.Phases.{phases, inputs_of}
 use Rattle.sq_driver.specs.Sources.{Sources}
 use Rattle.sq_driver.specs.Faults.{IsFirstOf}
-use Rattle.sq_driver.specs.Entry.{params_of, wants_of, start_of, outputs_from, Entry, IsFirstOfInput, Data, data_arrays, GivesFlat, TrapsFlat}
+use Rattle.sq_driver.specs.Entry.{params_of, wants_of, start_of, outputs_from, Entry, Data, data_arrays, GivesFlat, TrapsFlat}
 use Rattle.sq_driver.specs.Outputs.{stored_texts}
-use Rattle.sq_driver.specs.Meaning.{Passed, AllPassed, Reached}
+use Rattle.sq_driver.specs.Meaning.{Passed, AllPassed}
 use Rattle.sq_driver.specs.Evaluating.{HoldsSources}
-use Rattle.sq_driver.specs.Givens.{Extents}
 use Rattle.sq_driver.specs.Picking.{AreGiven, IsUnfit}
 use Rattle.sq_driver.specs.SharedFiles.{ReadsSources, command_with}
 use Rattle.sq_driver.proofs.Stopping.{is_there}

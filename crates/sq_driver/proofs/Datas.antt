@@ -1,7 +1,7 @@
 -- What the reading of the data leaves in the arrays.
-use Rattle.std.proofs.Common.{◌≡◌, ℕ, suc, ◌+◌, ◌*◌, ◌<◌, ◌^◌, Bool, true, false, List, [], ◌∷◌, map, replicate, Option, Some, Result, Ok, Err, length, slice_get, if◌then◌else◌, refl, sym, ◌∙◌, ap, subst, arith}
+use Rattle.std.proofs.Common.{◌≡◌, ℕ, suc, ◌+◌, Bool, true, false, List, [], ◌∷◌, map, Option, Some, Result, Ok, Err, length, slice_get, if◌then◌else◌, refl, sym, ◌∙◌, ap, subst, arith}
 use Rattle.std.specs.Prelude.{ℤ}
-use Rattle.std.specs.List.{All, AllZip}
+use Rattle.std.specs.List.{AllZip}
 use Rattle.std.proofs.lemmas.List.{length-replicate}
 use Rattle.sq_port.specs.Ports.{Content}
 use Rattle.sq_text.specs.declared.place.Place.{Place}
@@ -18,17 +18,16 @@ use Rattle.sq_arrays.specs.declared.refusal.ArraysEnd.{ArraysEnd}
 use Rattle.sq_arrays.specs.declared.refusal.InputCode.{InputCode}
 use Rattle.sq_arrays.specs.declared.refusal.InputEnd.{InputEnd}
 use Rattle.sq_arrays.specs.declared.refusal.InputEnd.TheVariants.{Refused}
-use Rattle.sq_rect.specs.Placing.{IsIn}
 use Rattle.sq_leaf.specs.declared.shape.Shape.{Shape}
 use Rattle.sq_ast.specs.Modes.{is_read}
 use Rattle.sq_spec.specs.Works.{extents_at, param_shapes}
 use Rattle.sq_spec.specs.declared.resolved.Resolved.{Resolved}
 use Rattle.sq_flat.specs.Memory as memory
 use Rattle.sq_flat.specs.Held.{Stored, zero_bytes}
-use Rattle.sq_driver.specs.Data.{code_for, args_for, data_fault}
+use Rattle.sq_driver.specs.Data.{code_for, args_for}
 use Rattle.sq_driver.specs.declared.outside.end.End.{End}
 use Rattle.sq_driver.specs.declared.outside.end.End.TheVariants as end
-use Rattle.sq_driver.specs.Entry.{params_of, want_of, wants_of, start_of}
+use Rattle.sq_driver.specs.Entry.{params_of, want_of, wants_of}
 use Rattle.sq_driver.specs.Givens.{Given, Extents, read_wants}
 use Rattle.sq_driver.specs.Picking.{picked, unpicked, KeepsOthers, Unfit, IsFilled, ReadsData, AreGiven, IsUnfit, ReadsGiven}
 use Rattle.sq_driver.proofs.Entries.{entry_small, wants_small}

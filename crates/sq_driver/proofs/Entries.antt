@@ -9,7 +9,6 @@ use Rattle.sq_port.specs.Ports.{Gains, GainsPrefix}
 use Rattle.sq_ast.specs.declared.program.Param.{Param}
 use Rattle.sq_mapping.specs.declared.mapping.SizeSet.{SizeSet}
 use Rattle.sq_spec.specs.Entry.{IsEntry}
-use Rattle.sq_text.specs.declared.fault.Fault.{Fault}
 use Rattle.sq_forms.specs.Faults.{Value, and_then}
 use Rattle.sq_spec.specs.FormLaws.Reached.{AsManyForms}
 use Rattle.sq_forms.specs.Resolving.{Resolving, resolution, param_dims, entry_extents, before}

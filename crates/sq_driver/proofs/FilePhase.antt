@@ -1,5 +1,5 @@
 -- The phase of plan files of `compile`, behind those from program to capacity, and how it ends.
-use Rattle.std.proofs.Common.{◌≡◌, inl, inr, ℕ, List, [], ◌∷◌, Bool, false, Option, Some, None, Result, Ok, Err, IfOk, refl, sym, ap, ap₂, ◌∙◌, subst}
+use Rattle.std.proofs.Common.{◌≡◌, inr, ℕ, List, [], ◌∷◌, Option, Some, None, Result, Ok, Err, IfOk, refl, sym, ap, ap₂, ◌∙◌, subst}
 use Rattle.sq_port.specs.Ports.{Content}
 use Rattle.sq_text.specs.declared.code.Phase.TheVariants.{Program, Types, Machine, Mapping, Resolve, Race, Capacity, Plan as PlanPhase}
 use Rattle.sq_text.specs.declared.fault.Fault.{Fault}
@@ -15,20 +15,17 @@ use Rattle.sq_planfile.specs.File.{PlanFile, entry_arrays}
 use Rattle.sq_planfile.specs.Limits.{TextFault}
 use Rattle.sq_planfile.specs.Written.{written}
 use Rattle.sq_spec.specs.declared.resolved.Resolved.{Resolved}
-use Rattle.sq_compile.specs.Compiled.{IsPlanOf, PlansAreOne}
+use Rattle.sq_compile.specs.Compiled.{PlansAreOne}
 use Rattle.sq_tree.specs.Bank.{BankSeen}
 use Rattle.sq_words.specs.declared.words.Kind.TheVariants as kind
 use Rattle.sq_words.specs.Words.{compile_of}
 use Rattle.sq_driver.specs.declared.outside.end.End.{End}
 use Rattle.sq_driver.specs.declared.outside.end.End.TheVariants.{Usage, Absent, FileFault, Refused, Trapped, NoMemory, SinkFault}
 use Rattle.sq_driver.specs.Phases.{inputs_of, IsTold}
-use Rattle.sq_driver.specs.Sources.{Sources}
-use Rattle.sq_driver.specs.Races.{IsResolved}
 use Rattle.sq_driver.specs.Entry.{params_of}
-use Rattle.sq_driver.specs.Givens.{Extents}
-use Rattle.sq_driver.specs.Filing.{AreArraysOf, IsFileOf, Filed, IsFirstOfText}
+use Rattle.sq_driver.specs.Filing.{AreArraysOf, IsFileOf, Filed}
 use Rattle.sq_driver.specs.Chosen.{WroteFile, FilesTo}
-use Rattle.sq_driver.specs.Meaning.{Passed, AllPassed, done, IsCause}
+use Rattle.sq_driver.specs.Meaning.{Passed, done, IsCause}
 use Rattle.sq_driver.specs.Planned.{IsOnPlan, HoldsPlan}
 use Rattle.sq_driver.specs.Steps.{Stopped}
 use Rattle.sq_driver.specs.Evaluating.{Evaluates}

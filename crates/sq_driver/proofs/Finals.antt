@@ -1,9 +1,7 @@
 -- From what each phase of `eval` reads to how the command ends.
-use Rattle.std.proofs.Common.{◌≡◌, inl, ℕ, List, [], ◌∷◌, Option, Some, None, Result, Ok, Err, length, get_or, slice_get, refl, sym, ◌∙◌, ap, ap₂, subst}
+use Rattle.std.proofs.Common.{◌≡◌, inl, ℕ, List, [], Option, Some, None, Result, Ok, Err, get_or, slice_get, refl, sym, ◌∙◌, ap, ap₂, subst}
 use Rattle.std.specs.Prelude.{ℤ, pos}
 use Rattle.sq_port.specs.Ports.{Content}
-use Rattle.sq_text.specs.declared.code.Phase.TheVariants.{Machine, Mapping, Resolve, Race, Input}
-use Rattle.sq_text.specs.declared.fault.Fault.{Fault}
 use Rattle.sq_num.specs.Elements.{width, value}
 use Rattle.sq_ast.specs.declared.program.Program.{Program as Tree}
 use Rattle.sq_machfile.specs.Machines.{Hierarchy}
@@ -11,9 +9,9 @@ use Rattle.sq_mapping.specs.declared.mapping.Mapping.{Mapping as Mapped}
 use Rattle.sq_leaf.specs.declared.shape.Shape.{Shape}
 use Rattle.sq_leaf.specs.Source.{Arrays}
 use Rattle.sq_spec.specs.Entry.{IsEntry}
-use Rattle.sq_forms.specs.Forms.{AreForms, IsFirstMet}
+use Rattle.sq_forms.specs.Forms.{AreForms}
 use Rattle.sq_work.specs.Meaning.{Outcome}
-use Rattle.sq_forms.specs.Resolving.{entry_extents, resolution}
+use Rattle.sq_forms.specs.Resolving.{resolution}
 use Rattle.sq_forms.specs.Steps.{Key}
 use Rattle.sq_spec.specs.Works.{flat, found_in, param_shapes}
 use Rattle.sq_forms.specs.declared.form.Found.{Found}
@@ -26,7 +24,6 @@ use Rattle.sq_flat.specs.declared.flat.FlatEnd.TheVariants.{Trap as FlatTrap}
 use Rattle.sq_flat.specs.declared.flat.Trapped.{Trapped as FlatTrapped}
 use Rattle.sq_leaf.specs.declared.trap.Trap.{Trap as LeafTrap}
 use Rattle.sq_tree.specs.Bank.{BankSeen}
-use Rattle.sq_words.specs.declared.words.Kind.TheVariants.{Eval}
 use Rattle.sq_report.specs.declared.trap.Trap.{Trap}
 use Rattle.sq_driver.specs.declared.outside.end.End.{End}
 use Rattle.sq_driver.specs.declared.outside.end.End.TheVariants.{Usage, Absent, FileFault, Refused, Trapped, NoMemory, SinkFault}
@@ -34,14 +31,13 @@ use Rattle.sq_driver.specs.declared.outside.status.Status.{Status}
 use Rattle.sq_driver.specs.declared.outside.status.Status.TheVariants.{Done}
 use Rattle.sq_driver.specs.Ends.{FileCauses}
 use Rattle.sq_words.specs.Words.{eval_of}
-use Rattle.sq_driver.specs.Programs.{IsFirstTypeFault}
-use Rattle.sq_driver.specs.Races.{IsResolved, IsFirstRaceFault}
+use Rattle.sq_driver.specs.Races.{IsResolved}
 use Rattle.sq_driver.specs.Entry.{params_of, start_of}
 use Rattle.sq_driver.specs.Outputs.{stored_texts}
 use Rattle.sq_driver.specs.Meaning.{done, trapped, IsCause}
-use Rattle.sq_driver.specs.Steps.{ReadsTree, WroteOut, Stopped}
+use Rattle.sq_driver.specs.Steps.{WroteOut, Stopped}
 use Rattle.sq_driver.specs.SharedFiles.{StopsSources}
-use Rattle.sq_driver.specs.Evaluating.{ReadsMachine, ReadsMapping, HoldsProgram, HoldsMachine, HoldsSources, EndsFlat, EndsWith, Evaluates}
+use Rattle.sq_driver.specs.Evaluating.{ReadsMachine, ReadsMapping, HoldsProgram, HoldsMachine, HoldsSources, EndsFlat, Evaluates}
 use Rattle.sq_driver.specs.Picking.{AreGiven, ReadsGiven}
 use Rattle.sq_driver.proofs.SourcePhases.{one}
 use Rattle.sq_driver.proofs.Evaluations.{reads_eval, stops, no_memory, data_stops, gives, traps}

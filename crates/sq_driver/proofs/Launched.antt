@@ -1,8 +1,7 @@
 -- What a run that is prepared meets: the bank's root has its arrays, holds the data, and ends as the program means.
-use Rattle.std.proofs.Common.{◌≡◌, ℕ, ◌^◌, ◌<◌, List, length, map, Bool, true, false, None, Option, Some, Result, Ok, Err, refl, sym, ◌∙◌, ap, subst}
+use Rattle.std.proofs.Common.{◌≡◌, ℕ, ◌^◌, ◌<◌, List, length, map, Bool, None, Option, Some, Result, Ok, sym, ◌∙◌, ap, subst}
 use Rattle.std.specs.List.{All}
 use Rattle.sq_port.specs.Ports.{Content}
-use Rattle.sq_text.specs.declared.fault.Arg.{Arg}
 use Rattle.sq_ast.specs.Modes.{is_read}
 use Rattle.sq_ast.specs.declared.program.Param.{Param}
 use Rattle.sq_arrays.specs.Arrays.{Wanted, wanted, size_of}

@@ -1,5 +1,5 @@
 -- From a text to the numbers of an order list, or to its first fault.
-use Rattle.std.proofs.Common.{◌≡◌, ℕ, ◌<◌, List, length, nat_lt, Bool, true, Option, Some, None, Result, Ok, Err, if◌then◌else◌, refl, sym, ◌∙◌, ap, subst, arith}
+use Rattle.std.proofs.Common.{◌≡◌, ℕ, ◌<◌, List, length, nat_lt, Bool, true, Option, Some, None, Result, Ok, Err, if◌then◌else◌, sym, ◌∙◌, ap, subst, arith}
 use Rattle.std.proofs.lemmas.Bool.Decides.{nat_tests}
 use Rattle.sq_port.specs.Ports.{Content}
 use Rattle.sq_text.specs.Limits.{most_data}
@@ -8,7 +8,6 @@ use Rattle.sq_text.specs.declared.fault.Stop.{Stop}
 use Rattle.sq_text.specs.declared.fault.Stop.TheVariants.{Refused as Refusal}
 use Rattle.sq_picks.specs.OrderList.{order_list, picks_of, words_from, too_long, Gives}
 use Rattle.sq_driver.specs.declared.outside.end.End.TheVariants.{Refused}
-use Rattle.sq_driver.specs.Holding.{Holds}
 use Rattle.sq_driver.specs.Ordering.{ReadsList}
 
 some_same : {A : Type 0} (o : Option A) (x y : A) → o ≡ Some x → o ≡ Some y → x ≡ y

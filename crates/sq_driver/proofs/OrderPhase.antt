@@ -1,10 +1,8 @@
 -- The phase order, behind those from program to capacity.
-use Rattle.std.proofs.Common.{◌≡◌, ℕ, List, [], ◌∷◌, ◌++◌, Bool, false, Option, Some, None, Result, Ok, Err, refl, sym, ◌∙◌, ap, subst}
+use Rattle.std.proofs.Common.{◌≡◌, ℕ, List, [], ◌∷◌, Bool, Option, Some, None, Ok, Err, refl, sym, subst}
 use Rattle.sq_port.specs.Ports.{Content}
-use Rattle.sq_text.specs.declared.code.Phase.{Phase}
 use Rattle.sq_text.specs.declared.code.Phase.TheVariants.{Program, Types, Machine, Mapping, Resolve, Race, Capacity, Order as OrderPhase, Input}
 use Rattle.sq_text.specs.declared.fault.Fault.{Fault}
-use Rattle.sq_picks.specs.OrderList.{order_list}
 use Rattle.sq_orders.specs.declared.order.Chosen.{Chosen}
 use Rattle.sq_orders.specs.Chosen.{chosen_held}
 use Rattle.sq_port.specs.Orders.{seed_start}
@@ -16,7 +14,7 @@ use Rattle.sq_driver.specs.declared.outside.end.End.{End}
 use Rattle.sq_driver.specs.Phases.{text_of, IsTold}
 use Rattle.sq_driver.specs.Holding.{Holds}
 use Rattle.sq_driver.specs.Orders.{ListFault}
-use Rattle.sq_driver.specs.Ordering.{ReadsList, ReadsOrder, IsOrder}
+use Rattle.sq_driver.specs.Ordering.{ReadsList, ReadsOrder}
 use Rattle.sq_driver.specs.Meaning.{Passed, AllPassed}
 use Rattle.sq_driver.specs.Steps.{Stopped}
 use Rattle.sq_driver.proofs.Stopping.{phase_stops, is_there}

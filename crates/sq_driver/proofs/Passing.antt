@@ -1,5 +1,5 @@
 -- The row of a mapping, from what each phase answers.
-use Rattle.std.proofs.Common.{◌≡◌, ◌⊎◌, inl, inr, None, Result, Ok, Err, IfOk, refl, sym, subst}
+use Rattle.std.proofs.Common.{◌≡◌, None, Result, Ok, Err, IfOk, refl, sym, subst}
 use Rattle.sq_text.specs.declared.fault.Fault.{Fault}
 use Rattle.sq_ast.specs.declared.program.Program.{Program as Tree}
 use Rattle.sq_machfile.specs.Machines.{Hierarchy}

@@ -1,8 +1,8 @@
 -- Bytes that are put into the arrays that are read.
-use Rattle.std.proofs.Common.{◌≡◌, ℕ, zero, suc, ◌+◌, ◌-◌, ◌==◌, ◌<◌, ◌≤◌, Bool, true, false, List, [], ◌∷◌, length, get_or, if◌then◌else◌, refl, sym, ◌∙◌, ap, subst, arith}
+use Rattle.std.proofs.Common.{◌≡◌, ℕ, zero, suc, ◌+◌, ◌-◌, ◌==◌, ◌<◌, Bool, true, false, List, [], ◌∷◌, length, if◌then◌else◌, refl, sym, ◌∙◌, ap, subst, arith}
 use Rattle.std.proofs.lemmas.Bool.Decides.{nat_tests}
 use Rattle.sq_ast.specs.declared.program.Param.{Param}
-use Rattle.sq_arrays.specs.Targets.{HasRange, put_at, array_at, put_in}
+use Rattle.sq_arrays.specs.Targets.{HasRange, put_in}
 use Rattle.sq_ast.specs.Modes.{is_read}
 use Rattle.sq_flat.specs.Held.{put_part, HasPart}
 use Rattle.sq_driver.specs.Picking.{picked, unpicked, number_from}

@@ -1,5 +1,5 @@
 -- How commands on the plan of a program end.
-use Rattle.std.proofs.Common.{◌≡◌, inl, inr, ℕ, List, [], ◌∷◌, Bool, Option, Some, None, Result, Ok, Err, IfOk, refl, sym, ap, ◌∙◌, subst}
+use Rattle.std.proofs.Common.{◌≡◌, inl, inr, ℕ, List, [], ◌∷◌, Option, Some, None, Result, Ok, Err, IfOk, refl, sym, ap, ◌∙◌, subst}
 use Rattle.sq_port.specs.Ports.{Content}
 use Rattle.sq_text.specs.declared.code.Phase.TheVariants.{Program, Types, Machine, Mapping, Resolve, Race, Capacity}
 use Rattle.sq_ir.specs.declared.plan.Plan.{Plan}
@@ -15,7 +15,6 @@ use Rattle.sq_compile.specs.Compiled.{IsPlanOf, PlansAreOne}
 use Rattle.sq_report.specs.declared.totals.Totals.{Totals}
 use Rattle.sq_report.specs.Figures.{figures, IsSummed}
 use Rattle.sq_report.specs.Reports.{report}
-use Rattle.sq_tree.specs.Bank.{BankSeen}
 use Rattle.sq_words.specs.declared.words.Kind.TheVariants as kind
 use Rattle.sq_words.specs.Words.{Command, plan_of}
 use Rattle.sq_driver.specs.declared.outside.end.End.{End}

@@ -1,12 +1,12 @@
 -- What is prepared for the run of a plan.
-use Rattle.std.proofs.Common.{◌≡◌, ◌≤◌, ℕ, List, length, map, None, Result, Ok, Err, IfOk, refl, sym, ◌∙◌, ap, subst}
+use Rattle.std.proofs.Common.{◌≡◌, ◌≤◌, ℕ, List, length, map, None, Result, Ok, Err, IfOk, sym, ◌∙◌, ap, subst}
 use Rattle.std.specs.List.{All}
 use Rattle.std.specs.Prelude.{slice_get}
 use Rattle.sq_text.specs.declared.fault.Arg.{Arg}
 use Rattle.sq_rect.specs.Extents.{product}
 use Rattle.sq_ast.specs.declared.program.Param.{Param}
 use Rattle.sq_ast.specs.Modes.{is_read}
-use Rattle.sq_arrays.specs.Arrays.{Wanted, wanted}
+use Rattle.sq_arrays.specs.Arrays.{wanted}
 use Rattle.sq_arrays.specs.declared.want.Want.{Want}
 use Rattle.sq_forms.specs.Decls.{most_elements}
 use Rattle.sq_forms.specs.Resolving.{entry_extents}
@@ -26,7 +26,6 @@ use Rattle.sq_meant.specs.Places.{shapes_of, places_of}
 use Rattle.sq_driver.specs.declared.phases.launch.Launch.{Launch}
 use Rattle.sq_driver.specs.Entry.{params_of, wants_of}
 use Rattle.sq_driver.specs.Launching.{fault_args, IsLaunch}
-use Rattle.sq_driver.specs.Givens.{Extents}
 use Rattle.sq_driver.specs.Roots.{places_for, read_flags}
 use Rattle.sq_driver.proofs.Entries.{entry_long, entry_small}
 use Rattle.sq_driver.proofs.Places.{many_shapes}

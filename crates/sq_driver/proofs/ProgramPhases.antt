@@ -9,7 +9,7 @@ use Rattle.sq_types.specs.Sites.{TypeFault}
 use Rattle.sq_tree.specs.Bank.{BankSeen}
 use Rattle.sq_driver.specs.declared.outside.end.End.{End}
 use Rattle.sq_words.specs.Words.{program, Command}
-use Rattle.sq_driver.specs.Phases.{phases, Inputs, own_inputs, text_or, inputs_of, IsTold}
+use Rattle.sq_driver.specs.Phases.{phases, own_inputs, text_or, inputs_of, IsTold}
 use Rattle.sq_driver.specs.Holding.{Holds}
 use Rattle.sq_driver.specs.Programs.{IsProgramText, ProgramFault, IsFirstTypeFault}
 use Rattle.sq_driver.specs.Faults.{IsFirstOf}

@@ -1,19 +1,14 @@
 -- What the data leaves in the root's memory.
-use Rattle.std.proofs.Common.{◌≡◌, ◌≢◌, ℕ, zero, suc, ◌+◌, ◌-◌, ◌*◌, ◌<◌, ◌≤◌, Bool, true, false, not, List, [], ◌∷◌, length, take, drop, map, replicate, get_or, slice_get, Option, Some, None, Result, Ok, Err, if◌then◌else◌, refl, sym, ◌∙◌, ap, ap₂, subst, arith}
-use Rattle.std.specs.Prelude.{ℤ}
-use Rattle.std.specs.List.{All, AllZip}
+use Rattle.std.proofs.Common.{◌≡◌, ℕ, zero, suc, ◌+◌, ◌-◌, ◌*◌, Bool, true, false, not, List, [], ◌∷◌, length, take, map, replicate, get_or, slice_get, Option, Some, Result, Ok, if◌then◌else◌, refl, sym, ◌∙◌, ap, ap₂, subst, arith}
+use Rattle.std.specs.List.{All}
 use Rattle.std.proofs.lemmas.List.{length-map, length-replicate, take-replicate, drop-replicate}
 use Rattle.std.proofs.lemmas.List.Elements.{All-head, All-tail}
 use Rattle.sq_port.specs.Ports.{Content}
 use Rattle.sq_num.specs.Elements.{width}
 use Rattle.sq_rect.specs.Extents.{product}
-use Rattle.sq_text.specs.declared.fault.Fault.{Fault}
 use Rattle.sq_ast.specs.declared.program.Param.{Param}
-use Rattle.sq_ast.specs.declared.program.Program.{Program as Tree}
 use Rattle.sq_ast.specs.Modes.{is_read}
-use Rattle.sq_mapping.specs.declared.mapping.Mapping.{Mapping}
-use Rattle.sq_arrays.specs.Arrays.{Wanted, arrays_of, size_of, AreValuesOf, DataFault}
-use Rattle.sq_arrays.specs.Targets.{cells_of}
+use Rattle.sq_arrays.specs.Arrays.{Wanted, size_of}
 use Rattle.sq_forms.specs.Resolving.{entry_extents}
 use Rattle.sq_ir.specs.Plans.{node_at}
 use Rattle.sq_ir.specs.declared.plan.Plan.{Plan}
@@ -23,11 +18,11 @@ use Rattle.sq_spec.specs.Works.{extents_at, param_shapes}
 use Rattle.sq_spec.specs.declared.resolved.Resolved.{Resolved}
 use Rattle.sq_flat.specs.Memory as memory
 use Rattle.sq_flat.specs.Held.{Stored, zero_bytes}
-use Rattle.sq_tree.specs.Bank.{BankSeen, bytes_at, size_in, capacities, zeros, IsOpened}
+use Rattle.sq_tree.specs.Bank.{BankSeen, bytes_at, size_in, zeros, IsOpened}
 use Rattle.sq_root.specs.declared.place.Place.{Place}
 use Rattle.sq_root.specs.Flagged.{flagged}
-use Rattle.sq_root.specs.Places.{part, parts, IsWithin, IsClear, IsOutside, Fits, KeepsOutside}
-use Rattle.sq_root.specs.PlaceLaws.{ClearPartsStay, FlaggedParts, FlaggedFit, OthersAreClear}
+use Rattle.sq_root.specs.Places.{part, parts, IsWithin, IsClear, Fits, KeepsOutside}
+use Rattle.sq_root.specs.PlaceLaws.{ClearPartsStay}
 use Rattle.sq_meant.specs.Places.{place_of, places_in}
 use Rattle.sq_driver.specs.Entry.{params_of, want_of, wants_of}
 use Rattle.sq_driver.specs.Givens.{Given, Extents, read_wants}

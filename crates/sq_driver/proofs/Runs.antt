@@ -1,9 +1,7 @@
 -- How `run` ends once its plan is made.
-use Rattle.std.proofs.Common.{◌≡◌, ◌≤◌, inl, ℕ, List, [], ◌∷◌, ◌++◌, length, take, map, replicate, Bool, true, false, Option, Some, None, Result, Ok, Err, if◌then◌else◌, refl, sym, ◌∙◌, ap, subst}
-use Rattle.sq_port.specs.Ports.{Content, Gains, GainsPrefix, Rose}
-use Rattle.sq_port.proofs.Gained.{gains_nothing}
+use Rattle.std.proofs.Common.{◌≡◌, ◌≤◌, inl, ℕ, List, [], ◌∷◌, ◌++◌, length, take, Bool, true, false, Option, Some, None, Result, Ok, Err, if◌then◌else◌, refl, sym, ◌∙◌, ap, subst}
+use Rattle.sq_port.specs.Ports.{Content, Gains, Rose}
 use Rattle.sq_text.specs.declared.code.Phase.TheVariants.{Program, Types, Machine, Mapping, Resolve, Race, Capacity, Order as OrderPhase, Input}
-use Rattle.sq_text.specs.declared.fault.Fault.{Fault}
 use Rattle.sq_leaf.specs.declared.trap.Trap.{Trap as LeafTrap}
 use Rattle.sq_leaf.specs.declared.shape.Shape.{Shape}
 use Rattle.sq_leaf.specs.Source.{Arrays}
@@ -18,11 +16,11 @@ use Rattle.sq_flat.specs.Held.{Stored, Holds}
 use Rattle.sq_flat.specs.Ends.{HoldsEnd}
 use Rattle.sq_sched.specs.Rests.{Rest}
 use Rattle.sq_tree.specs.declared.runs.RunEnd.{RunEnd}
-use Rattle.sq_tree.specs.declared.runs.RunEnd.TheVariants.{Trapped as RunTrapped, SinkFault as RunSinkFault}
-use Rattle.sq_tree.specs.Bank.{BankSeen, bytes_at, bytes_in, IsOpened}
-use Rattle.sq_tree.specs.Runs.{HasRun, HasTrace, KeepsRoom, IsCut, is_stopped}
+use Rattle.sq_tree.specs.declared.runs.RunEnd.TheVariants.{Trapped as RunTrapped}
+use Rattle.sq_tree.specs.Bank.{BankSeen, bytes_in, IsOpened}
+use Rattle.sq_tree.specs.Runs.{HasRun, HasTrace, KeepsRoom, IsCut}
 use Rattle.sq_tree.specs.Trace.{event_line, trace_text}
-use Rattle.sq_root.specs.Places.{parts, KeepsOutside}
+use Rattle.sq_root.specs.Places.{KeepsOutside}
 use Rattle.sq_meant.specs.Ends.{EndsOnBank}
 use Rattle.sq_orders.specs.declared.order.Chosen.{Chosen}
 use Rattle.sq_orders.specs.Chosen.{chosen_held, chosen_answer, chosen_next}
@@ -39,8 +37,8 @@ use Rattle.sq_driver.specs.Outputs.{stored_texts}
 use Rattle.sq_driver.specs.Orders.{ListHolds, HeldBy}
 use Rattle.sq_driver.specs.Roots.{places_for, stored_root, read_parts, IsStart}
 use Rattle.sq_driver.specs.Launching.{IsLaunched, FillsRoot}
-use Rattle.sq_driver.specs.Meaning.{AllPassed, Answer, done, trapped, IsCause, Means}
-use Rattle.sq_driver.specs.Banks.{whole, cut_out, cut_err, IsOpenFor, IsUnperformed, IsUnrun, IsRun, trace_of, HasEnded, IsPrinted, ending_of, IsCutTrace, IsCutRun}
+use Rattle.sq_driver.specs.Meaning.{AllPassed, done, trapped, IsCause, Means}
+use Rattle.sq_driver.specs.Banks.{whole, cut_out, cut_err, IsOpenFor, IsUnperformed, IsRun, trace_of, HasEnded, IsPrinted, ending_of, IsCutTrace, IsCutRun}
 use Rattle.sq_driver.specs.Outcome.{Outside, Ended}
 use Rattle.sq_driver.specs.Steps.{Stops, Stopped, WroteOut}
 use Rattle.sq_driver.specs.Givens.{Extents, read_wants, Given}
@@ -48,7 +46,7 @@ use Rattle.sq_driver.specs.Picking.{AreGiven, Unfit, IsUnfit}
 use Rattle.sq_driver.specs.SharedFiles.{ReadsSources}
 use Rattle.sq_driver.proofs.Stopping.{phase_stops, gains_same}
 use Rattle.sq_driver.proofs.SourcePhases.{one, sources}
-use Rattle.sq_driver.proofs.DataPhase.{outcome_by, unfit, data_is, all_passed, gives_flat, means_flat, no_trap, no_trap_after, traps_flat}
+use Rattle.sq_driver.proofs.DataPhase.{outcome_by, unfit, all_passed, gives_flat, means_flat, no_trap, no_trap_after, traps_flat}
 
 abbrev pub reads_run : ReadsSources Run
 reads_run = record { rest = Capacity ∷ OrderPhase ∷ Input ∷ []; split = refl; fixed = refl }

@@ -1,7 +1,6 @@
 -- The phases from program to race, of a command whose files are a program, a mapping, a machine and perhaps others.
-use Rattle.std.proofs.Common.{◌≡◌, ℕ, List, [], ◌∷◌, Bool, false, Option, Some, None, Result, Ok, Err, refl, sym, ◌∙◌, ap, subst, slice_get}
+use Rattle.std.proofs.Common.{◌≡◌, ℕ, List, [], ◌∷◌, Bool, Option, Some, None, Result, Ok, Err, refl, sym, ◌∙◌, ap, subst, slice_get}
 use Rattle.sq_port.specs.Ports.{Content}
-use Rattle.sq_text.specs.declared.code.Phase.{Phase}
 use Rattle.sq_text.specs.declared.code.Phase.TheVariants.{Program, Types, Machine, Mapping, Resolve, Race}
 use Rattle.sq_text.specs.declared.fault.Fault.{Fault}
 use Rattle.sq_ast.specs.declared.program.Program.{Program as Tree}
@@ -19,14 +18,14 @@ use Rattle.sq_driver.specs.declared.outside.end.End.{End}
 use Rattle.sq_driver.specs.declared.outside.end.End.TheVariants.{Usage, Absent, FileFault, Refused, Trapped, NoMemory, SinkFault}
 use Rattle.sq_words.specs.declared.words.Kind.{Kind}
 use Rattle.sq_words.specs.Words.{mapping, with_file, Command}
-use Rattle.sq_driver.specs.Phases.{phases, varies, Inputs, inputs_of, IsTold}
-use Rattle.sq_driver.specs.Holding.{Holds, HoldsOnly}
+use Rattle.sq_driver.specs.Phases.{Inputs, inputs_of, IsTold}
+use Rattle.sq_driver.specs.Holding.{Holds}
 use Rattle.sq_driver.specs.Programs.{IsProgramText, IsFirstTypeFault}
 use Rattle.sq_driver.specs.Sources.{IsMachineText, IsFirstMachineFault, IsMappingText, IsFirstMappingFault, IsFirstOfMapping, Sources}
 use Rattle.sq_driver.specs.Races.{IsResolved, IsFirstRaceFault}
 use Rattle.sq_driver.specs.Faults.{IsFirstOfMappings, IsFirstOf}
-use Rattle.sq_driver.specs.Meaning.{Passed, AllPassed, Reached}
-use Rattle.sq_driver.specs.Steps.{HoldsRight, ReadsTree, Stopped}
+use Rattle.sq_driver.specs.Meaning.{Passed, AllPassed}
+use Rattle.sq_driver.specs.Steps.{ReadsTree, Stopped}
 use Rattle.sq_driver.specs.SharedFiles.{ReadsFront, ReadsSources, front_with, command_with, StopsFront, StopsSources}
 use Rattle.sq_driver.specs.Evaluating.{EndsWith, ReadsMachine, ReadsMapping, HoldsProgram, HoldsMachine, HoldsSources}
 use Rattle.sq_driver.proofs.Stopping.{told_of, phase_stops, memory_stops, is_there, no_file_there}

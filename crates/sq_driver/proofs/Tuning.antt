@@ -1,5 +1,5 @@
 -- The phase mapping of `tune`, and how it ends.
-use Rattle.std.proofs.Common.{◌≡◌, ◌⊎◌, inl, inr, ℕ, List, [], ◌∷◌, Bool, false, Option, Some, None, Result, Ok, Err, IfOk, refl, sym, ◌∙◌, subst}
+use Rattle.std.proofs.Common.{◌≡◌, ℕ, List, [], ◌∷◌, Option, Some, Result, Ok, Err, refl, subst}
 use Rattle.sq_port.specs.Ports.{Content}
 use Rattle.sq_text.specs.declared.code.Phase.TheVariants.{Program, Types, Machine, Mapping}
 use Rattle.sq_text.specs.declared.fault.Fault.{Fault}
@@ -13,11 +13,10 @@ use Rattle.sq_tree.specs.Bank.{BankSeen}
 use Rattle.sq_words.specs.declared.words.Kind.TheVariants as kind
 use Rattle.sq_words.specs.Words.{tune_of}
 use Rattle.sq_driver.specs.declared.outside.end.End.{End}
-use Rattle.sq_driver.specs.declared.outside.end.End.TheVariants.{NoMemory}
-use Rattle.sq_driver.specs.Phases.{inputs_of, IsTold}
+use Rattle.sq_driver.specs.Phases.{inputs_of}
 use Rattle.sq_driver.specs.Holding.{Holds}
 use Rattle.sq_driver.specs.Choosing.{AreChoicesText, IsFirstChoicesFault, IsFirstOfChoices, IsRow}
-use Rattle.sq_driver.specs.Chosen.{HoldsChoices, ReadsChoices}
+use Rattle.sq_driver.specs.Chosen.{ReadsChoices}
 use Rattle.sq_driver.specs.Meaning.{Passed, AllPassed, done, IsCause}
 use Rattle.sq_driver.specs.Outcome.{Outside, Ended}
 use Rattle.sq_driver.specs.Steps.{ReadsFitting, Stopped, WroteOut}

@@ -1,12 +1,9 @@
 -- What a phase makes of a file that it reads whole.
-use Rattle.std.proofs.Common.{◌≡◌, ◌⊎◌, inl, inr, ℕ, ◌<◌, ◌≤◌, List, length, Option, Some, None, Ok, Err, refl, sym, ◌∙◌, subst, arith}
+use Rattle.std.proofs.Common.{◌≡◌, inl, inr, ℕ, List, Option, Some, Ok, Err, refl, sym, ◌∙◌, subst, arith}
 use Rattle.sq_port.specs.Ports.{Content}
 use Rattle.sq_text.specs.declared.code.Phase.{Phase}
 use Rattle.sq_text.specs.declared.code.Phase.TheVariants.{Program, Types, Machine, Mapping, Resolve, Race, Capacity, Plan, Cost, Order, Input}
 use Rattle.sq_text.specs.declared.fault.Fault.{Fault}
-use Rattle.sq_text.specs.declared.fault.Stop.{Stop}
-use Rattle.sq_text.specs.declared.fault.Stop.TheVariants.{Refused as Refusal}
-use Rattle.sq_text.specs.Answers.{Answers}
 use Rattle.sq_text.specs.First.{InTurn, AtOrBefore}
 use Rattle.sq_text.specs.Faults.{IsFirst, fault_place, fault_number}
 use Rattle.sq_lexer.specs.Faults.{FitsFile, IsTooLong, HasFault, too_long, breaks}
@@ -14,7 +11,7 @@ use Rattle.sq_driver.specs.declared.outside.end.End.{End}
 use Rattle.sq_driver.specs.declared.outside.end.End.TheVariants.{Usage, Absent, FileFault, Refused, Trapped, NoMemory, SinkFault}
 use Rattle.sq_driver.specs.Holding.{Holds}
 use Rattle.sq_driver.specs.Programs.{too_long_fault}
-use Rattle.sq_driver.specs.Steps.{HoldsRight, ReadsFitting, ReadsRight}
+use Rattle.sq_driver.specs.Steps.{ReadsFitting, ReadsRight}
 
 not_both : (phase : Phase) (text : List ℕ) → FitsFile phase text → IsTooLong phase text → ⊥
 not_both Program text fits long = omega (arith, fits, long)

@@ -1,5 +1,5 @@
 -- What the phases of `tune`, `span` and `compile` behind the shared ones leave behind.
-use Rattle.std.specs.Prelude.{◌≡◌, ℕ, List, Bool, false, Option, Some, None, Result, Ok, Err}
+use Rattle.std.specs.Prelude.{◌≡◌, ℕ, List, false, Option, Some, None, Result, Ok, Err}
 use Rattle.sq_port.specs.Ports.{Content}
 use Rattle.sq_text.specs.declared.code.Phase.TheVariants as phase
 use Rattle.sq_text.specs.declared.fault.Fault.{Fault}
@@ -20,7 +20,7 @@ use Rattle.sq_planfile.specs.Limits.{TextFault}
 use Rattle.sq_planfile.specs.Written.{written}
 use Rattle.sq_text.specs.Faults.{IsFirst}
 use Rattle.sq_driver.specs.declared.outside.end.End.{End}
-use Rattle.sq_driver.specs.declared.outside.end.End.TheVariants.{Usage, Absent, FileFault, Refused, Trapped, NoMemory, SinkFault}
+use Rattle.sq_driver.specs.declared.outside.end.End.TheVariants.{Refused, NoMemory}
 use Rattle.sq_driver.specs.Holding.{Holds}
 use Rattle.sq_driver.specs.Choosing.{AreChoicesText, IsFirstChoicesFault}
 use Rattle.sq_driver.specs.Costing.{AreCostsText, IsFirstCostFault}

@@ -6,14 +6,12 @@ use Rattle.sq_text.specs.declared.code.Phase.TheVariants.{Input}
 use Rattle.sq_text.specs.declared.fault.Fault.{Fault}
 use Rattle.sq_ast.specs.declared.program.Param.{Param}
 use Rattle.sq_arrays.specs.Arrays.{Wanted, DataFault, arrays_of}
-use Rattle.sq_arrays.specs.Targets.{cells_of}
 use Rattle.sq_ast.specs.Modes.{is_read}
-use Rattle.sq_forms.specs.Resolving.{entry_extents}
 use Rattle.sq_spec.specs.declared.resolved.Resolved.{Resolved}
 use Rattle.sq_flat.specs.Held.{Stored, Holds}
 use Rattle.sq_driver.specs.declared.outside.end.End.{End}
 use Rattle.sq_driver.specs.Data.{data_fault}
-use Rattle.sq_driver.specs.Entry.{params_of, wants_of, start_of}
+use Rattle.sq_driver.specs.Entry.{params_of, start_of}
 use Rattle.sq_driver.specs.Givens.{Extents, read_wants, Given}
 use Rattle.sq_driver.specs.Steps.{Stops}
 

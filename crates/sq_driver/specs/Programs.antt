@@ -1,5 +1,5 @@
 -- The program that a text is, and the first fault of a text that is none.
-use Rattle.std.specs.Prelude.{◌⊎◌, ℕ, List, [], Some, None}
+use Rattle.std.specs.Prelude.{◌⊎◌, ℕ, List, Some, None}
 use Rattle.sq_text.specs.declared.code.Phase.{Phase}
 use Rattle.sq_text.specs.declared.code.Phase.TheVariants as phase
 use Rattle.sq_text.specs.declared.code.Code.TheVariants as code

@@ -1,6 +1,6 @@
 use Rattle.sq_text.specs.declared.code.Phase.TheVariants.{Cost}
 use Rattle.sq_driver.specs.Costing.{AreCostsText, IsFirstCostFault}
-use Rattle.sq_driver.proofs.WholeFiles.{first_of_long, fitting_stops, right_held, right_refused}
+use Rattle.sq_driver.proofs.WholeFiles.{first_of_long, fitting_stops, right_held}
 use Rattle.sq_driver.proofs.phases.costs.read_costs.Goals as goal
 
 pub returns-in-Err-clause-told : goal.returns-in-Err-clause-told

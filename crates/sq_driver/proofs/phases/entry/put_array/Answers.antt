@@ -1,7 +1,6 @@
 use Rattle.std.proofs.Common.{◌*◌, ◌∙◌, sym, ap, ℕ, List}
 use Rattle.sq_num.specs.Elements.{width}
 use Rattle.sq_rect.specs.Extents.{product}
-use Rattle.sq_arrays.specs.Arrays.{Wanted}
 use Rattle.sq_driver.proofs.Puts.{wrote_want}
 use Rattle.sq_driver.proofs.phases.entry.put_array.Goals as goal
 

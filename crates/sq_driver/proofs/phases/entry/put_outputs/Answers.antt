@@ -1,4 +1,4 @@
-use Rattle.std.proofs.Common.{◌++◌, ◌≤◌, arith}
+use Rattle.std.proofs.Common.{◌++◌, arith}
 use Rattle.sq_driver.specs.Outputs.{stored_text, stored_texts}
 use Rattle.sq_driver.proofs.Puts.{as_many, some_bytes, stored_bytes, texts_step}
 use Rattle.sq_driver.proofs.phases.entry.put_outputs.Goals as goal

@@ -1,5 +1,3 @@
-use Rattle.std.proofs.Common.{◌≡◌, ◌<◌, ◌∙◌, Some, List, length, slice_get, refl, ap, subst, sym, arith}
-use Rattle.std.proofs.lemmas.Option.{slice_get_read}
 use Rattle.sq_driver.proofs.Wants.{wants_step}
 use Rattle.sq_driver.proofs.phases.entry.wants_in.Goals as goal
 

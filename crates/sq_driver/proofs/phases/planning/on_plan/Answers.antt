@@ -1,6 +1,6 @@
 use Rattle.sq_driver.proofs.Evaluations.{evaluates_same}
-use Rattle.sq_driver.proofs.Finals.{causes_after, sources_at, sources_told, resolved_at}
-use Rattle.sq_driver.proofs.Planning.{stops_named, holds_named, sources_end}
+use Rattle.sq_driver.proofs.Finals.{causes_after}
+use Rattle.sq_driver.proofs.Planning.{stops_named, sources_end}
 use Rattle.sq_driver.proofs.phases.planning.on_plan.Goals as goal
 
 pub returns-in-Err-clause-evaluated : goal.returns-in-Err-clause-evaluated

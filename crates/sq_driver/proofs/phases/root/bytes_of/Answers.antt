@@ -1,4 +1,4 @@
-use Rattle.std.proofs.Common.{◌≡◌, ◌<◌, ◌*◌, ◌^◌, arith}
+use Rattle.std.proofs.Common.{arith}
 use Rattle.sq_rect.specs.Extents.{product}
 use Rattle.sq_driver.proofs.Places.{count_fits, size_fits}
 use Rattle.sq_driver.proofs.phases.root.bytes_of.Goals as goal

@@ -1,7 +1,6 @@
 use Rattle.std.proofs.Common.{◌≡◌, ◌++◌, drop}
 use Rattle.sq_spec.specs.Works.{param_shapes}
 use Rattle.sq_meant.specs.Places.{places_in}
-use Rattle.sq_driver.specs.Roots.{places_for}
 use Rattle.sq_driver.proofs.phases.root.places_in.Given as goal
 
 abbrev pub invariant-loop-i : goal.invariant-loop-i

@@ -1,4 +1,4 @@
-use Rattle.std.proofs.Common.{◌++◌, ◌≤◌, refl, arith}
+use Rattle.std.proofs.Common.{◌++◌, arith}
 use Rattle.sq_tree.specs.Bank.{bytes_at}
 use Rattle.sq_root.specs.Places.{parts}
 use Rattle.sq_driver.specs.Outputs.{stored_text, stored_texts}

@@ -1,4 +1,4 @@
-use Rattle.std.proofs.Common.{◌∙◌, ℕ, List, length, sym, ap}
+use Rattle.std.proofs.Common.{◌∙◌, List, length, sym, ap}
 use Rattle.sq_ast.specs.declared.program.Param.{Param}
 use Rattle.sq_driver.specs.Entry.{params_of}
 use Rattle.sq_driver.proofs.Entries.{entry_long}

@@ -1,4 +1,4 @@
-use Rattle.std.proofs.Common.{◌∙◌, sym}
+use Rattle.std.proofs.Common.{sym}
 use Rattle.sq_driver.proofs.Evaluations.{program_held}
 use Rattle.sq_driver.proofs.Finals.{machine_held}
 use Rattle.sq_driver.proofs.SourcePhases.{stops_at_program, stops_at_types, stops_at_machine, front_same}
