@@ -159,6 +159,7 @@ FILES = {
     "plan": ["program", "mapping", "machine"],
     "eval": ["program", "mapping", "machine", "data"],
     "run": ["program", "mapping", "machine", "data"],
+    "compile": ["program", "mapping", "machine"],
     "tune": ["program", "mapping", "machine"],
     "span": ["program", "mapping", "machine", "cost"],
 }
