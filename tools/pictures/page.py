@@ -242,14 +242,14 @@ def stopped(line, names):
 PHASE_FILES = {"program": 0, "types": 0, "resolve": 0, "race": 0, "mapping": 1, "machine": 2}
 
 
-def refusal(names, files, line):
-    """The page of a program that has no plan."""
+def refusal(names, files, line, lacks="plan"):
+    """The page of a program that has no plan, or no table of choices."""
     phase, place = place_in(line)
     number = PHASE_FILES.get(phase)
     source = ""
     if number is not None and place:
         source = f"<section><h2>{escape(names[number])}</h2>{source_lines(files[number], None, place)}</section>"
-    body = f"<header><h1>{escape(names[0])}</h1><p>has no plan: it is refused.</p></header>{stopped(line, names)}{source}"
+    body = f"<header><h1>{escape(names[0])}</h1><p>has no {lacks}: it is refused.</p></header>{stopped(line, names)}{source}"
     return fill_in(f"{names[0]}: {line}", body, "null", "")
 
 

@@ -1,4 +1,4 @@
-"""The five pages that are tested: what they are made of, and the texts that they have to agree with."""
+"""The pages that are tested, and of choices: what they are made of, and the texts that they have to agree with."""
 import os
 import subprocess
 from dataclasses import dataclass
@@ -92,3 +92,17 @@ def large_trace(blocks, size, last):
             lines += [filled, copied] if last else [copied, filled]
             lines += [f"leaf 1.{core} low", f"copy 1.{core}:16 0.0:{size + 16 * block} 16"]
     return "\n".join(lines) + "\n"
+
+
+def table(down, right):
+    """A table of choices for each pair of numbers up to these two, of which some are refused."""
+    lines, carried = [], {}
+    for number in range(down * right):
+        first, second = number // right + 1, number % right + 1
+        told = f"refused capacity Capacity core {first * second} {down * right // 2}"
+        if 2 * first * second <= down * right:
+            carried[number] = 1000 * down * right // (first + second)
+            told = f"traffic {carried[number]}"
+        lines.append(f"choice {number} top.U={first} low.M=[{second},-1] {told}\n")
+    best = min(carried, key=carried.get)
+    return "".join(lines) + f"best {best} traffic {carried[best]}\n"

@@ -1,4 +1,5 @@
-"""Reads what a picture is made of: reports, traces, machines, mappings, and the heads of a program's variants.
+"""Reads what a picture is made of: reports, traces, tables of choices, machines, mappings, and the heads of a program's
+variants.
 
 Programs, mappings and machines are read only as far as the picture needs them; whether they are right says sq, which was
 asked before. docs/FORMATS.md has the lines and the grammars.
@@ -179,6 +180,65 @@ def read_trace(text):
         except ValueError:
             raise BadText(f"line {number} of the trace is none: {line[:80]}") from None
     return trace
+
+
+# ---- tables of choices
+
+
+@dataclass
+class Choice:
+    """A row of a table: what its plan carries, or the line of its fault."""
+
+    number: int
+    values: List[str]  # one for each tunable of the table
+    traffic: Optional[int]
+    refused: Optional[str]
+    edges: List[Edge] = field(default_factory=list)  # of its plan, where that was asked for
+
+
+@dataclass
+class Table:
+    tunables: List[str]  # those that have several alternatives, as INSTANCE.TUNABLE
+    choices: List[Choice] = field(default_factory=list)
+    best: Optional[Choice] = None
+
+    def accepted(self):
+        return [choice for choice in self.choices if choice.traffic is not None]
+
+
+SETTING = rf" ({NAME}\.{NAME})=(-?\d+|\[[-\d,]*\])"
+CHOICE = re.compile(rf"choice (\d{{1,4}})((?:{SETTING})*) (?:traffic (\d{{1,20}})|(refused \S.*))$", re.A)
+BEST = re.compile(r"best (?:none|(\d{1,4}) traffic (\d{1,20}))$", re.A)
+MOST_TUNABLES = 12  # of 4,096 choices
+
+
+def add_choice(table, match):
+    settings = re.findall(SETTING, match.group(2), re.A)
+    tunables = [tunable for tunable, _ in settings]
+    if int(match.group(1)) != len(table.choices) or (table.choices and tunables != table.tunables):
+        return False
+    if len(tunables) > MOST_TUNABLES:
+        return False
+    traffic = match.group(5) and int(match.group(5))
+    table.tunables = tunables
+    table.choices.append(Choice(len(table.choices), [value for _, value in settings], traffic, match.group(6)))
+    return True
+
+
+def read_table(text):
+    table, end = Table([]), None
+    for number, line in enumerate(text.splitlines(), 1):
+        choice = None if end else CHOICE.match(line)
+        end = None if end or choice else BEST.match(line)
+        if not end and not (choice and add_choice(table, choice)):
+            raise BadText(f"line {number} of the table is none: {line[:80]}")
+    if not end or not table.choices:
+        raise BadText("the table has no line `best` at its end")
+    table.best = min(table.accepted(), key=lambda choice: choice.traffic, default=None)
+    said = (end.group(1) and int(end.group(1)), end.group(2) and int(end.group(2)))
+    if said != ((table.best.number, table.best.traffic) if table.best else (None, None)):
+        raise BadText("the table's best choice isn't the first of those with the least traffic")
+    return table
 
 
 # ---- tokens of programs, mappings and machines
