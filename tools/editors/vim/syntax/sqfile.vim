@@ -1,10 +1,10 @@
-" Vim syntax file: mappings and machines of sq.
+" Vim syntax file: mappings, machines and costs of sq.
 if exists("b:current_syntax")
   finish
 endif
 
-syntax keyword sqFileHead mapping machine entry instance level levels node
-syntax keyword sqFileItem tunable call spread cyclic blocked capacity children
+syntax keyword sqFileHead mapping machine cost entry instance level levels node
+syntax keyword sqFileItem tunable call spread cyclic blocked capacity children row byte
 syntax keyword sqFileKind inner leaf
 syntax match sqFileNumber "\<\d\+\>"
 syntax match sqFileSign "->\|::\|@"
