@@ -40,6 +40,13 @@ impl PlanFile {
         &self.plan
     }
 
+    /// The plan, to be held once more.
+    pub fn shared_plan(&self) -> &Rc<Plan>
+        ensures { result.now.value ≡ self.now.plan }
+    {
+        &self.plan
+    }
+
     pub fn arrays(&self) -> &[EntryArray]
         ensures { result.now ≡ self.now.arrays }
     {
