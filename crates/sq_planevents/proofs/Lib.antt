@@ -1,0 +1,14 @@
+pub mod Members
+pub mod Distinct
+pub mod Turns
+pub mod Ordering
+pub mod Judging
+pub mod Standings
+pub mod Bound
+pub mod Dropped
+pub mod Counted
+pub mod Spans
+pub mod RowEvents
+pub mod Touching
+pub mod Calls
+pub mod Walks

@@ -1,0 +1,11 @@
+pub mod First
+pub mod Standing
+pub mod Lines
+pub mod Scoped
+pub mod Shapes
+pub mod Rows
+pub mod Twice
+pub mod Views
+pub mod Calls
+pub mod Heads
+pub mod Walked

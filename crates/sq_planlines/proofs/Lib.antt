@@ -1,0 +1,4 @@
+mod Forms
+mod Fitting
+mod Nodes
+mod Agrees

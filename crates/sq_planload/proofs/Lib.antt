@@ -1,0 +1,4 @@
+mod Counts
+mod Lines
+mod Whole
+mod Ends
