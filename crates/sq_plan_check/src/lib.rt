@@ -22,3 +22,4 @@ pub use pairs::{Pair, first_clash};
 pub use reach::{Reach, Row};
 pub use sq_areas::{Area, Step};
 pub use sq_check_laws::Flaw;
+pub use sweep::candidates;

@@ -1,0 +1,7 @@
+mod Items
+mod Inside
+mod Coloring
+mod Covering
+mod Reached
+mod Rowing
+mod Finding

@@ -1,0 +1,4 @@
+pub mod Colors
+pub mod Keys
+pub mod Reached
+pub mod EventFlaws

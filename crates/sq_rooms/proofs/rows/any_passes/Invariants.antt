@@ -1,0 +1,8 @@
+use Rattle.std.proofs.Common.{◌≡◌, drop, map}
+use Rattle.sq_ir.specs.Plans.{setting_of}
+use Rattle.sq_rooms.specs.Reaches as spec
+use Rattle.sq_rooms.proofs.rows.any_passes.Given as goal
+
+abbrev pub invariant-loop-name : goal.invariant-loop-name
+invariant-loop-name l =
+    spec.any (map (spec.passes_below (setting_of l.plan) l.bound) (drop l.name-index l.names)) ≡ spec.any (map (spec.passes_below (setting_of l.plan) l.bound) l.names)
