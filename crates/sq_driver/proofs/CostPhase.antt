@@ -31,7 +31,7 @@ use Rattle.sq_driver.proofs.Evaluations.{stops}
 use Rattle.sq_driver.proofs.Planning.{plan_names, same_plan, written}
 
 abbrev pub reads_span : ReadsSources kind.Span
-reads_span = record { rest = Capacity ∷ CostPhase ∷ []; split = refl; fixed = refl }
+reads_span = record { rest = Capacity ∷ CostPhase ∷ []; split = refl; fixed = refl; sourced = refl }
 
 pub on_span : (p m k f : List ℕ) → IsOnPlan (span_of p m k f) (plan_names p m k)
 on_span p m k f = record { begun = reads_span; rest = CostPhase ∷ []; next = refl; named = refl; closed = refl }

@@ -1,5 +1,5 @@
 -- The data of a command that runs a program, and what the program means on it.
-use Rattle.std.proofs.Common.{◌≡◌, ℕ, List, [], ◌∷◌, ◌++◌, Option, Some, Result, Ok, Err, refl, sym, ◌∙◌, ap, subst}
+use Rattle.std.proofs.Common.{◌≡◌, ℕ, Bool, List, [], ◌∷◌, ◌++◌, Option, Some, Result, Ok, Err, refl, sym, ◌∙◌, ap, subst}
 use Rattle.std.specs.Prelude.{ℤ}
 use Rattle.sq_port.specs.Ports.{Content}
 use Rattle.sq_text.specs.declared.code.Phase.{Phase}
@@ -20,8 +20,8 @@ use Rattle.sq_words.specs.Words.{Command, with_file, input}
 use Rattle.sq_report.specs.declared.trap.Trap.{Trap}
 use Rattle.sq_driver.specs.Phases.{phases, inputs_of}
 use Rattle.sq_driver.specs.Sources.{Sources}
-use Rattle.sq_driver.specs.Faults.{IsFirstOf}
-use Rattle.sq_driver.specs.Entry.{params_of, wants_of, start_of, outputs_from, Entry, Data, data_arrays, GivesFlat, TrapsFlat}
+use Rattle.sq_driver.specs.Faults.{IsFirstOf, IsFirstOfData}
+use Rattle.sq_driver.specs.Entry.{IsFirstOfInput, params_of, wants_of, start_of, outputs_from, Entry, Data, data_arrays, GivesFlat, TrapsFlat}
 use Rattle.sq_driver.specs.Outputs.{stored_texts}
 use Rattle.sq_driver.specs.Meaning.{Passed, AllPassed}
 use Rattle.sq_driver.specs.Evaluating.{HoldsSources}
@@ -78,7 +78,7 @@ same_outcome t u m n e f v w trees mappings extents values =
 
 -- ---- passed phases
 
-all_with : (command : Command) (c : Content) (before : List Phase) (last : Phase) → AllPassed command c before
+pub all_with : (command : Command) (c : Content) (before : List Phase) (last : Phase) → AllPassed command c before
     → Passed command c last
     → AllPassed command c (before ++ last ∷ [])
 all_with command c [] last all one = (one, tt)
@@ -90,16 +90,27 @@ module _ (its : Command) (begun : ReadsSources its.kind) (p m k d : List ℕ) (t
   its_sources c is = sources (record its { files = with_file input d its.files }) begun p m k told r.typed.now
       r.machine.now r.mapping.now held c is
 
+  -- the data is that of the arrays of the program
+  of_data : (c : Content) (f : Fault) → IsFirstOfInput (inputs_of c (data_with its p m k d)) f
+      → IsFirstOf its.kind Input (inputs_of c (data_with its p m k d)) f
+  of_data c f first = subst (λ (filed : Bool). IsFirstOfData filed (inputs_of c (data_with its p m k d)) f)
+      (sym begun.sourced) first
+
+  data_of : (c : Content) (f : Fault) → IsFirstOf its.kind Input (inputs_of c (data_with its p m k d)) f
+      → IsFirstOfInput (inputs_of c (data_with its p m k d)) f
+  data_of c f first = subst (λ (filed : Bool). IsFirstOfData filed (inputs_of c (data_with its p m k d)) f)
+      begun.sourced first
+
   pub unfit : (c : Content) → told ≡ Some c → (f : Fault) → IsUnfit r (c d) f
       → IsFirstOf its.kind Input (inputs_of c (data_with its p m k d)) f
-  unfit c is f bad = record {
+  unfit c is f bad = of_data c f (record {
     entry = record { sources = its_sources c is; extents = bad.entry.extents; extents_are = bad.entry.are };
     bytes = bad.unfit.bytes;
     there = bad.unfit.there;
     found = bad.unfit.found;
     read = bad.unfit.read;
     is = bad.unfit.is;
-  }
+  })
 
   module _ (c : Content) (is : told ≡ Some c) (arrays : Stored) (given : AreGiven r (c d) arrays) where
     abbrev pub data_is : Data (inputs_of c (data_with its p m k d))
@@ -128,12 +139,13 @@ module _ (its : Command) (begun : ReadsSources its.kind) (p m k d : List ℕ) (t
         (some_same (c d) bytes given.bytes there given.there)
         ∙ given.read
 
-    none : (f : Fault) → IsFirstOf its.kind Input (inputs_of c (data_with its p m k d)) f → ⊥
-    none f fails = ok_or_err given.values fails.found (sym (reading_of fails.entry fails.bytes fails.there)
-        ∙ fails.read)
+    pub data_fits : (f : Fault) → IsFirstOf its.kind Input (inputs_of c (data_with its p m k d)) f → ⊥
+    data_fits f is_first =
+        let fails : IsFirstOfInput (inputs_of c (data_with its p m k d)) f = data_of c f is_first in
+        ok_or_err given.values fails.found (sym (reading_of fails.entry fails.bytes fails.there) ∙ fails.read)
 
     data_passed : Passed (data_with its p m k d) c Input
-    data_passed = record { there = is_there c d given.bytes given.there; no_fault = none }
+    data_passed = record { there = is_there c d given.bytes given.there; no_fault = data_fits }
 
     -- what the source means for any data that the files hold
     outcome_of : (that : Data (inputs_of c (data_with its p m k d)))

@@ -28,8 +28,8 @@ use Rattle.sq_driver.specs.Data.{code_for, args_for}
 use Rattle.sq_driver.specs.declared.outside.end.End.{End}
 use Rattle.sq_driver.specs.declared.outside.end.End.TheVariants as end
 use Rattle.sq_driver.specs.Entry.{params_of, want_of, wants_of}
-use Rattle.sq_driver.specs.Givens.{Given, Extents, read_wants}
-use Rattle.sq_driver.specs.Picking.{picked, unpicked, KeepsOthers, Unfit, IsFilled, ReadsData, AreGiven, IsUnfit, ReadsGiven}
+use Rattle.sq_driver.specs.Givens.{Given, Unfit, Extents, read_wants}
+use Rattle.sq_driver.specs.Picking.{picked, unpicked, KeepsOthers, IsFilled, ReadsData, AreGiven, IsUnfit, ReadsGiven}
 use Rattle.sq_driver.proofs.Entries.{entry_small, wants_small}
 use Rattle.sq_driver.proofs.Starts.{starts}
 

@@ -8,13 +8,13 @@ use Rattle.sq_leaf.specs.declared.trap.Trap.{Trap}
 use Rattle.sq_ir.specs.Events.{Event}
 use Rattle.sq_ir.specs.declared.plan.Plan.{Plan}
 use Rattle.sq_sched.specs.Rests.{Rest}
-use Rattle.sq_spec.specs.declared.resolved.Resolved.{Resolved}
+use Rattle.sq_planfile.specs.File.{PlanFile}
 use Rattle.sq_tree.specs.Bank.{BankSeen}
 use Rattle.sq_adder.specs.Sums.{text_sum}
 use Rattle.sq_report.specs.Demo.{demo_line}
 use Rattle.sq_demo.specs.Texts.{demo_content}
 use Rattle.sq_words.specs.declared.words.Kind.TheVariants.{Run, Demo}
-use Rattle.sq_words.specs.Words.{Role, program, mapping, machine, input, order, cost, seed, demo_of}
+use Rattle.sq_words.specs.Words.{Role, program, mapping, machine, input, order, cost, plan_file, seed, demo_of}
 use Rattle.sq_driver.specs.declared.outside.status.Status.{Status}
 use Rattle.sq_driver.specs.declared.outside.status.Status.TheVariants.{Done as DoneStatus, Refused as RefusedStatus, Trapped as TrappedStatus, Usage as UsageStatus, FileFault as FileFaultStatus, SinkFault as SinkFaultStatus, NoMemory as NoMemoryStatus, Absent as AbsentStatus}
 use Rattle.sq_driver.specs.declared.outside.end.End.{End}
@@ -41,6 +41,7 @@ role_same n c machine = refl
 role_same n c input = refl
 role_same n c order = refl
 role_same n c cost = refl
+role_same n c plan_file = refl
 
 same_inputs : (n : ℕ) (c : Content) → inputs_of (demo_content n) (demo_run n) ≡ inputs_of c (demo_of n)
 same_inputs n c = λ i role. role_same n c role i
@@ -180,23 +181,24 @@ means_same n told a quiet means = record {
 -- ---- what it leaves of the bank
 
 module _ (n : ℕ) (told : Option Content) (old now : BankSeen) where
-  open_same : (forms : Resolved) (plan : Plan) (then : BankSeen)
-      → IsOpenFor (demo_run n) (Some (demo_content n)) forms plan old then
-      → IsOpenFor (demo_of n) told forms plan old then
-  open_same forms plan then opened = record {
+  open_same : (file : PlanFile) (then : BankSeen) → IsOpenFor (demo_run n) (Some (demo_content n)) file old then
+      → IsOpenFor (demo_of n) told file old then
+  open_same file then opened = record {
     once = opened.once;
     is = opened.is;
-    its = opened.its;
-    of_files = λ c at. subst (λ (x : Inputs). AreFormsOf x forms) (same_inputs n c)
-        (opened.of_files (demo_content n) (inl refl));
+    work = record {
+      forms = opened.work.forms;
+      its = opened.work.its;
+      arrays = opened.work.arrays;
+      of_files = λ c at. subst (λ (x : Inputs). AreFormsOf x opened.work.forms) (same_inputs n c)
+          (opened.work.of_files (demo_content n) (inl refl));
+    };
   }
 
   unrun_same : IsUnrun (demo_run n) (Some (demo_content n)) old now → IsUnrun (demo_of n) told old now
   unrun_same unrun = record {
-    forms = unrun.forms;
-    entry = unrun.entry;
-    plan = unrun.plan;
-    opened = open_same unrun.forms unrun.plan now unrun.opened;
+    file = unrun.file;
+    opened = open_same unrun.file now unrun.opened;
     none = unrun.none;
     zero = unrun.zero;
   }
@@ -204,11 +206,9 @@ module _ (n : ℕ) (told : Option Content) (old now : BankSeen) where
   abbrev run_same : (Traced : Plan → List Event → Type 0) (Over : Rest Trap → Type 0)
       → IsRun (demo_run n) (Some (demo_content n)) Traced Over old now → IsRun (demo_of n) told Traced Over old now
   run_same Traced Over run = record {
-    forms = run.forms;
-    entry = run.entry;
-    plan = run.plan;
+    file = run.file;
     start = run.start;
-    opened = open_same run.forms run.plan run.start run.opened;
+    opened = open_same run.file run.start run.opened;
     none = run.none;
     zero = run.zero;
     read = λ c at. run.read (demo_content n) (inl refl);

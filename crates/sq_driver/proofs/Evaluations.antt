@@ -34,7 +34,7 @@ use Rattle.sq_driver.proofs.DataPhase.{outcome_by, unfit, all_passed, gives_flat
 use Rattle.sq_driver.proofs.Ending.{done_whole, done_cut}
 
 abbrev pub reads_eval : ReadsSources Eval
-reads_eval = record { rest = Input ∷ []; split = refl; fixed = refl }
+reads_eval = record { rest = Input ∷ []; split = refl; fixed = refl; sourced = refl }
 
 -- ---- the ends of the command
 

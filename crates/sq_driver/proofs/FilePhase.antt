@@ -35,7 +35,7 @@ use Rattle.sq_driver.proofs.SourcePhases.{ok_same, one, sources, only}
 use Rattle.sq_driver.proofs.Planning.{plan_names, same_plan, written as text_written}
 
 abbrev pub reads_compile : ReadsSources kind.Compile
-reads_compile = record { rest = Capacity ∷ PlanPhase ∷ []; split = refl; fixed = refl }
+reads_compile = record { rest = Capacity ∷ PlanPhase ∷ []; split = refl; fixed = refl; sourced = refl }
 
 pub on_compile : (p m k : List ℕ) → IsOnPlan (compile_of p m k) (plan_names p m k)
 on_compile p m k = record { begun = reads_compile; rest = PlanPhase ∷ []; next = refl; named = refl; closed = refl }

@@ -6,10 +6,11 @@ use Rattle.sq_text.specs.declared.code.Phase.{Phase}
 use Rattle.sq_text.specs.declared.code.Phase.TheVariants.{Program, Types, Machine, Mapping, Resolve, Race, Capacity, Plan, Cost, Order, Input}
 use Rattle.sq_text.specs.declared.fault.Fault.{Fault}
 use Rattle.sq_words.specs.declared.words.Kind.{Kind}
-use Rattle.sq_words.specs.Words.{Role, program, mapping, machine, input, order, cost, Command}
-use Rattle.sq_driver.specs.Phases.{phases, role_of, file_for, file_of, Inputs, own_inputs, text_or, inputs_of, varies}
+use Rattle.sq_words.specs.declared.words.Kind.TheVariants.{Check, Fmt, Plan as PlanKind, Eval, Run, Demo, Compile, Tune, Span, Exec}
+use Rattle.sq_words.specs.Words.{Role, program, mapping, machine, input, order, cost, plan_file, Command}
+use Rattle.sq_driver.specs.Phases.{phases, role_of, file_for, file_of, Inputs, own_inputs, text_or, inputs_of, plan_role, is_filed, varies}
 use Rattle.sq_driver.specs.Costing.{IsFirstOfCost}
-use Rattle.sq_driver.specs.Faults.{IsFirstOfMappings, IsFirstOf}
+use Rattle.sq_driver.specs.Faults.{IsFirstOfMappings, IsFirstOfPlan, IsFirstOfData, IsFirstOf}
 use Rattle.sq_driver.specs.Meaning.{Passed, AllPassed, Reached, Answer, done, refused, trapped, usage, file_fault, no_memory, absent, IsCause}
 use Rattle.sq_driver.specs.Outcome.{status_for}
 use Rattle.sq_driver.specs.Top.{IsSaid}
@@ -90,8 +91,26 @@ cost_there inputs its role (inl is) reads none = not_there inputs cost role is.f
 cost_there inputs its role (inr is) reads none =
     not_there inputs cost role is.costed.costs_are.0 reads is.costed.costs_are.1 none
 
+plan_there : (kind : Kind) (inputs : Inputs) (its : Fault) (role : Role) → IsFirstOfPlan kind inputs its
+    → plan_role kind ≡ Some role → inputs role ≡ None → ⊥
+plan_there Exec inputs its role is reads none = not_there inputs plan_file role is.0 reads is.1 none
+plan_there Check inputs its role is reads none = no_name role reads
+plan_there Fmt inputs its role is reads none = no_name role reads
+plan_there PlanKind inputs its role is reads none = no_name role reads
+plan_there Eval inputs its role is reads none = no_name role reads
+plan_there Run inputs its role is reads none = no_name role reads
+plan_there Demo inputs its role is reads none = no_name role reads
+plan_there Compile inputs its role is reads none = no_name role reads
+plan_there Tune inputs its role is reads none = no_name role reads
+plan_there Span inputs its role is reads none = no_name role reads
+
+data_there : (filed : Bool) (inputs : Inputs) (its : Fault) (role : Role) → IsFirstOfData filed inputs its
+    → Some input ≡ Some role → inputs role ≡ None → ⊥
+data_there false inputs its role is reads none = not_there inputs input role is.bytes reads is.there none
+data_there true inputs its role is reads none = not_there inputs input role is.unfit.bytes reads is.unfit.there none
+
 fault_there : (kind : Kind) (phase : Phase) (inputs : Inputs) (its : Fault) (role : Role)
-    → IsFirstOf kind phase inputs its → role_of phase ≡ Some role → inputs role ≡ None → ⊥
+    → IsFirstOf kind phase inputs its → role_of kind phase ≡ Some role → inputs role ≡ None → ⊥
 fault_there kind Program inputs its role is reads none = not_there inputs program role is.0 reads is.1 none
 fault_there kind Types inputs its role is reads none = no_name role reads
 fault_there kind Machine inputs its role is reads none = not_there inputs machine role is.0 reads is.1 none
@@ -99,10 +118,10 @@ fault_there kind Mapping inputs its role is reads none = mapping_there (varies k
 fault_there kind Resolve inputs its role is reads none = no_name role reads
 fault_there kind Race inputs its role is reads none = no_name role reads
 fault_there kind Capacity inputs its role is reads none = no_name role reads
-fault_there kind Plan inputs its role is reads none = no_name role reads
+fault_there kind Plan inputs its role is reads none = plan_there kind inputs its role is reads none
 fault_there kind Cost inputs its role is reads none = cost_there inputs its role is reads none
 fault_there kind Order inputs its role is reads none = not_there inputs order role is.0 reads is.1 none
-fault_there kind Input inputs its role is reads none = not_there inputs input role is.bytes reads is.there none
+fault_there kind Input inputs its role is reads none = data_there (is_filed kind) inputs its role is reads none
 
 refused_or_absent : (command : Command) (c : Content) (p q : Phase) (its : Fault) (name : List ℕ)
     → Reached command c p → IsFirstOf command.kind p (inputs_of c command) its → file_of command q ≡ Some name
@@ -110,7 +129,7 @@ refused_or_absent : (command : Command) (c : Content) (p q : Phase) (its : Fault
 refused_or_absent command c p q its name at_p is file at_q none =
     let same = one_stop command c p q at_p at_q (λ passed. passed.no_fault its is)
     (λ passed. absent_not_passed command c q name file none passed) in
-    let gone = role_absent c command (role_of q) name file none in
+    let gone = role_absent c command (role_of command.kind q) name file none in
     fault_there command.kind q (inputs_of c command) its gone.0
     (subst (λ (k : Phase). IsFirstOf command.kind k (inputs_of c command) its) same is) gone.1 gone.2
 

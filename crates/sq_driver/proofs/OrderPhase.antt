@@ -1,23 +1,18 @@
 -- The phase order, behind those from program to capacity.
-use Rattle.std.proofs.Common.{◌≡◌, ℕ, List, [], ◌∷◌, Bool, Option, Some, None, Ok, Err, refl, sym, subst}
+use Rattle.std.proofs.Common.{◌≡◌, ℕ, List, [], ◌∷◌, Option, Some, None, Ok, Err, sym, subst}
 use Rattle.sq_port.specs.Ports.{Content}
-use Rattle.sq_text.specs.declared.code.Phase.TheVariants.{Program, Types, Machine, Mapping, Resolve, Race, Capacity, Order as OrderPhase, Input}
 use Rattle.sq_text.specs.declared.fault.Fault.{Fault}
 use Rattle.sq_orders.specs.declared.order.Chosen.{Chosen}
 use Rattle.sq_orders.specs.Chosen.{chosen_held}
 use Rattle.sq_port.specs.Orders.{seed_start}
-use Rattle.sq_tree.specs.Bank.{BankSeen}
 use Rattle.sq_words.specs.declared.options.Way.{Way}
 use Rattle.sq_words.specs.declared.options.Way.TheVariants.{First, Last, Seed, List as Listed}
-use Rattle.sq_words.specs.Words.{asked, Order, run_of}
+use Rattle.sq_words.specs.Words.{asked}
 use Rattle.sq_driver.specs.declared.outside.end.End.{End}
-use Rattle.sq_driver.specs.Phases.{text_of, IsTold}
 use Rattle.sq_driver.specs.Holding.{Holds}
 use Rattle.sq_driver.specs.Orders.{ListFault}
 use Rattle.sq_driver.specs.Ordering.{ReadsList, ReadsOrder}
-use Rattle.sq_driver.specs.Meaning.{Passed, AllPassed}
-use Rattle.sq_driver.specs.Steps.{Stopped}
-use Rattle.sq_driver.proofs.Stopping.{phase_stops, is_there}
+use Rattle.sq_driver.proofs.Stopping.{is_there}
 
 no_file : {A : Type 0} (name : List ℕ) → None ≡ Some name → A
 no_file name is = absurd (let never : None ≡ Some name = is in cc)
@@ -62,40 +57,3 @@ module _ (w : Way) (file : _) (is : w ≡ Listed file) (told : Option Content) w
 
   pub list_ends : (end : End) → ReadsList told file.now (Err end) → ReadsOrder (asked w) told (Err end)
   list_ends end reads = subst (λ (v : Way). ReadsOrder (asked v) told (Err end)) (sym is) reads
-
--- ---- the phase
-
-module _ (p m k d : List ℕ) (said : Order) (traced : Bool) (told : Option Content)
-    (one : (c : Content) → IsTold (run_of p m k d said traced) told c → told ≡ Some c)
-    (passed : (c : Content) → told ≡ Some c → AllPassed (run_of p m k d said traced) c
-    (Program ∷ Types ∷ Machine ∷ Mapping ∷ Resolve ∷ Race ∷ Capacity ∷ [])) where
-  pub order_stops : (bank : BankSeen) (end : End) → ReadsOrder said told (Err end)
-      → Stopped (run_of p m k d said traced) told bank bank end
-  order_stops bank end stops =
-      phase_stops (run_of p m k d said traced) told OrderPhase (λ c its. Holds ListFault (text_of c said.file) its)
-      bank bank one
-      (λ c is. record {
-        before = Program ∷ Types ∷ Machine ∷ Mapping ∷ Resolve ∷ Race ∷ Capacity ∷ [];
-        after = Input ∷ [];
-        split = refl;
-        passed = passed c (one c is);
-      })
-      (λ c is its holds. holds) refl (λ closed. refl) end stops
-
-  module _ (o : Chosen) (reads : ReadsOrder said told (Ok o)) where
-    order_passed : (c : Content) → told ≡ Some c → Passed (run_of p m k d said traced) c OrderPhase
-    order_passed c is = record { there = reads.there c is; no_fault = reads.no_fault c is }
-
-    pub eight : (c : Content) → told ≡ Some c → AllPassed (run_of p m k d said traced) c
-        (Program ∷ Types ∷ Machine ∷ Mapping ∷ Resolve ∷ Race ∷ Capacity ∷ OrderPhase ∷ [])
-    eight c is =
-        let b = passed c is in (
-          b.0,
-          (
-            b.1.0,
-            (
-              b.1.1.0,
-              (b.1.1.1.0, (b.1.1.1.1.0, (b.1.1.1.1.1.0, (b.1.1.1.1.1.1.0, (order_passed c is, tt))))),
-            ),
-          ),
-        )

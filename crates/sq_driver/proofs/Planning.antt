@@ -149,7 +149,7 @@ module _ (its : Command) (told : Option Content) (out : Option (List ℕ)) (faul
 -- ---- the command `plan`
 
 abbrev pub reads_plan : ReadsSources kind.Plan
-reads_plan = record { rest = Capacity ∷ []; split = refl; fixed = refl }
+reads_plan = record { rest = Capacity ∷ []; split = refl; fixed = refl; sourced = refl }
 
 abbrev pub plan_names : (p m k : List ℕ) → Names
 plan_names p m k = record { program = p; mapping = m; machine = k }

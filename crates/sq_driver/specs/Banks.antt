@@ -9,8 +9,10 @@ use Rattle.sq_ir.specs.Runs.{Trap as Ending}
 use Rattle.sq_ir.specs.Traffic.{no_counts, nothing_carried, deepest, more_by}
 use Rattle.sq_ir.specs.declared.plan.Plan.{Plan}
 use Rattle.sq_sched.specs.Rests.{Rest}
-use Rattle.sq_spec.specs.declared.resolved.Resolved.{Resolved}
-use Rattle.sq_tree.specs.Bank.{BankSeen, bytes_in}
+use Rattle.sq_planfile.specs.File.{PlanFile}
+use Rattle.sq_launch.specs.Arrays.{wants_of, root_text}
+use Rattle.sq_launch.specs.Starts.{IsStart, read_parts}
+use Rattle.sq_tree.specs.Bank.{BankSeen, bytes_at, bytes_in}
 use Rattle.sq_tree.specs.Runs.{HasRun, KeepsRoom}
 use Rattle.sq_tree.specs.Trace.{event_line, trace_text}
 use Rattle.sq_orders.specs.Chosen.{chosen_answer, chosen_next}
@@ -18,10 +20,8 @@ use Rattle.sq_words.specs.Words.{input, order, Command}
 use Rattle.sq_driver.specs.Phases.{opens, is_open_at, inputs_of, IsTold}
 use Rattle.sq_report.specs.declared.trap.Trap.{Trap as Shown}
 use Rattle.sq_driver.specs.Orders.{ListHolds, HeldBy}
-use Rattle.sq_compile.specs.Compiled.{IsPlanOf}
-use Rattle.sq_driver.specs.Capacity.{AreFormsOf}
-use Rattle.sq_driver.specs.Givens.{Extents, read_wants, Given}
-use Rattle.sq_driver.specs.Roots.{IsStart, read_parts, root_text}
+use Rattle.sq_driver.specs.Givens.{Given}
+use Rattle.sq_driver.specs.Works.{IsWorkOf}
 use Rattle.sq_driver.specs.Shown.{shown}
 use Rattle.sq_driver.specs.Meaning.{Answer, done, refused, trapped, usage, file_fault, no_memory, absent}
 
@@ -31,13 +31,11 @@ pub data Writing : Type 0 where
   cut_out : Writing
   cut_err : (got : List ℕ) → Writing
 
--- opened once in this call, with a plan that is good for these forms, which are those of the program that the files hold
-pub record IsOpenFor (command : Command) (told : Option Content) (forms : Resolved) (plan : Plan) (old now : BankSeen)
-    : Type 0 where
+-- opened once in this call, with the plan that the files say
+pub record IsOpenFor (command : Command) (told : Option Content) (file : PlanFile) (old now : BankSeen) : Type 0 where
   pub once : now.openings ≡ more_by old.openings 1
-  pub is : now.plan ≡ Some plan
-  pub its : IsPlanOf forms plan
-  pub of_files : (c : Content) → IsTold command told c → AreFormsOf (inputs_of c command) forms
+  pub is : now.plan ≡ Some file.plan
+  pub work : IsWorkOf command told file
 
 -- nothing was performed since, and each node has its capacity
 pub record IsUnperformed (plan : Plan) (seen : BankSeen) : Type 0 where
@@ -48,12 +46,10 @@ pub record IsUnperformed (plan : Plan) (seen : BankSeen) : Type 0 where
 -- opened, and nothing performed: what the data began to give may stand in the places of the arrays that are read, and
 -- zeros stand in all other bytes
 pub record IsUnrun (command : Command) (told : Option Content) (old now : BankSeen) : Type 0 where
-  pub forms : Resolved
-  pub entry : Extents forms
-  pub plan : Plan
-  pub opened : IsOpenFor command told forms plan old now
-  pub none : IsUnperformed plan now
-  pub zero : IsStart forms entry plan now.nodes
+  pub file : PlanFile
+  pub opened : IsOpenFor command told file old now
+  pub none : IsUnperformed file.plan now
+  pub zero : IsStart file.plan file.arrays now.nodes
 
 -- Opened, the data as read put into the plan's zeros, and from that start on events of the plan performed under the
 -- answers of the order that the words ask for, each inside its node, with room for the live buffers in each state. Where
@@ -61,22 +57,20 @@ pub record IsUnrun (command : Command) (told : Option Content) (old now : BankSe
 -- these events.
 pub record IsRun (command : Command) (told : Option Content) (Traced : Plan → List Event → Type 0)
     (Over : Rest Trap → Type 0) (old now : BankSeen) : Type 0 where
-  pub forms : Resolved
-  pub entry : Extents forms
-  pub plan : Plan
+  pub file : PlanFile
   pub start : BankSeen
-  pub opened : IsOpenFor command told forms plan old start
-  pub none : IsUnperformed plan start
-  pub zero : IsStart forms entry plan start.nodes
+  pub opened : IsOpenFor command told file old start
+  pub none : IsUnperformed file.plan start
+  pub zero : IsStart file.plan file.arrays start.nodes
   pub read : (c : Content) → IsTold command told c
-      → Given (read_wants forms entry) (inputs_of c command input) (read_parts forms entry plan start.nodes)
+      → Given (wants_of file.arrays) (inputs_of c command input) (read_parts file.plan file.arrays start.nodes)
   pub held : List ℕ
   pub order_is : HeldBy command.way (λ held. (c : Content) → IsTold command told c
       → ListHolds (inputs_of c command order) held) held
   pub left : Option (List ℕ)
   pub rest : Rest Trap
-  pub ran : HasRun chosen_answer chosen_next (Some held) left plan start now rest (Traced plan)
-  pub room : KeepsRoom plan (bytes_in start.nodes)
+  pub ran : HasRun chosen_answer chosen_next (Some held) left file.plan start now rest (Traced file.plan)
+  pub room : KeepsRoom file.plan (bytes_in start.nodes)
   pub over : Over rest
 
 -- what a command writes to `err` of the events that it performs: their lines, where a trace is wanted
@@ -98,7 +92,7 @@ IsWholeRun command told trace ended old now =
 pub record IsPrinted (command : Command) (told : Option Content) (out trace : List ℕ) (old now : BankSeen) : Type 0
   where
     pub run : IsWholeRun command told trace None old now
-    pub prints : out ≡ shown command.kind command.way (root_text run.forms run.entry run.plan now.nodes)
+    pub prints : out ≡ shown command.kind command.way (root_text run.file.plan run.file.arrays (bytes_at now.nodes 0))
 
 -- the lines of these events but the last one's, and a front of that
 pub record IsCutTrace (plan : Plan) (events : List Event) (got : List ℕ) : Type 0 where

@@ -1,4 +1,4 @@
--- What the phases of `tune`, `span` and `compile` behind the shared ones leave behind.
+-- What the phases of `tune`, `span`, `compile` and `exec` beside the shared ones leave behind.
 use Rattle.std.specs.Prelude.{◌≡◌, ℕ, List, false, Option, Some, None, Result, Ok, Err}
 use Rattle.sq_port.specs.Ports.{Content}
 use Rattle.sq_text.specs.declared.code.Phase.TheVariants as phase
@@ -19,6 +19,8 @@ use Rattle.sq_planfile.specs.File.{PlanFile}
 use Rattle.sq_planfile.specs.Limits.{TextFault}
 use Rattle.sq_planfile.specs.Written.{written}
 use Rattle.sq_text.specs.Faults.{IsFirst}
+use Rattle.sq_planfile.specs.Faults.{Means}
+use Rattle.sq_driver.specs.Executing.{IsFirstFileFault}
 use Rattle.sq_driver.specs.declared.outside.end.End.{End}
 use Rattle.sq_driver.specs.declared.outside.end.End.TheVariants.{Refused, NoMemory}
 use Rattle.sq_driver.specs.Holding.{Holds}
@@ -64,6 +66,10 @@ SpansTo plan costs out now_out faults now_faults (Err NoMemory) = (now_out ≡ o
 SpansTo plan costs out now_out faults now_faults result = WroteChain plan costs out now_out faults now_faults result
 
 -- ---- plan files
+
+-- the plan file that a text stands for, and else how the phase ends
+abbrev pub ReadsFile : Option Content → List ℕ → Result PlanFile End → Type 0
+ReadsFile = ReadsRight Means IsFirstFileFault phase.Plan
 
 -- the text was written, and the file isn't too large
 pub record WroteFile (file : PlanFile) (out now_out : Option (List ℕ)) (faults now_faults : ℕ)

@@ -5,9 +5,9 @@ use Rattle.sq_text.specs.declared.code.Phase.TheVariants.{Program, Types, Machin
 use Rattle.sq_text.specs.declared.fault.Fault.{Fault}
 use Rattle.sq_ast.specs.declared.program.Program.{Program as Tree}
 use Rattle.sq_words.specs.declared.words.Kind.{Kind}
-use Rattle.sq_words.specs.declared.words.Kind.TheVariants.{Compile}
+use Rattle.sq_words.specs.declared.words.Kind.TheVariants.{Compile, Exec}
 use Rattle.sq_words.specs.Words.{program}
-use Rattle.sq_driver.specs.Phases.{Inputs, varies}
+use Rattle.sq_driver.specs.Phases.{Inputs, is_filed, varies}
 use Rattle.sq_driver.specs.Holding.{Holds}
 use Rattle.sq_driver.specs.Programs.{IsProgramText, ProgramFault, IsFirstTypeFault}
 use Rattle.sq_driver.specs.Sources.{IsFirstOfMachine, IsFirstOfMapping}
@@ -16,6 +16,7 @@ use Rattle.sq_driver.specs.Capacity.{IsFirstOfCapacity}
 use Rattle.sq_driver.specs.Choosing.{IsFirstOfChoices}
 use Rattle.sq_driver.specs.Costing.{IsFirstOfCost}
 use Rattle.sq_driver.specs.Filing.{IsFirstOfText}
+use Rattle.sq_driver.specs.Executing.{IsFirstOfFile, IsFirstOfArrays}
 use Rattle.sq_driver.specs.Orders.{IsFirstOfOrder}
 use Rattle.sq_driver.specs.Entry.{IsFirstOfInput}
 
@@ -37,7 +38,13 @@ IsFirstOfMappings true inputs its = IsFirstOfChoices inputs its
 -- the plan file of a command has this fault before all others
 abbrev pub IsFirstOfPlan : Kind → Inputs → Fault → Type 0
 IsFirstOfPlan Compile inputs its = IsFirstOfText inputs its
+IsFirstOfPlan Exec inputs its = IsFirstOfFile inputs its
 IsFirstOfPlan kind inputs its = ⊥
+
+-- the data of a command has this fault before all others, where its arrays are those of a program or of a plan file
+abbrev pub IsFirstOfData : (filed : Bool) → Inputs → Fault → Type 0
+IsFirstOfData false inputs its = IsFirstOfInput inputs its
+IsFirstOfData true inputs its = IsFirstOfArrays inputs its
 
 -- the phase of a command has this fault before all others
 abbrev pub IsFirstOf : Kind → Phase → Inputs → Fault → Type 0
@@ -51,4 +58,4 @@ IsFirstOf kind Capacity inputs its = IsFirstOfCapacity inputs its
 IsFirstOf kind Plan inputs its = IsFirstOfPlan kind inputs its
 IsFirstOf kind Cost inputs its = IsFirstOfCost inputs its
 IsFirstOf kind Order inputs its = IsFirstOfOrder inputs its
-IsFirstOf kind Input inputs its = IsFirstOfInput inputs its
+IsFirstOf kind Input inputs its = IsFirstOfData (is_filed kind) inputs its

@@ -1,10 +1,12 @@
--- The extents of a program's entry, and the values that a data file gives for the arrays that are read.
-use Rattle.std.specs.Prelude.{◌≡◌, ℕ, List, Option, Some, Ok, ℤ}
-use Rattle.sq_arrays.specs.Arrays.{Wanted, arrays_of}
+-- The extents of a program's entry, and the values that a data file gives for the arrays that are read, or its fault.
+use Rattle.std.specs.Prelude.{◌≡◌, ℕ, List, Option, Some, Ok, Err, ℤ}
+use Rattle.sq_text.specs.declared.fault.Fault.{Fault}
+use Rattle.sq_arrays.specs.Arrays.{Wanted, DataFault, arrays_of}
 use Rattle.sq_arrays.specs.Targets.{cells_of}
 use Rattle.sq_ast.specs.Modes.{is_read}
 use Rattle.sq_forms.specs.Resolving.{entry_extents}
 use Rattle.sq_spec.specs.declared.resolved.Resolved.{Resolved}
+use Rattle.sq_driver.specs.Data.{data_fault}
 use Rattle.sq_driver.specs.Entry.{params_of, wants_of}
 
 -- the extents of its parameters
@@ -22,3 +24,11 @@ pub record Given (ws : List Wanted) (given : Option (List ℕ)) (arrays : List (
   pub values : List (List ℤ)
   pub read : arrays_of ws bytes ≡ Ok values
   pub are : arrays ≡ cells_of ws values
+
+-- the file's first fault
+pub record Unfit (ws : List Wanted) (given : Option (List ℕ)) (its : Fault) : Type 0 where
+  pub bytes : List ℕ
+  pub there : given ≡ Some bytes
+  pub found : DataFault
+  pub read : arrays_of ws bytes ≡ Err found
+  pub is : its ≡ data_fault found

@@ -8,11 +8,11 @@ pub mod DemoRuns
 pub mod Ends
 pub mod Entry
 pub mod Evaluating
+pub mod Executing
 pub mod Faults
 pub mod Filing
 pub mod Givens
 pub mod Holding
-pub mod Launching
 pub mod Meaning
 pub mod Ordering
 pub mod Orders
@@ -26,9 +26,11 @@ pub mod Races
 pub mod Reported
 pub mod Roots
 pub mod RunLaws
+pub mod Running
 pub mod SharedFiles
 pub mod Shown
 pub mod Sources
 pub mod Steps
 pub mod Texts
 pub mod Top
+pub mod Works

@@ -6,7 +6,7 @@ use Rattle.sq_text.specs.declared.fault.Fault.{Fault}
 use Rattle.sq_ast.specs.declared.program.Program.{Program as Tree}
 use Rattle.sq_ast.specs.Canonical.{canonical}
 use Rattle.sq_words.specs.declared.words.Kind.{Kind}
-use Rattle.sq_words.specs.declared.words.Kind.TheVariants.{Check, Fmt, Plan, Eval, Run, Demo, Compile, Tune, Span}
+use Rattle.sq_words.specs.declared.words.Kind.TheVariants.{Check, Fmt, Plan, Eval, Run, Demo, Compile, Tune, Span, Exec}
 use Rattle.sq_words.specs.Words.{program, Way, Command}
 use Rattle.sq_driver.specs.Phases.{phases, file_of, Inputs, inputs_of, IsTold}
 use Rattle.sq_driver.specs.Shown.{demo_text}
@@ -17,6 +17,7 @@ use Rattle.sq_driver.specs.Reported.{GivesReport}
 use Rattle.sq_driver.specs.Choosing.{GivesTable}
 use Rattle.sq_driver.specs.Costing.{GivesSpan}
 use Rattle.sq_driver.specs.Filing.{GivesFile}
+use Rattle.sq_driver.specs.Executing.{GivesRun, TrapsRun}
 use Rattle.sq_driver.specs.Faults.{IsFirstOf}
 use Rattle.sq_report.specs.declared.trap.Trap.{Trap}
 
@@ -59,12 +60,14 @@ Gives Demo way inputs out = GivesLine way inputs out
 Gives Compile way inputs out = GivesFile inputs out
 Gives Tune way inputs out = GivesTable inputs out
 Gives Span way inputs out = GivesSpan inputs out
+Gives Exec way inputs out = GivesRun inputs out
 
 -- the first trap of a command that is accepted
 abbrev pub Traps : Kind → Inputs → Trap → Type 0
 Traps Eval inputs trap = TrapsFlat inputs trap
 Traps Run inputs trap = TrapsFlat inputs trap
 Traps Demo inputs trap = TrapsFlat inputs trap
+Traps Exec inputs trap = TrapsRun inputs trap
 Traps kind inputs trap = ⊥
 
 -- nothing traps

@@ -4,8 +4,8 @@ use Rattle.sq_port.specs.Ports.{Content}
 use Rattle.sq_text.specs.declared.code.Phase.{Phase}
 use Rattle.sq_text.specs.declared.code.Phase.TheVariants.{Program, Types, Machine, Mapping, Resolve, Race, Capacity, Plan as PlanPhase, Cost, Order, Input}
 use Rattle.sq_words.specs.declared.words.Kind.{Kind}
-use Rattle.sq_words.specs.declared.words.Kind.TheVariants.{Check, Fmt, Plan, Eval, Run, Demo, Compile, Tune, Span}
-use Rattle.sq_words.specs.Words.{Role, program, mapping, machine, input, order, cost, Way, first, last, seed, list, Files, no_files, named, Command}
+use Rattle.sq_words.specs.declared.words.Kind.TheVariants.{Check, Fmt, Plan, Eval, Run, Demo, Compile, Tune, Span, Exec}
+use Rattle.sq_words.specs.Words.{Role, program, mapping, machine, input, order, cost, plan_file, Way, first, last, seed, list, Files, no_files, named, Command}
 use Rattle.sq_report.specs.Demo.{demo_program, demo_mapping, demo_machine}
 use Rattle.sq_demo.specs.Data.{demo_data}
 
@@ -20,27 +20,40 @@ phases Demo = Program ∷ Types ∷ Machine ∷ Mapping ∷ Resolve ∷ Race ∷
 phases Compile = Program ∷ Types ∷ Machine ∷ Mapping ∷ Resolve ∷ Race ∷ Capacity ∷ PlanPhase ∷ []
 phases Tune = Program ∷ Types ∷ Machine ∷ Mapping ∷ []
 phases Span = Program ∷ Types ∷ Machine ∷ Mapping ∷ Resolve ∷ Race ∷ Capacity ∷ Cost ∷ []
+phases Exec = PlanPhase ∷ Order ∷ Input ∷ []
+
+-- a command on a plan file reads it, others write one or none
+abbrev pub plan_role : Kind → Option Role
+plan_role Exec = Some plan_file
+plan_role kind = None
 
 -- what the file is for that is read when a phase begins, where the words name one
-abbrev pub role_of : Phase → Option Role
-role_of Program = Some program
-role_of Machine = Some machine
-role_of Mapping = Some mapping
-role_of Input = Some input
-role_of Order = Some order
-role_of Cost = Some cost
-role_of phase = None
+abbrev pub role_of : Kind → Phase → Option Role
+role_of kind Program = Some program
+role_of kind Machine = Some machine
+role_of kind Mapping = Some mapping
+role_of kind PlanPhase = plan_role kind
+role_of kind Cost = Some cost
+role_of kind Order = Some order
+role_of kind Input = Some input
+role_of kind phase = None
 
 -- whether a command opens the bank
 abbrev pub opens : Kind → Bool
 opens Run = true
 opens Demo = true
+opens Exec = true
 opens kind = false
 
 -- whether a command's mapping may have tunables of several alternatives
 abbrev pub varies : Kind → Bool
 varies Tune = true
 varies kind = false
+
+-- whether a command's plan and its arrays are those of a plan file, and not of a program
+abbrev pub is_filed : Kind → Bool
+is_filed Exec = true
+is_filed kind = false
 
 -- whether a phase comes behind the opening, where there is one
 abbrev pub is_late : Phase → Bool
@@ -56,7 +69,7 @@ file_for files (Some role) = named files role
 
 -- the file that is read when a phase begins
 abbrev pub file_of : Command → Phase → Option (List ℕ)
-file_of command phase = file_for command.files (role_of phase)
+file_of command phase = file_for command.files (role_of command.kind phase)
 
 -- what a command works on: what its files hold, and what it has by itself, each by what it is for
 abbrev pub Inputs : Type 0

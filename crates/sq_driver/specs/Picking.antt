@@ -5,14 +5,13 @@ use Rattle.sq_port.specs.Ports.{Content}
 use Rattle.sq_text.specs.declared.code.Phase.TheVariants.{Input}
 use Rattle.sq_text.specs.declared.fault.Fault.{Fault}
 use Rattle.sq_ast.specs.declared.program.Param.{Param}
-use Rattle.sq_arrays.specs.Arrays.{Wanted, DataFault, arrays_of}
+use Rattle.sq_arrays.specs.Arrays.{Wanted, arrays_of}
 use Rattle.sq_ast.specs.Modes.{is_read}
 use Rattle.sq_spec.specs.declared.resolved.Resolved.{Resolved}
 use Rattle.sq_flat.specs.Held.{Stored, Holds}
 use Rattle.sq_driver.specs.declared.outside.end.End.{End}
-use Rattle.sq_driver.specs.Data.{data_fault}
 use Rattle.sq_driver.specs.Entry.{params_of, start_of}
-use Rattle.sq_driver.specs.Givens.{Extents, read_wants, Given}
+use Rattle.sq_driver.specs.Givens.{Extents, read_wants, Given, Unfit}
 use Rattle.sq_driver.specs.Steps.{Stops}
 
 -- the array of a parameter, where it is read
@@ -57,14 +56,6 @@ keeps_on params mid_params now_params old mid now first second = record {
   others = subst (λ (ps : List Param). unpicked ps now.bytes ≡ unpicked ps mid.bytes) first.params_is second.others
       ∙ first.others;
 }
-
--- the file's first fault
-pub record Unfit (ws : List Wanted) (given : Option (List ℕ)) (its : Fault) : Type 0 where
-  pub bytes : List ℕ
-  pub there : given ≡ Some bytes
-  pub found : DataFault
-  pub read : arrays_of ws bytes ≡ Err found
-  pub is : its ≡ data_fault found
 
 -- the arrays that are read have the values of the data, and the others are as they were
 pub record IsFilled (params : List Param) (ws : List Wanted) (told : Option Content) (name : List ℕ)

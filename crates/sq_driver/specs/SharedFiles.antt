@@ -7,7 +7,7 @@ use Rattle.sq_tree.specs.Bank.{BankSeen}
 use Rattle.sq_words.specs.declared.words.Kind.{Kind}
 use Rattle.sq_words.specs.Words.{program, mapping, machine, with_file, Command}
 use Rattle.sq_driver.specs.declared.outside.end.End.{End}
-use Rattle.sq_driver.specs.Phases.{phases, varies}
+use Rattle.sq_driver.specs.Phases.{phases, is_filed, varies}
 use Rattle.sq_driver.specs.Steps.{Stopped}
 
 -- a kind of command that begins with the phases of a program and a machine, and reads a mapping then
@@ -20,6 +20,7 @@ pub record ReadsSources (kind : Kind) : Type 0 where
   pub rest : List Phase
   pub split : phases kind ≡ Program ∷ Types ∷ Machine ∷ Mapping ∷ Resolve ∷ Race ∷ rest
   pub fixed : varies kind ≡ false
+  pub sourced : is_filed kind ≡ false
 
 -- a command, over a program and a machine of these names
 abbrev pub front_with : Command → List ℕ → List ℕ → Command

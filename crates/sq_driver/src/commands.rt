@@ -4,6 +4,7 @@ pub mod check;
 pub mod compile;
 pub mod demo;
 pub mod eval;
+pub mod exec;
 pub mod fmt;
 pub mod plan;
 pub mod run;

@@ -3,11 +3,12 @@
 pub mod capacity;
 pub mod costs;
 pub mod entry;
-pub mod launch;
+pub mod filed;
 pub mod order;
 pub mod passes;
 pub mod planning;
+pub mod plans;
 pub mod race;
-pub mod root;
+pub mod running;
 pub mod sources;
 pub mod tree;

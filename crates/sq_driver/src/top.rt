@@ -177,6 +177,7 @@ fn dispatch<'a, F: Files, S: Sink, E: Sink, B: Bank>(
         Some(Command::Compile(compile)) => compile.perform(alloc, world),
         Some(Command::Tune(tune)) => tune.perform(alloc, world),
         Some(Command::Span(span)) => span.perform(alloc, world),
+        Some(Command::Exec(exec)) => exec.perform(alloc, world),
         None => Err(End::Usage),
     }
 }

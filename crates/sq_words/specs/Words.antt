@@ -7,9 +7,9 @@ use Rattle.std.specs.declared.alloc.Global.{Global}
 use Rattle.sq_words.specs.declared.options.Way.{Way as ReadWay}
 use Rattle.sq_words.specs.declared.options.Way.TheVariants.{First, Last, Seed, List as Listed}
 use Rattle.sq_words.specs.declared.words.Kind.{Kind}
-use Rattle.sq_words.specs.declared.words.Kind.TheVariants.{Check, Fmt, Plan, Eval, Run, Demo, Compile, Tune, Span}
+use Rattle.sq_words.specs.declared.words.Kind.TheVariants.{Check, Fmt, Plan, Eval, Run, Demo, Compile, Tune, Span, Exec}
 use Rattle.sq_words.specs.declared.words.Command.{Command as Read}
-use Rattle.sq_words.specs.declared.words.Command.TheVariants.{Check as ReadCheck, Fmt as ReadFmt, Plan as ReadPlan, Eval as ReadEval, Run as ReadRun, Demo as ReadDemo, Compile as ReadCompile, Tune as ReadTune, Span as ReadSpan}
+use Rattle.sq_words.specs.declared.words.Command.TheVariants.{Check as ReadCheck, Fmt as ReadFmt, Plan as ReadPlan, Eval as ReadEval, Run as ReadRun, Demo as ReadDemo, Compile as ReadCompile, Tune as ReadTune, Span as ReadSpan, Exec as ReadExec}
 
 -- ---- commands
 
@@ -21,6 +21,7 @@ pub data Role : Type 0 where
   input : Role
   order : Role
   cost : Role
+  plan_file : Role
 
 -- the names of files, each by what it is for
 pub record Files : Type 0 where
@@ -30,9 +31,10 @@ pub record Files : Type 0 where
   pub input : Option (List ℕ)
   pub order : Option (List ℕ)
   pub cost : Option (List ℕ)
+  pub plan_file : Option (List ℕ)
 
 abbrev pub no_files : Files
-no_files = record { program = None; mapping = None; machine = None; input = None; order = None; cost = None }
+no_files = record { program = None; mapping = None; machine = None; input = None; order = None; cost = None; plan_file = None }
 
 abbrev pub named : Files → Role → Option (List ℕ)
 named files program = files.program
@@ -41,6 +43,7 @@ named files machine = files.machine
 named files input = files.input
 named files order = files.order
 named files cost = files.cost
+named files plan_file = files.plan_file
 
 abbrev pub with_file : Role → List ℕ → Files → Files
 with_file program name files = record files { program = Some name }
@@ -49,6 +52,7 @@ with_file machine name files = record files { machine = Some name }
 with_file input name files = record files { input = Some name }
 with_file order name files = record files { order = Some name }
 with_file cost name files = record files { cost = Some name }
+with_file plan_file name files = record files { plan_file = Some name }
 
 -- which of its ready events a run performs next: by a seed, those that its generator draws; by a list, those that the
 -- numbers of a file say
@@ -59,7 +63,7 @@ pub data Way : Type 0 where
   list : Way
 
 -- a command, with the names of its files; of other kinds than runs and the demo the way is the first, and none is
--- traced but a run
+-- traced but a run of a program or of a plan file
 pub record Command : Type 0 where
   pub kind : Kind
   pub files : Files
@@ -167,7 +171,7 @@ options_of options (word ∷ words) = option_and_then (λ more. options_of more 
 
 -- the first word of a command
 abbrev pub kind_of : List ℕ → Option Kind
-kind_of word = if bytes_eq word (codes "check") then Some Check else (if bytes_eq word (codes "fmt") then Some Fmt else (if bytes_eq word (codes "plan") then Some Plan else (if bytes_eq word (codes "eval") then Some Eval else (if bytes_eq word (codes "run") then Some Run else (if bytes_eq word (codes "demo") then Some Demo else (if bytes_eq word (codes "compile") then Some Compile else (if bytes_eq word (codes "tune") then Some Tune else (if bytes_eq word (codes "span") then Some Span else None))))))))
+kind_of word = if bytes_eq word (codes "check") then Some Check else (if bytes_eq word (codes "fmt") then Some Fmt else (if bytes_eq word (codes "plan") then Some Plan else (if bytes_eq word (codes "eval") then Some Eval else (if bytes_eq word (codes "run") then Some Run else (if bytes_eq word (codes "demo") then Some Demo else (if bytes_eq word (codes "compile") then Some Compile else (if bytes_eq word (codes "tune") then Some Tune else (if bytes_eq word (codes "span") then Some Span else (if bytes_eq word (codes "exec") then Some Exec else None)))))))))
 
 -- its further words: what the files that they name are for
 abbrev pub roles : Kind → List Role
@@ -180,6 +184,7 @@ roles Demo = []
 roles Compile = program ∷ mapping ∷ machine ∷ []
 roles Tune = program ∷ mapping ∷ machine ∷ []
 roles Span = program ∷ mapping ∷ machine ∷ cost ∷ []
+roles Exec = plan_file ∷ input ∷ []
 
 -- a name for each of the roles, and none too many
 abbrev pub named_in_turn : List Role → List (List ℕ) → Files → Option Files
@@ -196,9 +201,11 @@ abbrev pub seed_for : List (List ℕ) → Option Options
 seed_for (word ∷ []) = seeded word
 seed_for words = None
 
--- what the words behind the names say: a run alone has options, and the demo has a number, the seed of its order
+-- what the words behind the names say: runs of programs and of plan files have options, and the demo has a number, the
+-- seed of its order
 abbrev pub options_for : Kind → List (List ℕ) → Option Options
 options_for Run words = options_of no_options words
+options_for Exec words = options_of no_options words
 options_for Demo words = seed_for words
 options_for kind [] = Some no_options
 options_for kind (word ∷ words) = None
@@ -264,6 +271,9 @@ eval_of name its_mapping its_machine its_input = command_with Eval (all_files na
 abbrev pub run_of : List ℕ → List ℕ → List ℕ → List ℕ → Order → Bool → Command
 run_of name its_mapping its_machine its_input said traced = command_with Run (all_files name its_mapping its_machine its_input) said traced
 
+abbrev pub exec_of : (its_plan its_input : List ℕ) → Order → Bool → Command
+exec_of its_plan its_input said traced = command_with Exec (with_file input its_input (with_file plan_file its_plan no_files)) said traced
+
 -- the demo of this number
 abbrev pub demo_of : ℕ → Command
 demo_of n = command_with Demo no_files (with_no_file (seed n)) false
@@ -286,3 +296,4 @@ meant (ReadDemo words) = demo_of words.seed
 meant (ReadCompile words) = compile_of words.program.now words.mapping.now words.machine.now
 meant (ReadTune words) = tune_of words.program.now words.mapping.now words.machine.now
 meant (ReadSpan words) = span_of words.program.now words.mapping.now words.machine.now words.cost.now
+meant (ReadExec words) = exec_of words.plan.now words.input.now (asked words.order) words.traced

@@ -6,4 +6,6 @@ mod seeds;
 mod words;
 
 pub use options::Way;
-pub use words::{Check, Command, Compile, Demo, Eval, Fmt, Kind, Plan, Run, Span, Tune, parse};
+pub use words::{
+    Check, Command, Compile, Demo, Eval, Exec, Fmt, Kind, Plan, Run, Span, Tune, parse,
+};

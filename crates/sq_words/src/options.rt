@@ -1,6 +1,6 @@
 //! The options of a run.
 ghost use Rattle.std.specs.Prelude.{◌≡◌};
-ghost use Rattle.std.specs.Option.{option_copied, option_map};
+ghost use Rattle.std.specs.Option.{option_copied, option_map, unwrap_or};
 ghost use Rattle.sq_words.specs.Words as spec;
 ghost use Rattle.sq_words.specs.Said.{said, set};
 
@@ -44,6 +44,18 @@ impl<'a> Options<'a> {
                 traced: Some(traced),
             }),
             _ => None,
+        }
+    }
+}
+
+impl<'a> Options<'a> {
+    // The order that they say, or the first.
+    pub(crate) fn order_or_first(self) -> Way<'a>
+        ensures { spec.asked result ≡ unwrap_or (said self.entry).order (spec.with_no_file spec.first) }
+    {
+        match self.order {
+            Some(way) => way,
+            None => Way::First,
         }
     }
 }

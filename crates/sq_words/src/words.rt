@@ -17,6 +17,7 @@ pub enum Kind {
     Compile,
     Tune,
     Span,
+    Exec,
 }
 
 /// `check PROG`
@@ -90,6 +91,15 @@ pub struct Span<'a> {
     pub cost: &'a str,
 }
 
+/// `exec PLAN DATA`, with options as those of `run`
+#[derive(Clone, Copy)]
+pub struct Exec<'a> {
+    pub plan: &'a str,
+    pub input: &'a str,
+    pub order: Way<'a>,
+    pub traced: bool,
+}
+
 /// A command with the names of its files.
 #[derive(Clone, Copy)]
 pub enum Command<'a> {
@@ -102,6 +112,7 @@ pub enum Command<'a> {
     Compile(Compile<'a>),
     Tune(Tune<'a>),
     Span(Span<'a>),
+    Exec(Exec<'a>),
 }
 
 /// The command that the words are, if they are one. It takes no memory.
@@ -140,6 +151,8 @@ fn kind_for(word: &str) -> Option<Kind>
         Some(Kind::Tune)
     } else if word == "span" {
         Some(Kind::Span)
+    } else if word == "exec" {
+        Some(Kind::Exec)
     } else {
         None
     }
@@ -175,7 +188,7 @@ fn with_words(kind: Kind, words: &[String]) -> Option<Command<'_>>
                 mapping: mapping.as_str(),
                 machine: machine.as_str(),
                 input: input.as_str(),
-                order: options.order.unwrap_or(Way::First),
+                order: options.order_or_first(),
                 traced: options.traced.unwrap_or(false),
             }))
         }
@@ -199,6 +212,15 @@ fn with_words(kind: Kind, words: &[String]) -> Option<Command<'_>>
             machine: machine.as_str(),
             cost: cost.as_str(),
         })),
+        (Kind::Exec, [plan, input, words @ ..]) => {
+            let options = options_of(words)?;
+            Some(Command::Exec(Exec {
+                plan: plan.as_str(),
+                input: input.as_str(),
+                order: options.order_or_first(),
+                traced: options.traced.unwrap_or(false),
+            }))
+        }
         _ => None,
     }
 }

@@ -1,28 +1,24 @@
 //! The command `compile`: the program's plan as a file.
-ghost use Rattle.std.specs.Prelude.{◌≡◌, ℕ, IfOk};
-ghost use Rattle.sq_compile.specs.Compiled.{IsPlanOf};
+ghost use Rattle.std.specs.Prelude.{ℕ};
 ghost use Rattle.sq_ir.specs.DraftLeaves.{leaves_of};
 ghost use Rattle.sq_ir.specs.Plans.{IsWellFormed};
 ghost use Rattle.sq_words.specs.Words.{compile_of};
 ghost use Rattle.sq_driver.specs.Chosen.{FilesTo};
 ghost use Rattle.sq_driver.specs.Ends.{ending, FileCauses};
-ghost use Rattle.sq_driver.specs.Filing.{AreArraysOf};
 
 use crate::outside::end::End;
 use crate::outside::world::{Perform, World};
-use crate::phases::entry::entry_dims;
+use crate::phases::filed::file_of;
 use crate::phases::planning::{Names, OnPlan, on_plan};
 use sq_compile::laws::plans_are_one;
 use sq_ir::Plan;
-use sq_meant::places_fit;
-use sq_planfile::{EntryArrays, PlanFile, entry_arrays, plan_text};
+use sq_planfile::{PlanFile, plan_text};
 use sq_port::{Failed, Files, Sink, put_all};
 use sq_spec::Resolved;
 use sq_text::Stop;
 use sq_tree::Bank;
 use sq_words::Compile;
-use std::alloc::{AllocError, Global};
-use std::rc::Rc;
+use std::alloc::Global;
 
 impl<'a> Perform<'a> for Compile<'a> {
     ghost command = { λ words. compile_of words.program.now words.mapping.now words.machine.now };
@@ -65,50 +61,11 @@ impl<'a> OnPlan<'a> for Compile<'a> {
         plan: Plan,
     ) -> Result<(), End<'a>> {
         plans_are_one();
-        let arrays = match arrays_of(alloc, resolved, &plan) {
-            Ok(arrays) => arrays,
-            Err(_) => return Err(End::NoMemory),
-        };
-        write_plan(alloc, out, plan, arrays)
+        match file_of(alloc, resolved, plan) {
+            Ok(file) => write_file(alloc, out, &file),
+            Err(_) => Err(End::NoMemory),
+        }
     }
-}
-
-// The arrays of the entry, in the buffers of the plan.
-fn arrays_of(alloc: Global, resolved: &Resolved<'_>, plan: &Plan) -> Result<EntryArrays, AllocError>
-    requires { IsPlanOf resolved.now plan.now }
-    ensures { IfOk result (λ arrays. AreArraysOf resolved.now plan.now arrays) }
-{
-    // Each of the arrays has a buffer.
-    places_fit();
-    let params = resolved.entry_params();
-    let dims = entry_dims(resolved);
-    let buffers = plan.draft.entry.as_slice();
-    entry_arrays(alloc, params, dims, buffers)
-}
-
-// Writes the file of a plan and its arrays.
-fn write_plan<'a, S: Sink>(
-    alloc: Global,
-    out: &mut S,
-    plan: Plan,
-    arrays: EntryArrays,
-) -> Result<(), End<'a>>
-    requires { IsWellFormed (leaves_of plan.draft) plan }
-    ensures files { FilesTo (record { plan = plan; arrays = arrays }) (S.written out.old) (S.written out.new)
-        (S.faults out.old) (S.faults out.new) result }
-    ensures cause { (f : ℕ) (m : ℕ) → FileCauses f f m m (ending result) }
-{
-    match filed(alloc, plan, arrays) {
-        Ok(file) => write_file(alloc, out, &file),
-        Err(_) => Err(End::NoMemory),
-    }
-}
-
-fn filed(alloc: Global, plan: Plan, arrays: EntryArrays) -> Result<PlanFile, AllocError>
-    ensures { IfOk result (λ file. file ≡ record { plan = plan; arrays = arrays }) }
-{
-    let plan = Rc::new(alloc, plan)?;
-    Ok(PlanFile::new(plan, arrays))
 }
 
 // Writes the text of the file, where it isn't too large.

@@ -1,6 +1,5 @@
 //! The command `run`: the program's plan, performed on the memories of the bank.
-ghost use Rattle.std.specs.Prelude.{◌≡◌, None, OnOk, OnErr};
-ghost use Rattle.sq_tree.specs.Bank.{IsOpened};
+ghost use Rattle.std.specs.Prelude.{◌≡◌, None};
 ghost use Rattle.sq_words.specs.Words.{asked, run_of};
 ghost use Rattle.sq_driver.specs.Ends.{ending, FileCauses};
 ghost use Rattle.sq_driver.specs.Outcome.{Ended};
@@ -9,31 +8,25 @@ ghost use Rattle.sq_compile.specs.Capacity.{NoneLacks};
 ghost use Rattle.sq_compile.specs.Compiled.{IsPlanOf};
 ghost use Rattle.sq_driver.specs.Evaluating.{HoldsSources};
 ghost use Rattle.sq_driver.specs.Races.{IsResolved};
-ghost use Rattle.sq_driver.specs.Launching.{IsLaunched, IsOrdered};
 ghost use Rattle.sq_driver.specs.RunLaws.{RunLaws};
 
 use crate::outside::end::End;
 use crate::outside::world::{Perform, World};
 use crate::phases::capacity::planned;
-use crate::phases::launch::{Launch, prepared};
-use crate::phases::order::chosen;
-use crate::phases::root::{fill_root, write_root};
+use crate::phases::filed::file_of;
+use crate::phases::running::{Asked, run_file};
 use crate::phases::sources::read_sources;
 use sq_arrays::laws::values_are_those_of_their_array;
 use sq_compile::laws::lacks_are_one;
 use sq_ir::Plan;
 use sq_meant::{inputs_are_held, places_fit, runs_end_as_meant};
-use sq_orders::Chosen;
 use sq_port::{Files, Sink};
-use sq_report::trap_at;
-use sq_root::laws::{banks_stay_open, clear_parts_stay, picked_places_fit};
+use sq_root::laws::picked_places_fit;
 use sq_spec::Resolved;
 use sq_spec::laws::entry_is_first;
-use sq_tree::laws::opened_banks_are_prepared;
-use sq_tree::{Bank, RunEnd, run};
+use sq_tree::Bank;
 use sq_words::Run;
 use std::alloc::{AllocError, Global};
-use std::rc::Rc;
 
 impl<'a> Perform<'a> for Run<'a> {
     ghost command = { λ words. run_of words.program.now words.mapping.now words.machine.now words.input.now
@@ -109,7 +102,7 @@ fn run_resolved<'a, F: Files, S: Sink, E: Sink, B: Bank>(
     }
 }
 
-// Reads the order, and goes on with it.
+// Runs the plan on the arrays of the program's entry.
 fn run_planned<'a, F: Files, S: Sink, E: Sink, B: Bank>(
     alloc: Global,
     words: &Run<'a>,
@@ -151,167 +144,29 @@ fn run_planned<'a, F: Files, S: Sink, E: Sink, B: Bank>(
     ensures cause { FileCauses (F.faults world.old.files.now) (F.faults world.new.files.now)
         (F.misses world.old.files.now) (F.misses world.new.files.now) (ending result) }
 {
-    // Which node lacks depends on what the files hold alone.
-    lacks_are_one();
-    match chosen(alloc, world.files, words.order) {
-        Ok(order) => run_ordered(alloc, words, world, resolved, plan, order),
-        Err(end) => {
-            drop(plan);
-            Err(end)
-        }
-    }
+    run_laws();
+    let file = match file_of(alloc, resolved, plan) {
+        Ok(file) => file,
+        Err(AllocError) => return Err(End::NoMemory),
+    };
+    let asked = Asked {
+        input: words.input,
+        order: words.order,
+        traced: words.traced,
+    };
+    run_file(alloc, asked, world, &file)
 }
 
-// Takes all memory that the run needs, and goes on with that.
-fn run_ordered<'a, F: Files, S: Sink, E: Sink, B: Bank>(
-    alloc: Global,
-    words: &Run<'a>,
-    world: &mut World<'_, '_, '_, '_, F, S, E, B>,
-    resolved: &Resolved<'_>,
-    plan: Plan,
-    order: Chosen,
-) -> Result<(), End<'a>>
-    requires ordered { IsOrdered words.now.program.now words.now.mapping.now words.now.machine.now words.now.input.now
-        (asked words.now.order) words.now.traced (F.content world.old.files.now) resolved.now plan order }
-    ensures lent { (world.new.files.ghost_name ≡ world.old.files.ghost_name)
-        × (world.new.out.ghost_name ≡ world.old.out.ghost_name)
-        × (world.new.err.ghost_name ≡ world.old.err.ghost_name)
-        × (world.new.bank.ghost_name ≡ world.old.bank.ghost_name) }
-    ensures content { F.content world.new.files.now ≡ F.content world.old.files.now }
-    ensures ended { Ended
-        (run_of words.now.program.now words.now.mapping.now words.now.machine.now words.now.input.now
-        (asked words.now.order) words.now.traced)
-        (record {
-          told = F.content world.old.files.now;
-          out = S.written world.old.out.now;
-          out_faults = S.faults world.old.out.now;
-          err = E.written world.old.err.now;
-          err_faults = E.faults world.old.err.now;
-          bank = B.seen world.old.bank.now;
-        })
-        (record {
-          told = F.content world.new.files.now;
-          out = S.written world.new.out.now;
-          out_faults = S.faults world.new.out.now;
-          err = E.written world.new.err.now;
-          err_faults = E.faults world.new.err.now;
-          bank = B.seen world.new.bank.now;
-        })
-        result }
-    ensures cause { FileCauses (F.faults world.old.files.now) (F.faults world.new.files.now)
-        (F.misses world.old.files.now) (F.misses world.new.files.now) (ending result) }
-{
-    match prepared(alloc, resolved, plan) {
-        Ok(launch) => run_launched(alloc, words, world, resolved, launch, order),
-        Err(AllocError) => Err(End::NoMemory),
-    }
-}
-
-// What is known of data, of places, of banks and of plans.
+// What is known of data, of places, of the plan's runs, and of lacks.
 fn run_laws()
     ensures { RunLaws }
 {
+    entry_is_first();
     values_are_those_of_their_array();
-    clear_parts_stay();
     picked_places_fit();
-    opened_banks_are_prepared();
-    banks_stay_open();
     places_fit();
     inputs_are_held();
     runs_end_as_meant();
-}
-
-// Opens the bank with the plan, where there is memory for it.
-fn open_bank<B: Bank>(alloc: Global, bank: &mut B, plan: &Rc<Plan>) -> Result<(), AllocError>
-    ensures opened { OnOk result (IsOpened plan.now.value (B.seen bank.old) (B.seen bank.new)) }
-    ensures kept { OnErr result (B.seen bank.new ≡ B.seen bank.old) }
-{
-    let held = match plan.clone() {
-        Ok(held) => held,
-        Err(error) => return Err(error),
-    };
-    match bank.prepare(alloc, held) {
-        Ok(()) => Ok(()),
-        Err(_) => Err(AllocError),
-    }
-}
-
-// Opens the bank, reads the data into its root, runs the plan, and writes the arrays that it leaves there.
-fn run_launched<'a, F: Files, S: Sink, E: Sink, B: Bank>(
-    alloc: Global,
-    words: &Run<'a>,
-    world: &mut World<'_, '_, '_, '_, F, S, E, B>,
-    resolved: &Resolved<'_>,
-    launch: Launch<'_>,
-    order: Chosen,
-) -> Result<(), End<'a>>
-    requires launched { IsLaunched words.now.program.now words.now.mapping.now words.now.machine.now
-        words.now.input.now (asked words.now.order) words.now.traced (F.content world.old.files.now) resolved.now
-        launch order }
-    ensures lent { (world.new.files.ghost_name ≡ world.old.files.ghost_name)
-        × (world.new.out.ghost_name ≡ world.old.out.ghost_name)
-        × (world.new.err.ghost_name ≡ world.old.err.ghost_name)
-        × (world.new.bank.ghost_name ≡ world.old.bank.ghost_name) }
-    ensures content { F.content world.new.files.now ≡ F.content world.old.files.now }
-    ensures ended { Ended
-        (run_of words.now.program.now words.now.mapping.now words.now.machine.now words.now.input.now
-        (asked words.now.order) words.now.traced)
-        (record {
-          told = F.content world.old.files.now;
-          out = S.written world.old.out.now;
-          out_faults = S.faults world.old.out.now;
-          err = E.written world.old.err.now;
-          err_faults = E.faults world.old.err.now;
-          bank = B.seen world.old.bank.now;
-        })
-        (record {
-          told = F.content world.new.files.now;
-          out = S.written world.new.out.now;
-          out_faults = S.faults world.new.out.now;
-          err = E.written world.new.err.now;
-          err_faults = E.faults world.new.err.now;
-          bank = B.seen world.new.bank.now;
-        })
-        result }
-    ensures cause { FileCauses (F.faults world.old.files.now) (F.faults world.new.files.now)
-        (F.misses world.old.files.now) (F.misses world.new.files.now) (ending result) }
-{
-    run_laws();
-    entry_is_first();
-    let Launch {
-        plan,
-        mut control,
-        wants,
-        places,
-        read,
-        faults,
-    } = launch;
-    let mut order = order;
-    match open_bank(alloc, world.bank, &plan) {
-        Ok(()) => {}
-        Err(AllocError) => return Err(End::NoMemory),
-    }
-    match fill_root(
-        alloc,
-        world.files,
-        words.input,
-        world.bank,
-        wants.as_slice(),
-        read.as_slice(),
-        faults,
-    ) {
-        Ok(()) => {}
-        Err(end) => return Err(end),
-    }
-    match run(
-        world.bank,
-        &mut control,
-        &mut order,
-        words.traced,
-        world.err,
-    ) {
-        Ok(()) => write_root(world.out, resolved, world.bank, places.as_slice()),
-        Err(RunEnd::Trapped { trap, path }) => Err(End::Trapped(trap_at(trap, path))),
-        Err(RunEnd::SinkFault) => Err(End::SinkFault),
-    }
+    // Which node lacks depends on what the files hold alone.
+    lacks_are_one();
 }

@@ -65,7 +65,7 @@ fn put_usage_line<E: Sink>(err: &mut E) -> Result<(), Failed>
     put_next(
         err,
         Ok(()),
-        b"usage: sq check PROG | fmt PROG | plan PROG MAP MACH | eval PROG MAP MACH DATA | run PROG MAP MACH DATA [order=first|last|seed:N|list:FILE] [trace=yes|no] | demo N | compile PROG MAP MACH | tune PROG MAP MACH | span PROG MAP MACH COST\n",
+        b"usage: sq check PROG | fmt PROG | plan PROG MAP MACH | eval PROG MAP MACH DATA | run PROG MAP MACH DATA [order=first|last|seed:N|list:FILE] [trace=yes|no] | demo N | compile PROG MAP MACH | exec PLAN DATA [order=first|last|seed:N|list:FILE] [trace=yes|no] | tune PROG MAP MACH | span PROG MAP MACH COST\n",
     )
 }
 

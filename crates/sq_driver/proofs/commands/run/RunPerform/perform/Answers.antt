@@ -10,7 +10,7 @@ returns-in-Err-clause-ended g c = stop_ends
     (run_of c.args.self.now.program.now c.args.self.now.mapping.now c.args.self.now.machine.now
     c.args.self.now.input.now (asked c.args.self.now.order) c.args.self.now.traced) _ _ c.in-Err.end
     (sources_stop c.args.self.now.program.now c.args.self.now.mapping.now c.args.self.now.machine.now
-    c.args.self.now.input.now c.args.self.now.order c.args.self.now.traced
+    c.args.self.now.input.now (asked c.args.self.now.order) c.args.self.now.traced
     (g.F.Files.content c.args.world.now.files.now) c.in-Err.end c.in-Err.ensures.stopped _)
     (record { out = refl; out_faults = refl; err = refl; err_faults = refl })
 
@@ -19,7 +19,7 @@ returns-in-Err-resolved-clause-ended g c = stop_ends
     (run_of c.args.self.now.program.now c.args.self.now.mapping.now c.args.self.now.machine.now
     c.args.self.now.input.now (asked c.args.self.now.order) c.args.self.now.traced) _ _ c.in-Err-resolved.end
     (sources_stop c.args.self.now.program.now c.args.self.now.mapping.now c.args.self.now.machine.now
-    c.args.self.now.input.now c.args.self.now.order c.args.self.now.traced
+    c.args.self.now.input.now (asked c.args.self.now.order) c.args.self.now.traced
     (g.F.Files.content c.args.world.now.files.now) c.in-Err-resolved.end
     (c.in-Err-resolved.ensures.stopped _ c.args.self.now.program.now c.args.self.now.mapping.now
     c.args.self.now.machine.now c.in-Ok.ensures.held) _)

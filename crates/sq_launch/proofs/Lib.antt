@@ -1,0 +1,4 @@
+pub mod Placing
+mod Rooms
+mod Starts
+mod Texting

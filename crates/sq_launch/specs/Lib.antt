@@ -1,0 +1,3 @@
+pub mod Arrays
+pub mod Launching
+pub mod Starts
