@@ -160,6 +160,7 @@ FILES = {
     "eval": ["program", "mapping", "machine", "data"],
     "run": ["program", "mapping", "machine", "data"],
     "compile": ["program", "mapping", "machine"],
+    "exec": ["plan", "data"],
     "tune": ["program", "mapping", "machine"],
     "span": ["program", "mapping", "machine", "cost"],
 }

@@ -1,5 +1,7 @@
-"""Programs, mappings, machines and data that the tables of this folder share."""
+"""Programs, mappings, machines, plan files and data that the tables of this folder share."""
+import os
 
+TOP = os.path.dirname(os.path.dirname(os.path.realpath(__file__)))
 MOST_NUMBER = 2**63 - 1
 
 TWICE_LEAF = """void task twice::leaf(in int A[N], out int B[N]) {
@@ -122,6 +124,25 @@ def chain_files(length, program, data, sizes, level=lambda k: "m0", capacities=(
         "machine": machine(*capacities),
         "data": data,
     }
+
+
+# ---- plan files
+
+
+def plan_file(nodes, buffers, term, leaves=(), arrays=()):
+    """A plan file of its lines, without their first words and their ends; a leaf is what stands behind the word."""
+    lines = ["plan 1;\n"]
+    for word, those in (("node", nodes), ("buffer", buffers)):
+        lines += [f"{word} {it};\n" for it in those]
+    lines += [f"leaf {it}" for it in leaves]
+    lines += [f"array {it};\n" for it in arrays]
+    return "".join([*lines, term])
+
+
+def twice_plan():
+    """Doubling ten numbers by blocks of four, on a memory of 80 bytes with two of 32 bytes below it."""
+    with open(os.path.join(TOP, "examples/blocks/by-hand.plan")) as file:
+        return file.read()
 
 
 # ---- texts in one another

@@ -18,18 +18,19 @@ _sq() {
   local word=${COMP_WORDS[COMP_CWORD]} command=${COMP_WORDS[1]} ending
   COMPREPLY=()
   if [ "$COMP_CWORD" -eq 1 ]; then
-    mapfile -t COMPREPLY < <(compgen -W "check fmt plan eval run demo compile tune span build help version" -- "$word")
+    mapfile -t COMPREPLY < <(compgen -W "check fmt plan eval run demo compile exec tune span build help version" -- "$word")
     return
   fi
   case $command:$COMP_CWORD in
-    help:2) mapfile -t COMPREPLY < <(compgen -W "check fmt plan eval run demo compile tune span build" -- "$word") && return ;;
+    help:2) mapfile -t COMPREPLY < <(compgen -W "check fmt plan eval run demo compile exec tune span build" -- "$word") && return ;;
     check:2 | fmt:2 | plan:2 | eval:2 | run:2 | compile:2 | tune:2 | span:2) ending=sq ;;
     plan:3 | eval:3 | run:3 | compile:3 | span:3) ending=map ;;
     tune:3) ending=choices ;;
     plan:4 | eval:4 | run:4 | compile:4 | tune:4 | span:4) ending=mach ;;
-    eval:5 | run:5) ending=txt ;;
+    exec:2) ending=plan ;;
+    eval:5 | run:5 | exec:3) ending=txt ;;
     span:5) ending=cost ;;
-    run:*)
+    run:* | exec:*)
       _sq_options
       return
       ;;

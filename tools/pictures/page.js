@@ -47,11 +47,12 @@ function drawTree() {
   }
 }
 
-// The variants of the program whose leaf calls the chosen events are.
+// The variants of the program whose leaf calls the chosen events are, and of a plan file the lines of the events.
 function drawProgram() {
   for (const line of document.querySelectorAll(".source li.lit")) line.classList.remove("lit");
-  for (const run of runs) {
+  for (const [n, run] of runs.entries()) {
     const k = Math.min(chosen, run.events.count - 1);
+    document.querySelector(`#program #line-${data.runs[n].rows?.[k]}`)?.classList.add("lit");
     const variant = k >= 0 && run.events.kind[k] === LEAF && data.instances[run.events.word.get(k)];
     for (let line = variant ? variant[1] : 1; variant && line <= variant[2]; line++) {
       document.querySelector(`#program #line-${line}`)?.classList.add("lit");

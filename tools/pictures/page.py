@@ -37,6 +37,7 @@ class Picture:
     machine: Machine
     runs: List[Run]
     refused: Optional[str]
+    filed: Any = None  # a plan file in place of program, mapping and machine
 
 
 def part(name):
@@ -88,8 +89,7 @@ def tree_box(cell, middle, level, picture):
 
 
 def node_name(picture, node):
-    level = picture.report.levels[node.level]
-    return node.name or (level.name if level.nodes == 1 else f"{level.name} {node.index}")
+    return node.name or picture.report.levels[node.level].node_name(node.index)
 
 
 def level_text(told, top):
@@ -234,22 +234,22 @@ def place_in(line):
     return ("trap", (int(match.group(1)), int(match.group(2)))) if match else ("", None)
 
 
-def stopped(line, names):
-    told = say(line, ["run", *names])
+def stopped(line, names, command="run"):
+    told = say(line, [command, *names])
     return f'<section class="stopped" id="stopped"><h2><code>{escape(line)}</code></h2><pre>{escape(told)}</pre></section>'
 
 
-PHASE_FILES = {"program": 0, "types": 0, "resolve": 0, "race": 0, "mapping": 1, "machine": 2}
+PHASE_FILES = {"program": 0, "types": 0, "resolve": 0, "race": 0, "mapping": 1, "machine": 2, "plan": 0}
 
 
-def refusal(names, files, line, lacks="plan"):
-    """The page of a program that has no plan, or no table of choices."""
+def refusal(names, files, line, lacks="plan", command="run"):
+    """The page of a program that has no plan, or no table of choices, or of a plan file that has no run."""
     phase, place = place_in(line)
     number = PHASE_FILES.get(phase)
     source = ""
     if number is not None and place:
         source = f"<section><h2>{escape(names[number])}</h2>{source_lines(files[number], None, place)}</section>"
-    body = f"<header><h1>{escape(names[0])}</h1><p>has no {lacks}: it is refused.</p></header>{stopped(line, names)}{source}"
+    body = f"<header><h1>{escape(names[0])}</h1><p>has no {lacks}: it is refused.</p></header>{stopped(line, names, command)}{source}"
     return fill_in(f"{names[0]}: {line}", body, "null", "")
 
 
@@ -279,6 +279,8 @@ def stay_columns(run, blocks, numbers):
 
 def entry_shapes(picture):
     """The element's bytes and the extents of each of the entry's arrays, which come first in the report."""
+    if picture.filed:
+        return picture.filed.shapes()
     entry = picture.mapping.instances.get(picture.mapping.entry)
     variant = picture.program.get((entry.task, entry.variant)) if entry else None
     shapes = []
@@ -289,6 +291,8 @@ def entry_shapes(picture):
 
 
 def mode_of(picture, place):
+    if picture.filed:
+        return picture.filed.mode(place)
     instance = picture.mapping.instances.get(place.instance)
     variant = picture.program.get((instance.task, instance.variant)) if instance else None
     array = variant.array(place.array) if variant else None
@@ -307,10 +311,11 @@ def data(picture):
             "stays": stay_columns(run, blocks, numbers),
             "trap": run.trace.trap,
             "trapped": run.trapped,
+            **({"rows": [event.place[0] for event in run.tracker.events]} if picture.filed else {}),
         }
         for run in picture.runs
     ]
-    lines = {}
+    lines = picture.filed.tasks() if picture.filed else {}
     for instance in picture.mapping.instances.values():
         variant = picture.program.get((instance.task, instance.variant))
         if variant:
@@ -405,30 +410,40 @@ uses in place, in a buffer of its caller at the same memory, appear in no line o
 """
 
 
+def sources(picture):
+    if picture.filed:
+        return f"Plan file {picture.names[0]}"
+    return f"Program {picture.names[0]}, mapping {picture.names[1]}, machine {picture.names[2]}"
+
+
 def page(picture):
-    title = f"{picture.names[0]} on {picture.names[2]}"
+    owner = "scope" if picture.filed else "call"
+    title = picture.names[0] if picture.filed else f"{picture.names[0]} on {picture.names[2]}"
+    command = "exec" if picture.filed else "run"
     stopped_line = picture.refused or next((run.trace.trap for run in picture.runs if run.trace.trap), None)
     mark = place_in(stopped_line)[1] if stopped_line and place_in(stopped_line)[0] == "trap" else None
     body = [
         f"<header><h1>{escape(title)}</h1>",
-        f"<p>Program {escape(picture.names[0])}, mapping {escape(picture.names[1])}, machine {escape(picture.names[2])}. ",
+        f"<p>{escape(sources(picture))}. ",
         "Below: the memories of the machine, what the plan needs of them and where its buffers lie",
         ", and what happens when, event by event.</p></header>" if picture.runs else ".</p></header>",
-        stopped(stopped_line, picture.names) if stopped_line else "",
+        stopped(stopped_line, picture.names, command) if stopped_line else "",
         '<section id="memories"><h2>The memories</h2>',
         "<p>Each box is one memory: the bytes that it needs, of the bytes that it has.</p>",
         tree(picture),
         '</section><div class="two"><div><section id="plan"><h2>Where buffers lie</h2>',
-        "<p>Each bar is the bytes of one memory, from byte 0 to its capacity. A row has the buffers of one call; those of",
-        " calls at different times may lie over one another.",
+        f"<p>Each bar is the bytes of one memory, from byte 0 to its capacity. A row has the buffers of one {owner}; those of",
+        f" {owner}s at different times may lie over one another.",
         " A memory has the rows that fit into it.</p>" if picture.machine.version == 2 else "</p>",
         plan_bars(picture),
         f'</section><section id="traffic"><h2>What the edges carry</h2>{traffic_table(picture)}</section></div>',
-        f'<section id="program"><h2>The program</h2>{program_lines(picture, mark)}</section></div>',
+        f'<section id="program"><h2>The {"plan file" if picture.filed else "program"}</h2>',
+        f"{program_lines(picture, mark)}</section></div>",
         controls(picture) + runs(picture) + results(picture) + LEGEND if picture.runs else "",
-        f"<details><summary>The mapping</summary><pre>{escape(picture.files[1])}</pre></details>",
-        f"<details><summary>The machine</summary><pre>{escape(picture.files[2])}</pre></details>",
     ]
+    if not picture.filed:
+        body.append(f"<details><summary>The mapping</summary><pre>{escape(picture.files[1])}</pre></details>")
+        body.append(f"<details><summary>The machine</summary><pre>{escape(picture.files[2])}</pre></details>")
     if not picture.runs:
         return fill_in(title, "".join(body), "null", "")
     return fill_in(title, "".join(body), data(picture), "".join(map(part, SCRIPTS)))

@@ -99,6 +99,8 @@ class Layout:
 def layouts_of(report, mapping):
     """The layouts of each level. Where calls of one instance follow one another in the report, the next one begins
     where a buffer doesn't stand behind the one before it, or has a name again that no second set explains."""
+    if report.layouts is not None:
+        return report.layouts
     doubled = {callee for note in report.notes if note.param is None and note.instance in mapping.instances
                for callee in mapping.instances[note.instance].calls.values()}
     found, last = [[] for _ in report.levels], None

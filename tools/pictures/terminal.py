@@ -119,7 +119,7 @@ def level_bars(report, machine, layouts, level):
 
 def node_name(report, machine, node):
     memory, level = machine.nodes[node[0]][node[1]], report.levels[node[0]]
-    return memory.name or (level.name if level.nodes == 1 else f"{level.name} {node[1]}")
+    return memory.name or level.node_name(node[1])
 
 
 def event_bars(report, machine, tracker, number):

@@ -28,6 +28,9 @@ class Level:
     used: int
     own: List[tuple] = field(default_factory=list)  # (name, capacity, need) of each named node
 
+    def node_name(self, index):
+        return self.name if self.nodes == 1 else f"{self.name} {index}"
+
 
 @dataclass
 class Buffer:
@@ -67,6 +70,7 @@ class Report:
     notes: List[Note] = field(default_factory=list)
     edges: List[Edge] = field(default_factory=list)
     leaves: int = 0
+    layouts: Optional[list] = None  # by level, of a plan file, which names the buffers that stand together
 
     def loops(self):
         """The notes, each once: a report has a line for each form of the calling instance."""
