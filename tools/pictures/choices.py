@@ -6,6 +6,7 @@ from texts import TOKENS
 COLUMNS = 100
 LEAST_BAR = 12  # columns
 SIGNS = "#=+:%o*"  # of the edges, from the root down, in a bar
+SHADES = ".:-=+*%@"  # from the least traffic to the greatest
 MOST_PLANS = 64  # accepted choices up to which each one's plan is asked for the bytes of its edges
 
 
@@ -102,12 +103,45 @@ def bar(choice, greatest, room):
     return line
 
 
+def shade(table, choice, least, greatest):
+    """The sign of a choice in the grid."""
+    if choice.refused is not None:
+        return "x"
+    if choice is table.best:
+        return "B"
+    return SHADES[(choice.traffic - least) * (len(SHADES) - 1) // (greatest - least) if greatest > least else 0]
+
+
+def grid_lines(table):
+    """Where there are two tunables, a sign for each pair of their values, as far as a terminal is wide enough."""
+    axes = grid(table)
+    if not axes:
+        return []
+    width, carried = len(axes[1]), [choice.traffic for choice in table.accepted()] or [0]
+    ends = min(carried), max(carried)
+    signs = [shade(table, choice, *ends) for choice in table.choices]
+    signs = [signs[at : at + width] for at in range(0, len(signs), width)]
+    (down, right), (first, second) = axes, table.tunables
+    if width > len(down):
+        down, right, first, second, signs = right, down, second, first, list(zip(*signs))
+    room = max(min(max(map(len, down)), 20), 5)
+    if len(right) > COLUMNS - room - 2:
+        return []
+    gap = " " if 2 * len(right) <= COLUMNS - room - 2 else ""
+    told = (
+        f"Value by value: {first} downwards, {second} to the right, from {right[0]} to {right[-1]}. The signs are "
+        f"{' '.join(SHADES)} from the fewest bytes to the most, B for the best, x for refused ones."
+    )
+    rows = [f"{cut(value, room):>{room}}  {gap.join(line)}" for value, line in zip(down, signs)]
+    return textwrap.wrap(told, COLUMNS) + [""] + rows + [""]
+
+
 def picture(table):
     most = max((choice.traffic for choice in table.accepted()), default=0)
     digits = max(len(f"{most:,}"), len("bytes"))
     columns, heads = layout(table, COLUMNS - LEAST_BAR - digits - 13)
     front = 11 + sum(columns) + 1
-    lines = textwrap.wrap(told(table), COLUMNS) + [""]
+    lines = textwrap.wrap(told(table), COLUMNS) + [""] + grid_lines(table)
     if heads != table.tunables:
         for head, tunable in zip(heads, table.tunables):
             lines += textwrap.wrap(f"{head}: {tunable}", COLUMNS)

@@ -239,7 +239,7 @@ def stopped(line, names, command="run"):
     return f'<section class="stopped" id="stopped"><h2><code>{escape(line)}</code></h2><pre>{escape(told)}</pre></section>'
 
 
-PHASE_FILES = {"program": 0, "types": 0, "resolve": 0, "race": 0, "mapping": 1, "machine": 2, "plan": 0}
+PHASE_FILES = {"program": 0, "types": 0, "resolve": 0, "race": 0, "mapping": 1, "machine": 2, "plan": 0, "cost": 3}
 
 
 def refusal(names, files, line, lacks="plan", command="run"):

@@ -94,6 +94,49 @@ def large_trace(blocks, size, last):
     return "\n".join(lines) + "\n"
 
 
+PLAN = """plan 1;
+node 0 {room} 1 {cores};
+{nodes}buffer 0 0 {size} top A;
+buffer 0 {size} {size} top B;
+buffer 1 0 16 low A;
+buffer 1 16 16 low B;
+leaf low (N = 4)
+void task twice::leaf(in int A[N], out int B[N]) {{
+  for (int i = 0; i < N; i++) {{
+    B[i] = A[i] + A[i];
+  }}
+}}
+array in int A [{elements}] 0;
+array out int B [{elements}] 1;
+seq {{
+fill 1+0 int {elements} 0;
+par {{
+{parts}}}
+}}
+"""
+BLOCK = """at {node} [2, 3] {{
+seq {{
+par {{
+copy 0+{at} 2+0 16;
+fill 3+0 int 4 0;
+}}
+run 0 (2+0 int [4] [1], 3+0 int [4] [1]) [{block}];
+copy 3+0 1+{at} 16;
+}}
+}}
+"""
+
+
+def long_plan(blocks=16383, cores=64):
+    """A plan file of 65,533 events: doubling blocks of 4 elements, on each core one after another."""
+    parts = ""
+    for core in range(cores):
+        own = range(core, blocks, cores)
+        parts += "seq {\n" + "".join(BLOCK.format(node=core + 1, at=16 * n, block=n) for n in own) + "}\n"
+    size = {"room": 32 * blocks, "size": 16 * blocks, "elements": 4 * blocks}
+    return PLAN.format(cores=cores, nodes="node 1 32 0 0;\n" * cores, parts=parts, **size)
+
+
 def table(down, right):
     """A table of choices for each pair of numbers up to these two, of which some are refused."""
     lines, carried = [], {}

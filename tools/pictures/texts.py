@@ -395,6 +395,38 @@ def read_machine(text):
     return machine
 
 
+# ---- cost files
+
+
+@dataclass
+class Cost:
+    """What a row, each byte of it and a leaf call weigh at a level."""
+
+    level: str
+    row: int
+    byte: int
+    leaf: int
+
+
+def read_costs(text):
+    """An entry for each level, from the root down."""
+    reader, costs = Reader(text, "cost file"), []
+    for word in ("cost", "1", ";"):
+        reader.take(word)
+    while reader.takes("level"):
+        level, numbers = reader.take(), []
+        reader.take("{")
+        for word in ("row", "byte", "leaf"):
+            reader.take(word)
+            numbers.append(reader.number())
+            reader.take(";")
+        reader.take("}")
+        costs.append(Cost(level, *numbers))
+    if reader.peek() or not costs:
+        raise BadText(f"line {reader.line()} of the cost file: {reader.peek() or 'its end'} stands where it can't")
+    return costs
+
+
 # ---- mappings
 
 
