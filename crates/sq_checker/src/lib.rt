@@ -4,6 +4,7 @@
 mod check;
 mod fault;
 mod read;
+mod stack;
 
 pub use check::check_plan;
 pub use read::read_checked;
