@@ -1,8 +1,7 @@
 -- What holds of the faults of plan files.
-use Rattle.std.specs.Prelude.{◌≡◌, List, ℕ, Some}
+use Rattle.std.specs.Prelude.{List, ℕ}
 use Rattle.sq_text.specs.declared.fault.Fault.{Fault}
 use Rattle.sq_text.specs.First.{InTurn}
-use Rattle.sq_text.specs.Faults.{IsFirst}
 use Rattle.sq_ir.specs.DraftLeaves.{leaves_of}
 use Rattle.sq_ir.specs.Plans.{IsGood}
 use Rattle.sq_ir.specs.declared.plan.Plan.{Plan}

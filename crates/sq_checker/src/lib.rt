@@ -4,7 +4,6 @@
 mod check;
 mod fault;
 mod read;
-mod stack;
 
 pub use check::check_plan;
 pub use read::read_checked;

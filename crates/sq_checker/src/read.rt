@@ -7,15 +7,13 @@ ghost use Rattle.sq_planfile.specs.Faults.{Means};
 ghost use Rattle.sq_checker.specs.Laws.{FileFault, IsChecked};
 
 use crate::check::check_plan;
-use crate::stack::fits_stack;
 use sq_planfile::PlanFile;
 use sq_planfile::laws::sound_lines_are_plans;
 use sq_planload::read_plan;
 use sq_text::Stop;
 use std::alloc::Global;
 
-/// The plan file that a text stands for, where every order of its plan's events has one result; or its first fault. Want
-/// of memory too where a list of parts is longer than the stack of a run holds, some hundred thousand times.
+/// The plan file that a text stands for, where every order of its plan's events has one result; or its first fault.
 pub fn read_checked(alloc: Global, text: &[u8]) -> Result<PlanFile, Stop>
     // Ok exactly where no fault holds; else the first one.
     ensures answers { Answers (FileFault text.now) result }
@@ -29,12 +27,7 @@ pub fn read_checked(alloc: Global, text: &[u8]) -> Result<PlanFile, Stop>
         Err(stop) => return Err(stop),
     };
     match check_plan(alloc, &file) {
-        Ok(()) => {
-            if !fits_stack(&file.plan().draft.term) {
-                return Err(Stop::NoMemory);
-            }
-            Ok(file)
-        }
+        Ok(()) => Ok(file),
         Err(stop) => Err(stop),
     }
 }

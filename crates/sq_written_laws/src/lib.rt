@@ -1,0 +1,4 @@
+//! Trees that are the same but for how their parts are grouped.
+#![tactic(auto)]
+
+pub mod laws;
