@@ -19,7 +19,7 @@ use Rattle.sq_pass_laws.specs.Pipe.Greedy.{overlapped}
 use Rattle.sq_pass_laws.specs.Pipe.Notes.{notes_of}
 use Rattle.sq_pass_laws.specs.PipeLaws.{OverlapsMayBeChosen, OverlapsHold, OverlapsFit}
 use Rattle.sq_plan_good.specs.Needed.{KeepInPlace, NeedsAreSums, SumsAreNeeds, NeedsAreSmall}
-use Rattle.sq_plan_good.specs.Good.{HasNoRace, DraftsCanBePlaced, PlacedAreGood}
+use Rattle.sq_plan_good.specs.Good.{HasNoRace, DraftsCanBePlaced, PlacedAreGood, PlacedStandByForms}
 use Rattle.sq_plan_good.specs.Good.{IsGoodFor}
 use Rattle.sq_plan_good.specs.Planned.{memories_of, IsPlacedFor}
 use Rattle.sq_compile.specs.Capacity.{NoneLacks}
@@ -59,16 +59,18 @@ module _ (can : DraftsCanBePlaced) (may_be : OverlapsMayBeChosen)
             (subst (λ (ns : List PlanNode). IsPlaced d ns p) are h);
       }
 
-  pub good : PlacedAreGood → OverlapsHold → OverlapsFit → d.notes ≡ notes_of r → (result : Result Plan StoreFault)
+  pub good : PlacedAreGood → PlacedStandByForms → OverlapsHold → OverlapsFit → d.notes ≡ notes_of r
+      → (result : Result Plan StoreFault)
       → IfOk result (λ plan. IsPlaceable d nodes → IsPlaced d nodes plan)
       → IfOk result (λ p. HasNoRace r → IsPlanOf r p)
-  good law hold fit noted (Ok p) h = λ race_free. record {
+  good law by_forms hold fit noted (Ok p) h = λ race_free. record {
     placed = of_plan noted p (h placeable);
+    stands = by_forms r (overlapped r) (may_be r walked) d its nodes memories p (h placeable);
     good = subst (λ (ns : List PlanNode). IsGoodFor r (overlapped r) ns p) are
         (law r race_free (overlapped r) (may_be r walked) (hold r walked) (fit r walked) d its nodes memories p
         (h placeable));
   }
-  good law hold fit noted (Err fault) h = tt
+  good law by_forms hold fit noted (Err fault) h = tt
 
   pub placed : d.notes ≡ notes_of r → (result : Result Plan StoreFault)
       → IfOk result (λ plan. IsPlaceable d nodes → IsPlaced d nodes plan) → IfOk result (λ p. IsPlacedFor r p)

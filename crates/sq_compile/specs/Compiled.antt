@@ -2,14 +2,18 @@
 use Rattle.std.specs.Prelude.{◌≡◌}
 use Rattle.sq_ir.specs.declared.plan.Plan.{Plan}
 use Rattle.sq_spec.specs.declared.resolved.Resolved.{Resolved}
+use Rattle.sq_plan_good.specs.Good.{StandsByForms}
 use Rattle.sq_plan_good.specs.Planned.{IsPlacedFor, IsGoodPlan}
+use Rattle.sq_pass_laws.specs.Pipe.Greedy.{overlapped}
 use Rattle.sq_store.specs.declared.fitting.StoreFault.{StoreFault}
 use Rattle.sq_store.specs.declared.fitting.StoreFault.TheVariants.{Capacity, NoMemory}
 use Rattle.sq_compile.specs.Capacity.{IsFirstLack}
 
--- the plan of the program: placed in its machine's memories, and good for it
+-- the plan of the program: placed in its machine's memories, each buffer behind those of the forms round its own, and
+-- good for it
 pub record IsPlanOf (r : Resolved) (p : Plan) : Type 0 where
   pub placed : IsPlacedFor r p
+  pub stands : StandsByForms r (overlapped r) p
   pub good : IsGoodPlan r p
 
 -- the node that is told needs more for the program than it has

@@ -22,7 +22,8 @@ use sq_pass_laws::{
 };
 use sq_plan_good::sq_draft_laws::laws::resolved_programs_were_walked;
 use sq_plan_good::{
-    needs_are_small, needs_are_sums, placed_plans_are_good, placing_succeeds, sums_are_needs,
+    needs_are_small, needs_are_sums, placed_plans_are_good, placed_plans_stand_by_forms,
+    placing_succeeds, sums_are_needs,
 };
 use sq_spec::Resolved;
 use sq_store::{StoreFault, place};
@@ -75,6 +76,7 @@ fn placed(
     overlaps_have_room();
     placing_succeeds();
     placed_plans_are_good();
+    placed_plans_stand_by_forms();
     needs_are_sums();
     sums_are_needs();
     needs_are_small();

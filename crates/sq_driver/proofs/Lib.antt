@@ -17,6 +17,7 @@ pub mod Finals
 pub mod Finishing
 pub mod FmtEnds
 pub mod OneAnswer
+pub mod OnePlan
 pub mod OrderLists
 pub mod OrderPhase
 pub mod OutTexts

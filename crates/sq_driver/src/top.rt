@@ -6,11 +6,13 @@ ghost use Rattle.sq_driver.specs.Ends.{ending, FileCauses};
 ghost use Rattle.sq_driver.specs.Meaning.{Answer};
 ghost use Rattle.sq_driver.specs.Banks.{Writing};
 ghost use Rattle.sq_driver.specs.Outcome.{Outside, Puts, ResultFor, trace_for};
+ghost use Rattle.sq_driver.specs.Planned.{PlanIsOne};
 ghost use Rattle.sq_driver.specs.Top.{Answered, Executed, Finished, IsDemoDone, IsExplained, IsOnly, IsUndisturbed};
 
 use crate::outside::end::{End, put_end};
 use crate::outside::status::Status;
 use crate::outside::world::{Perform, World};
+use sq_compile::laws::plans_are_one;
 use sq_demo_laws::laws::the_demo_is_accepted;
 use sq_port::{Failed, Files, Sink};
 use sq_tree::Bank;
@@ -89,8 +91,12 @@ pub fn sq_top<F: Files, S: Sink, E: Sink, B: Bank>(
 
     // The demo is done, or memory was wanting, or a put failed: its texts are accepted, and nothing of it traps.
     ensures demo { IsDemoDone (command_of (texts words.now)) result }
+
+    // A program has one plan: what `run` performs is what `plan` reports.
+    ensures one_plan { PlanIsOne }
 {
     the_demo_is_accepted();
+    plans_are_one();
     let ended = execute(alloc, words, files, out, err, bank);
     finish(ended, err)
 }

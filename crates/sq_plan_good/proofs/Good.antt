@@ -405,6 +405,7 @@ module _ (placing : Placing) (r : Resolved) (choices : List Choice) (may : MayBe
         nodes_ = refl;
         good = good;
         ends = ends;
+        written_out = tree_is;
         calls = calls;
         at_home = at_home;
       }

@@ -22,7 +22,8 @@ use Rattle.sq_cells.specs.Cells.{spot}
 use Rattle.sq_cells.specs.Alike.{Weight, leaf_count}
 use Rattle.sq_draft_laws.specs.PlanLaws.Codes.{loaded}
 use Rattle.sq_term.specs.Terms.{body_in, homes_in}
-use Rattle.sq_draft_laws.specs.PlanLaws.Entry.{held_in, EndsSo}
+use Rattle.sq_draft_laws.specs.PlanLaws.Entry.{plan_tree, held_in, EndsSo}
+use Rattle.sq_placed.specs.Tables.{entry_placed}
 use Rattle.sq_draft_laws.specs.ProgramLaws.Entry.{entry_shapes}
 use Rattle.sq_draft_laws.specs.ProgramLaws.Held.{HoldsFit}
 use Rattle.sq_draft_laws.specs.ProgramLaws.Piped.{PipesFit}
@@ -62,6 +63,15 @@ EndsAsMeant r p = (a : Arrays) (m : Bytes) → IsInput r p a m
     → EndsSo (setting_of p) (shapes_in r) p.draft.entry (flat r.typed.now r.mapping.now a)
     (exec (events.meaning (draft.leaves_of p.draft)) (tree_of p) m)
 
+-- ---- its events
+
+-- Written out it is the tree of the placed source, part for part: at each call what is brought in, what the callee does
+-- and what is given back, in the order of the source.
+abbrev pub IsWrittenOut : Resolved → List Choice → Plan → Type 0
+IsWrittenOut r choices p = tree_of p
+    ≡ plan_tree (setting_of p) (entry_placed (body_in (bodies_of r)) (homes_in (homes_of r choices)) (length (bodies_of r)) (args_of r))
+    (shapes_in r) p.draft.entry
+
 -- ---- its leaf calls
 
 -- It has one leaf event for each leaf call of the program and no other, with the number of the code of the call's form
@@ -81,13 +91,15 @@ LeavesAreAtHome r choices p = AllEvents
 -- ---- the whole
 
 -- The plan of a program under these choices, which may be chosen, in these memories: it is well formed, its unordered
--- events are independent, its live buffers have room in each state, and its run ends as the program means.
+-- events are independent, its live buffers have room in each state, and its run ends as the program means; its events are
+-- those of the placed source.
 pub record IsGoodFor (r : Resolved) (choices : List Choice) (nodes : List PlanNode) (p : Plan) : Type 0 where
   pub may : MayBeChosen r choices
   pub draft_ : IsDraftOf r choices p.draft
   pub nodes_ : p.nodes ≡ nodes
   pub good : IsGood (draft.leaves_of p.draft) p
   pub ends : EndsAsMeant r p
+  pub written_out : IsWrittenOut r choices p
   pub calls : HasLeafCalls r choices p
   pub at_home : LeavesAreAtHome r choices p
 

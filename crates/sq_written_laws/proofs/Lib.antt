@@ -1,3 +1,9 @@
 pub mod Straight
 pub mod Running
 pub mod Ending
+pub mod Rows
+pub mod Terms
+pub mod Lines
+pub mod Plans
+pub mod Bare
+pub mod Places

@@ -1,1 +1,3 @@
 pub mod Alike
+pub mod Again
+pub mod Places

@@ -4,8 +4,8 @@ use Rattle.sq_compile.proofs.passes.placed.Goals as goal
 pub returns-clause-good : goal.returns-clause-good
 returns-clause-good c = good c.placing_succeeds.ensures c.overlaps_may_be_chosen.ensures c.args.r.now
     (c.resolved_programs_were_walked.ensures c.args.r.now) c.args.draft c.requires.its c.args.nodes c.requires.nodes
-    c.requires.memories c.placed_plans_are_good.ensures c.overlaps_hold.ensures c.overlaps_fit.ensures c.requires.notes
-    c.place.result c.place.ensures.placed
+    c.requires.memories c.placed_plans_are_good.ensures c.placed_plans_stand_by_forms.ensures c.overlaps_hold.ensures
+    c.overlaps_fit.ensures c.requires.notes c.place.result c.place.ensures.placed
 
 pub returns-clause-placed : goal.returns-clause-placed
 returns-clause-placed c = placed c.placing_succeeds.ensures c.overlaps_may_be_chosen.ensures c.args.r.now

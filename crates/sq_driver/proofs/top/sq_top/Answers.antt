@@ -1,6 +1,7 @@
 use Rattle.std.proofs.Common.{refl, ⊎_elim}
 use Rattle.sq_driver.proofs.Answering.{answered_of}
 use Rattle.sq_driver.proofs.DemoRow.{demo_row}
+use Rattle.sq_driver.proofs.OnePlan.{one_plan}
 use Rattle.sq_driver.proofs.Rows.{usage_row, no_command_row, absent_row, file_fault_row, sink_fault_row, no_sink_fault_row, later_row, undisturbed_row, no_memory_row, complete_row, only_row}
 use Rattle.sq_driver.proofs.top.sq_top.Goals as goal
 
@@ -72,3 +73,6 @@ pub returns-clause-demo : goal.returns-clause-demo
 returns-clause-demo g c = demo_row c.the_demo_is_accepted.ensures
     (answered_of c.execute-ended.ensures.executed c.execute-ended.ensures.cause refl
     (λ answer writing its puts. c.finish.ensures answer writing _ _ refl refl its puts))
+
+pub returns-clause-one_plan : goal.returns-clause-one_plan
+returns-clause-one_plan g c = one_plan c.plans_are_one.ensures
