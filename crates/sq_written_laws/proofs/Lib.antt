@@ -7,3 +7,5 @@ pub mod Lines
 pub mod Plans
 pub mod Bare
 pub mod Places
+pub mod Worths
+pub mod Moved

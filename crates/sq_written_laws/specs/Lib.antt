@@ -1,3 +1,4 @@
 pub mod Alike
 pub mod Again
 pub mod Places
+pub mod Moved

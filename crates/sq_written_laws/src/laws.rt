@@ -3,6 +3,7 @@
 ghost use Rattle.sq_written_laws.specs.Alike.{AlikeRunAlike};
 ghost use Rattle.sq_written_laws.specs.Again.{WrittenAreSame, WrittenRunSo, WrittenAreSound};
 ghost use Rattle.sq_written_laws.specs.Again.{WrittenAreGood};
+ghost use Rattle.sq_written_laws.specs.Moved.{MovedEndAlike};
 ghost use Rattle.sq_written_laws.specs.Places.{LeavesMeanTheSame};
 
 /// Trees that are the same but for how their parts are grouped have the same events ready after the same turns, and the
@@ -26,4 +27,9 @@ pub fn written_plans_stay_good()
 /// What a leaf means doesn't depend on the places of its text, but for the place of a trap.
 pub fn leaves_mean_the_same()
     ensures { LeavesMeanTheSame }
+{}
+
+/// So a run of a plan whose leaves' texts stand elsewhere ends alike, whatever its events.
+pub fn moved_leaves_end_alike()
+    ensures { MovedEndAlike }
 {}
