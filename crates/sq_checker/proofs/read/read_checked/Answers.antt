@@ -7,8 +7,8 @@ returns-in-Err-clause-answers c = text_ends c.args.text.now c.in-Err.stop c.in-E
 pub check_plan-requires-clause-flat : goal.check_plan-requires-clause-flat
 check_plan-requires-clause-flat c = means_flat c.args.text.now c.in-Ok.file c.in-Ok.ensures.found
 
-pub returns-else-not-fits_stack-clause-answers : goal.returns-else-not-fits_stack-clause-answers
-returns-else-not-fits_stack-clause-answers c = accepted c.args.text.now c.in-Ok.file c.in-Ok.ensures.answers
+pub returns-in-Ok-check_plan-clause-answers : goal.returns-in-Ok-check_plan-clause-answers
+returns-in-Ok-check_plan-clause-answers c = accepted c.args.text.now c.in-Ok.file c.in-Ok.ensures.answers
     c.in-Ok.ensures.found c.in-Ok.ensures.only c.in-Ok-check_plan.ensures.answers
 
 pub returns-in-Err-check_plan-clause-answers : goal.returns-in-Err-check_plan-clause-answers
