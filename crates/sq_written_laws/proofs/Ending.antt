@@ -142,13 +142,17 @@ module _ {E S : Type 0} where
         record {
           there = λ h.
               let later = k.there h.1 in
-              let across = all-map (λ e. AllEvents (R e) (par_right y b)) (λ e. AllEvents (R e) y × AllEvents (R e) b) x (λ e. (par_all (R e) y b).there) h.2 in
-              ((h.0, later.0, all-map (λ e. AllEvents (R e) y × AllEvents (R e) b) (λ e. AllEvents (R e) y) x (λ e z. z.0) across),
-                  later.1, (all-map (λ e. AllEvents (R e) y × AllEvents (R e) b) (λ e. AllEvents (R e) b) x (λ e z. z.1) across, later.2));
-          back = λ h.
-              (h.0.0, k.back (h.0.1, h.1, h.2.1),
-                  all-map (λ e. AllEvents (R e) y × AllEvents (R e) b) (λ e. AllEvents (R e) (par_right y b)) x (λ e. (par_all (R e) y b).back)
-                      (both_all (λ e. AllEvents (R e) y) (λ e. AllEvents (R e) b) x h.0.2 h.2.0));
+              let across = all-map (λ e. AllEvents (R e) (par_right y b)) (λ e. AllEvents (R e) y × AllEvents (R e) b) x (λ e. (par_all (R e) y b).there) h.2 in (
+                (h.0, later.0, all-map (λ e. AllEvents (R e) y × AllEvents (R e) b) (λ e. AllEvents (R e) y) x (λ e z. z.0) across),
+                later.1,
+                (all-map (λ e. AllEvents (R e) y × AllEvents (R e) b) (λ e. AllEvents (R e) b) x (λ e z. z.1) across, later.2),
+              );
+          back = λ h. (
+            h.0.0,
+            k.back (h.0.1, h.1, h.2.1),
+            all-map (λ e. AllEvents (R e) y × AllEvents (R e) b) (λ e. AllEvents (R e) (par_right y b)) x (λ e. (par_all (R e) y b).back)
+                (both_all (λ e. AllEvents (R e) y) (λ e. AllEvents (R e) b) x h.0.2 h.2.0),
+          );
         }
     par_unordered (Within s x) b = record { there = λ h. h; back = λ h. h }
 
