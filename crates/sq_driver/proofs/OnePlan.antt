@@ -1,12 +1,7 @@
 -- A program has one plan under a mapping on a machine.
 use Rattle.std.proofs.Common.{◌≡◌, sym, ap, ◌∙◌}
-use Rattle.sq_ast.specs.declared.program.Program.{Program as Tree}
-use Rattle.sq_machfile.specs.Machines.{Hierarchy}
-use Rattle.sq_mapping.specs.declared.mapping.Mapping.{Mapping}
 use Rattle.sq_forms.specs.Resolving.{Resolving}
-use Rattle.sq_spec.specs.declared.resolved.Resolved.{Resolved}
 use Rattle.sq_compile.specs.Compiled.{PlansAreOne}
-use Rattle.sq_driver.specs.Races.{IsResolved}
 use Rattle.sq_driver.specs.Planned.{PlanIsOne}
 use Rattle.sq_driver.proofs.SourcePhases.{ok_same}
 

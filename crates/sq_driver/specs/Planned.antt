@@ -5,7 +5,7 @@ use Rattle.sq_text.specs.declared.code.Phase.{Phase}
 use Rattle.sq_text.specs.declared.code.Phase.TheVariants.{Program, Types, Machine, Mapping, Resolve, Race, Capacity}
 use Rattle.sq_ast.specs.declared.program.Program.{Program as Tree}
 use Rattle.sq_machfile.specs.Machines.{Hierarchy}
-use Rattle.sq_mapping.specs.declared.mapping.Mapping.{Mapping}
+use Rattle.sq_mapping.specs.declared.mapping.Mapping.{Mapping as Mapped}
 use Rattle.sq_ir.specs.declared.plan.Plan.{Plan}
 use Rattle.sq_spec.specs.declared.resolved.Resolved.{Resolved}
 use Rattle.sq_compile.specs.Compiled.{IsPlanOf}
@@ -49,6 +49,6 @@ pub record HoldsPlan (its : Command) (names : Names) (told : Option Content) (r 
 -- A program has one plan under a mapping on a machine: what `run` performs is what `plan` reports, `compile` writes and
 -- `span` weighs.
 abbrev pub PlanIsOne : Type 0
-PlanIsOne = (tree : Tree) (hierarchy : Hierarchy) (mapped : Mapping) (r s : Resolved)
+PlanIsOne = (tree : Tree) (hierarchy : Hierarchy) (mapped : Mapped) (r s : Resolved)
     → IsResolved tree hierarchy mapped r → IsResolved tree hierarchy mapped s
     → (p q : Plan) → IsPlanOf r p → IsPlanOf s q → p ≡ q
