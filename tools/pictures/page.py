@@ -403,7 +403,8 @@ these bytes before something else is brought in over them. A leaf call counts as
 bar says &ldquo;touched between these two events&rdquo;; the buffer itself may be in use for longer. The entry's arrays
 stand for the whole run.</p>
 <p>Elements as A[4..8] are those of the entry's arrays, from the first on and before the last: where the rows came from,
-or, for what begins as a fill, where they go later; with + where they are combined into it. Where buffers of different
+or, for what begins as a fill, where they go later; with + where they are combined into it. What is combined into
+another buffer on its way names that one. Where buffers of different
 calls lie over one another and the texts don't tell which one it is, all are named with <i>or</i>. Arguments that a leaf
 uses in place, in a buffer of its caller at the same memory, appear in no line of a trace, and so not here.</p>
 </section>

@@ -485,14 +485,19 @@ class Blocks:
             return ""
         base, start = first
         if base.how != ENTRY:
-            place = self.places[base.names[0]]
-            return "" if base is stay or len(base.names) > 1 else f"of {place.instance} {place.array}"
+            return "" if base is stay or len(base.names) > 1 else self.part_of(base, start, total)
         array = self.places[base.names[0]].array
         width, extents = self.shapes[array]
         last = self.origin(stay, total - width)
         if last is None or last[0] is not base or start % width:
             return ""
         return self.range_text(array, extents, start // width, last[1] // width, total // width)
+
+    def part_of(self, base, start, total):
+        """What so many bytes of an array that isn't the entry's are called."""
+        place = self.places[base.names[0]]
+        whole = start == 0 and total == sum(row.size for row in base.rows)
+        return f"{place.instance} {place.array}" if whole else f"part of {place.instance} {place.array}"
 
     def range_text(self, array, extents, first, last, count):
         low, high = self.coordinates(extents, first), self.coordinates(extents, last)
@@ -513,11 +518,12 @@ class Blocks:
 
     def origin(self, stay, at):
         """The stay and the byte in it that this byte was copied from, or goes to where it was filled, as far up as can
-        be told."""
+        be told. What is combined into another array goes to that one, and what comes there goes no further."""
+        begun = stay
         for _ in range(200):
             if stay.partial:
                 return None
-            if stay.how == ENTRY:
+            if stay.how == ENTRY or (stay is not begun and (stay.combined or begun.combined)):
                 return stay, at
             row = self.row_at(stay.rows if stay.how == COPY else stay.gone, at)
             if row is None:
