@@ -5,10 +5,16 @@
 `write` it writes them. An array is a list, or a list of rows; the answer holds the arrays that the program gives back,
 in the order of its parameters.
 """
+import itertools
+import math
 import pathlib
 import sys
 
 HERE = pathlib.Path(__file__).resolve().parent
+
+
+def towards_zero(n, d):
+    return -(-n // d) if n < 0 else n // d
 
 
 def double(A):
@@ -44,9 +50,6 @@ def convolution(A, K):
 
 
 def stencil(A, B):
-    def towards_zero(n, d):
-        return -(-n // d) if n < 0 else n // d
-
     def step(X, Y):
         return [Y[0]] + [towards_zero(a + 2 * b + c, 4) for a, b, c in zip(X, X[1:], X[2:])] + [Y[-1]]
     for _ in range(3):
@@ -85,10 +88,53 @@ def rotate(A):
 
 
 def overlap(W, A):
-    def towards_zero(n, d):
-        return -(-n // d) if n < 0 else n // d
     bands = zip(A, A[1:], A[2:])
     return {"B": ("int", [towards_zero(W[0] * a + W[1] * b + W[2] * c, sum(W)) for a, b, c in bands])}
+
+
+def fft3d(F, G, H, A):
+    """The sum over all of A, at once: no passes, and no steps by twos."""
+    X, Y, Z = len(F), len(G), len(H)
+    cells = list(itertools.product(range(X), range(Y), range(Z)))
+
+    def point(x, y, z):
+        return sum(A[a][b][c] * F[a * x % X] * G[b * y % Y] * H[c * z % Z] for a, b, c in cells) % 998244353
+    return {"D": ("int", [[[point(x, y, z) for z in range(Z)] for y in range(Y)] for x in range(X)])}
+
+
+def gravity(M, R, V):
+    def pull(here, mass, there):
+        way = [to - at for at, to in zip(here, there)]
+        square = 64 + sum(d * d for d in way)
+        return [towards_zero(mass * d * 65536, square * math.isqrt(square)) for d in way]
+
+    def plus(a, b):
+        return [[x + y for x, y in zip(*rows)] for rows in zip(a, b)]
+    for _ in range(2):
+        pulls = [[sum(column) for column in zip(*(pull(r, m, q) for m, q in zip(M, R)))] for r in R]
+        V = plus(V, pulls)
+        R = plus(R, V)
+    return {"R": ("int", R), "V": ("int", V)}
+
+
+def hmmer(E, T, S):
+    to_match, to_insert, to_delete = T[:3], T[3:5], T[5:]
+
+    def score(residues):
+        """The best way that ends with residue i at place k, in each of the three states, from those that ended before."""
+        best, ended = 0, {}
+        for i, residue in enumerate(residues):
+            for k, gain in enumerate(E[residue]):
+                before = ended.get((i - 1, k - 1), {})
+                match = gain + max([0] + [before[state] + step[k] for state, step in zip("MID", to_match) if state in before])
+                insert = [ended[i - 1, k][state] + step[k] for state, step in zip("MI", to_insert)
+                          if state in ended.get((i - 1, k), {})]
+                delete = [ended[i, k - 1][state] + step[k] for state, step in zip("MD", to_delete)
+                          if state in ended.get((i, k - 1), {})]
+                ended[i, k] = {"M": match, **({"I": max(insert)} if insert else {}), **({"D": max(delete)} if delete else {})}
+                best = max(best, match)
+        return best
+    return {"Z": ("int", [score(row) for row in S])}
 
 
 def read(path):
@@ -101,16 +147,19 @@ def read(path):
         for extent in extents:
             count *= extent
         values, words = [int(word) for word in words[:count]], words[count:]
-        width = extents[-1]
-        arrays[name] = values if len(extents) == 1 else [values[i:i + width] for i in range(0, count, width)]
+        for width in extents[:0:-1]:
+            values = [values[i:i + width] for i in range(0, len(values), width)]
+        arrays[name] = values
     return arrays
 
 
 def text(arrays):
     lines = []
     for name, (kind, value) in arrays.items():
-        rows = value if isinstance(value[0], list) else [value]
-        shape = f"[{len(rows)}][{len(rows[0])}]" if isinstance(value[0], list) else f"[{len(value)}]"
+        rows, shape = [value], f"[{len(value)}]"
+        while isinstance(rows[0][0], list):
+            rows = [row for several in rows for row in several]
+            shape += f"[{len(rows[0])}]"
         lines += [f"array {name} {kind} {shape}"] + [" ".join(map(str, row)) for row in rows]
     return "\n".join(lines) + "\n"
 
@@ -119,7 +168,7 @@ def main():
     differ = 0
     examples = (
         double, blocks, saxpy, matmul, product, convolution, stencil, prefix, histogram, dot, transpose, pairs, sort,
-        rotate, overlap, chain,
+        rotate, overlap, chain, fft3d, gravity, hmmer,
     )
     for example in examples:
         folder = HERE / example.__name__

@@ -1,4 +1,4 @@
-# Completions for bash of sq, tools/say and tools/picture: commands, then files by their endings, then the options of a
+# Completions for bash of sq and of the tools beside it: commands, then files by their endings, then the options of a
 # run. Source this file.
 
 # Files with one of the endings behind the word, and folders.
@@ -116,6 +116,21 @@ _sq_picture() {
   esac
 }
 
+# tools/why, tools/new and tools/fmt: files by their endings, the kernels of a new program, options.
+_sq_tools() {
+  local word=${COMP_WORDS[COMP_CWORD]}
+  COMPREPLY=()
+  case ${COMP_WORDS[0]}:$COMP_CWORD:$word in
+    *tools/why:1:*) _sq_files "$word" sq ;;
+    *tools/why:2:*) _sq_files "$word" map ;;
+    *tools/why:3:*) _sq_files "$word" mach ;;
+    *tools/new:2:*) _sq_words "$word" "map stencil reduction matmul" ;;
+    *tools/fmt:1:-*) _sq_words "$word" "-i --check" ;;
+    *tools/fmt:*) _sq_files "$word" sq ;;
+  esac
+}
+
 complete -F _sq sq
 complete -o default -F _sq_say say
 complete -o default -F _sq_picture picture
+complete -o default -F _sq_tools why new fmt

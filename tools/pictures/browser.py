@@ -50,6 +50,7 @@ class Browser:
         self.session = self.call("Target.attachToTarget", targetId=target, flatten=True, session=None)["sessionId"]
         self.call("Page.enable")
         self.call("Runtime.enable")
+        self.call("Log.enable")
 
     def __enter__(self):
         return self
@@ -129,8 +130,17 @@ class Browser:
         self.value("new Promise((done) => requestAnimationFrame(() => setTimeout(done, 0, true)))")
 
     def faults(self):
-        return [event["params"]["exceptionDetails"].get("text", "") for event in self.events
-                if event.get("method") == "Runtime.exceptionThrown"]
+        """What the console shows: exceptions, what the script writes there, and what the browser has to say."""
+        found = []
+        for event in self.events:
+            told = event.get("params", {})
+            if event.get("method") == "Runtime.exceptionThrown":
+                found.append(told["exceptionDetails"].get("text", ""))
+            elif event.get("method") == "Runtime.consoleAPICalled":
+                found.append(" ".join(str(word.get("value", word.get("description"))) for word in told["args"]))
+            elif event.get("method") == "Log.entryAdded":
+                found.append(told["entry"]["text"])
+        return found
 
     def photograph(self, path, whole=True):
         found = self.call("Page.captureScreenshot", format="png", captureBeyondViewport=whole)

@@ -1,7 +1,6 @@
 """What a table of choices tells, the mapping of each choice, and the table as text for a terminal of 100 columns."""
+import re
 import textwrap
-
-from texts import TOKENS
 
 COLUMNS = 100
 LEAST_BAR = 12  # columns
@@ -11,6 +10,8 @@ MOST_PLANS = 64  # accepted choices up to which each one's plan is asked for the
 
 
 # ---- the mapping of a choice
+
+TOKENS = re.compile(r"/\*.*?\*/|//[^\n]*|[A-Za-z_]\w*|\d+|::|->|[^\sA-Za-z_\d]", re.S | re.A)
 
 
 def alternatives(mapping):

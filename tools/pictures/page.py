@@ -8,9 +8,10 @@ from dataclasses import dataclass, field
 from html import escape
 from typing import Any, Dict, List, Optional
 
+from sources import Machine, Mapping, Variant
 from stays import ENTRY, layouts_of
 from sums import traffic
-from texts import COPY, FILL, WIDTHS, Machine, Mapping, Report, Trace, Variant
+from texts import COPY, FILL, WIDTHS, Report, Trace
 from tree import placed_tree
 
 HERE = os.path.dirname(os.path.realpath(__file__))

@@ -4,11 +4,14 @@ A plan file names the buffers of each event, so nothing is concluded here from b
 the first event that touches it to the last one.
 """
 from collections import defaultdict, deque
+from contextlib import contextmanager
+from functools import cached_property
 
 import plans
 from plans import WIDTHS
+from sources import Machine, Memory
 from stays import ENTRY, Layout, Place, Stay
-from texts import COPY, FILL, BadText, Buffer, Edge, Level, Machine, Memory, Report, read_trace
+from texts import COPY, FILL, BadText, Buffer, Edge, Level, Report, read_trace
 
 
 class Numbered(Level):
@@ -18,15 +21,27 @@ class Numbered(Level):
         return f"node {self.name.split()[1]}.{index}"
 
 
+@contextmanager
+def sound():
+    """What a text that is no sound plan file ends with."""
+    try:
+        yield
+    except plans.BadPlan as bad:
+        raise BadText(f"the plan file isn't one from {bad} on") from None
+    except (IndexError, ValueError, StopIteration):
+        raise BadText("the plan file isn't sound: sq exec tells where") from None
+
+
 class Planned:
     """A plan file: its machine, its report with layouts, and the lines of its events."""
 
     def __init__(self, text):
-        try:
+        with sound():
             self.plan = plans.read_plan(text)
             self.arrays = {array.buffer: array for array in self.plan.arrays}
             self.levels = 1 + max(node.level for node in self.plan.nodes)
             self.first = [next(n for n, it in enumerate(self.plan.nodes) if it.level == k) for k in range(self.levels)]
+            self.labels = [f"{node.level}.{n - self.first[node.level]}" for n, node in enumerate(self.plan.nodes)]
             self.machine = self.memories()
             # The buffers of the entry's arrays come first, as in a report.
             others = [n for n in range(len(self.plan.buffers)) if n not in self.arrays]
@@ -37,11 +52,11 @@ class Planned:
             self.live = {None: list(self.arrays)}
             self.owners = {}
             self.lines = [self.line(event) for event in self.plan.events]
-            self.report = self.reported()
-        except plans.BadPlan as bad:
-            raise BadText(f"the plan file isn't one from {bad} on") from None
-        except (IndexError, ValueError, StopIteration):
-            raise BadText("the plan file isn't sound: sq exec tells where") from None
+
+    @cached_property
+    def report(self):
+        with sound():
+            return self.reported()
 
     # ---- memories
 
@@ -121,15 +136,15 @@ class Planned:
 
     def spot(self, event, slot):
         buffer = self.plan.buffers[slot.buffer]
-        return "%d.%d:%d" % (*self.node_of(event, buffer.level), buffer.offset + slot.at)
+        return f"{self.labels[event.nodes[buffer.level]]}:{buffer.offset + slot.at}"
 
     def line(self, event):
         """The event's line as in a trace."""
         if event.kind == "run":
-            level = len(event.nodes) - 1
-            return "leaf %d.%d %s" % (*self.node_of(event, level), self.plan.leaves[event.leaf].instance)
-        words = [event.kind, event.op, event.source and self.spot(event, event.source), self.spot(event, event.to)]
-        return " ".join(word for word in (*words, str(event.bytes())) if word)
+            return f"leaf {self.labels[event.nodes[-1]]} {self.plan.leaves[event.leaf].instance}"
+        op = f" {event.op}" if event.op else ""
+        source = f" {self.spot(event, event.source)}" if event.source else ""
+        return f"{event.kind}{op}{source} {self.spot(event, event.to)} {event.bytes()}"
 
     def events_of(self, trace):
         """The plan's event of each line of a trace: of events with one line the first that is left."""

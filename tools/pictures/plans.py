@@ -4,11 +4,13 @@ What is written is docs/FORMATS.md, section plan files. Nothing is judged here b
 """
 import re
 from dataclasses import dataclass, field
-from typing import Dict, List, Optional, Tuple
+from typing import Dict, List, Optional, Tuple, Union
 
 Place = Tuple[int, int]  # line and column, from 1; columns in bytes
-TOKEN = re.compile(rb"//[^\n]*|/\*.*?\*/|[A-Za-z_][A-Za-z0-9_]*|[0-9]+|::|\+\+|[-+*/%&|^]=|<<|>>|[<>=!]=|&&|\|\||\S", re.S)
-EVENTS = ("copy", "fill", "acc", "run")
+BLANKS = re.compile(rb"\s*")
+COMMENT = re.compile(rb"//[^\n]*|/\*.*?\*/", re.S)
+TOKEN = re.compile(rb"[A-Za-z_][A-Za-z0-9_]*|[0-9]+|::|\+\+|[-+*/%&|^]=|<<|>>|[<>=!]=|&&|\|\||\S", re.S)
+WORD = re.compile(rb"[a-z]+|\}")
 LOWEST = -(2**63)
 WIDTHS = {"byte": 1, "int": 4, "long": 8}
 
@@ -112,6 +114,7 @@ class Plan:
     arrays: List[Array] = field(default_factory=list)
     parts: List[Part] = field(default_factory=list)
     events: List[Event] = field(default_factory=list)
+    items: List[Union[Part, Event]] = field(default_factory=list)  # both, as they stand in the text
 
     def index(self, node):
         """Which of its level a node is, from the left."""
@@ -119,37 +122,43 @@ class Plan:
         return node - first
 
 
-def tokens(text):
-    """Words, numbers and signs with their places, and the end."""
-    found, line, begin, at = [], 1, 0, 0
-    for match in TOKEN.finditer(text):
-        between = text.count(b"\n", at, match.start())
-        if between:
-            line, begin = line + between, text.rfind(b"\n", at, match.start()) + 1
-        word = match.group()
-        if not word.startswith((b"//", b"/*")):
-            found.append((word.decode("latin-1"), (line, match.start() - begin + 1)))
-        at = match.start()
-    rest = text.count(b"\n", at)
-    line, begin = (line + rest, text.rfind(b"\n") + 1) if rest else (line, begin)
-    return found + [("", (line, len(text) - begin + 1))]
+def integers(text):
+    """Those of a list, without its brackets."""
+    return [int(word) for word in text.split(b",")] if text.strip() else []
+
+
+def without_comments(text):
+    """Blanks in place of comments, so that what is left stays where it is."""
+    return COMMENT.sub(lambda match: re.sub(rb"[^\n]", b" ", match.group()), text) if b"/" in text else text
 
 
 class Reader:
+    """Goes through the text once: token by token as far as the term, and then by a whole part or event at a time, since a
+    term has tens of thousands of them."""
+
     def __init__(self, text):
-        self.tokens, self.at, self.plan = tokens(text), 0, Plan()
+        self.text, self.plan = without_comments(text), Plan()
+        self.at = BLANKS.match(self.text).end()
+        self.counted, self.line, self.begin = 0, 1, 0  # how far lines are counted, and where the last one begins
+        self.views = {}
 
     def look(self):
-        return self.tokens[self.at][0]
+        match = TOKEN.match(self.text, self.at)
+        return match.group().decode("latin-1") if match else ""
 
     def place(self):
-        return self.tokens[self.at][1]
+        """That of what comes next."""
+        ends = self.text.count(b"\n", self.counted, self.at)
+        if ends:
+            self.line, self.begin = self.line + ends, self.text.rfind(b"\n", self.counted, self.at) + 1
+        self.counted = self.at
+        return self.line, self.at - self.begin + 1
 
     def next(self, *allowed):
-        word, place = self.tokens[self.at]
+        word = self.look()
         if (allowed and word not in allowed) or not word:
-            raise BadPlan(place)
-        self.at += 1
+            raise BadPlan(self.place())
+        self.at = BLANKS.match(self.text, self.at + len(word)).end()
         return word
 
     def number(self):
@@ -184,15 +193,6 @@ class Reader:
 
     def numbers(self):
         return self.some("[", "]", self.number)
-
-    def slot(self):
-        buffer = self.number()
-        self.next("+")
-        return Slot(buffer, self.number())
-
-    def view(self):
-        slot = self.slot()
-        return View(slot, self.next(*WIDTHS), self.numbers(), self.numbers())
 
     # ---- lines
 
@@ -232,8 +232,8 @@ class Reader:
 
     def task(self, leaf):
         """The name of a task, and where it ends."""
-        for word in ("void", "task"):
-            self.next(word)
+        if self.next("void", "task") == "void":
+            self.next("task")
         leaf.task = self.name() + self.next("::") + self.next("leaf")
         self.next("(")
         while self.next() != ")":
@@ -256,45 +256,85 @@ class Reader:
 
     def term(self):
         """One term; brackets that are open stand in a list, since they may be a thousand."""
-        open_parts: List[Part] = []
+        plan, text, open_parts = self.plan, self.text, []
+        within, nodes = None, [0]
         while True:
-            nodes = open_parts[-1].nodes if open_parts else [0]
-            if self.look() in ("seq", "par", "at"):
-                open_parts.append(self.opening(open_parts[-1] if open_parts else None, nodes))
-                continue
-            if open_parts and self.look() == "}":
-                self.next()
+            word = WORD.match(text, self.at)
+            form, make = FORMS.get(word.group(), (None, None)) if word else (None, None)
+            match = form and form.match(text, self.at)
+            if not match or not (make or open_parts):
+                raise BadPlan(self.place())
+            if make is None:
                 open_parts.pop()
             else:
-                self.event(open_parts[-1] if open_parts else None, nodes)
+                item = make(self, self.place(), within, nodes, match.groups())
+                plan.items.append(item)
+                if isinstance(item, Part):
+                    plan.parts.append(item)
+                    open_parts.append(item)
+                else:
+                    plan.events.append(item)
+            self.at = match.end()
             if not open_parts:
                 return
+            within = open_parts[-1]
+            nodes = within.nodes
 
-    def opening(self, within, nodes):
-        part = Part(self.look(), self.place(), within, nodes)
-        if self.next() == "at":
-            node = self.number()
-            if node != nodes[-1]:
-                part.nodes = nodes + [node]
-            part.buffers = self.numbers()
-        self.next("{")
-        self.plan.parts.append(part)
-        return part
+    def part(self, place, within, nodes, groups):
+        return Part(groups[0].decode(), place, within, nodes)
 
-    def event(self, within, nodes):
-        event = Event(self.look(), self.place(), within, nodes)
-        self.next(*EVENTS)
-        if event.kind == "copy":
-            event.source, event.to, event.size = self.slot(), self.slot(), self.number()
-        elif event.kind == "fill":
-            event.to, event.elem, event.size, event.value = self.slot(), self.next(*WIDTHS), self.number(), self.value()
-        elif event.kind == "acc":
-            event.op, event.elem = self.next("+", "*", "min", "max", "&", "|", "^"), self.next(*WIDTHS)
-            event.source, event.to, event.size = self.slot(), self.slot(), self.number()
-        else:
-            event.leaf, event.views, event.path = self.number(), self.some("(", ")", self.view), self.numbers()
-        self.next(";")
-        self.plan.events.append(event)
+    def at_node(self, place, within, nodes, groups):
+        node = int(groups[0])
+        return Part("at", place, within, nodes if node == nodes[-1] else nodes + [node], integers(groups[1]))
+
+    def copy(self, place, within, nodes, groups):
+        source, at, to, to_at, size = map(int, groups)
+        return Event("copy", place, within, nodes, Slot(source, at), Slot(to, to_at), size)
+
+    def fill(self, place, within, nodes, groups):
+        to, at, elem, size, sign, value = groups
+        value = LOWEST if value == b"lowest" else int(sign + value)
+        return Event("fill", place, within, nodes, None, Slot(int(to), int(at)), int(size), elem.decode(), value=value)
+
+    def accumulate(self, place, within, nodes, groups):
+        source, at, to, to_at, size = map(int, groups[2:])
+        op, elem = groups[0].decode(), groups[1].decode()
+        return Event("acc", place, within, nodes, Slot(source, at), Slot(to, to_at), size, elem, op)
+
+    def run(self, place, within, nodes, groups):
+        leaf, views, path = groups
+        if views not in self.views:  # calls of one form have the same ones
+            self.views[views] = self.read_views(views)
+        return Event("run", place, within, nodes, leaf=int(leaf), views=self.views[views], path=integers(path))
+
+    def read_views(self, text):
+        found, at = [], 0
+        while at < len(text):
+            match = VIEW.match(text, at)
+            if match is None:
+                raise BadPlan(self.place())
+            buffer, first, elem, extents, strides = match.groups()
+            found.append(View(Slot(int(buffer), int(first)), elem.decode(), integers(extents), integers(strides)))
+            at = match.end()
+        return found
+
+
+SLOT, ELEM, LIST = r"(\d+)\s*\+\s*(\d+)", r"(byte|int|long)", r"\[([^\]]*)\]"
+VIEW = re.compile(rf"\s*{SLOT}\s*{ELEM}\s*{LIST}\s*{LIST}\s*(?:,|$)".encode())
+# What may stand in a term, by its first word: its form, with the blanks behind it, and what makes it of its groups.
+FORMS = {
+    word: (re.compile((form + r"\s*").encode()), make)
+    for word, form, make in (
+        (b"}", r"\}", None),
+        (b"seq", r"(seq)\s*\{", Reader.part),
+        (b"par", r"(par)\s*\{", Reader.part),
+        (b"at", rf"at\s+(\d+)\s*{LIST}\s*\{{", Reader.at_node),
+        (b"copy", rf"copy\s+{SLOT}\s+{SLOT}\s+(\d+)\s*;", Reader.copy),
+        (b"fill", rf"fill\s+{SLOT}\s*{ELEM}\s+(\d+)\s*(-?)\s*(\d+|lowest)\s*;", Reader.fill),
+        (b"acc", rf"acc\s*(\+|\*|\bmin\b|\bmax\b|&|\||\^)\s*{ELEM}\s+{SLOT}\s+{SLOT}\s+(\d+)\s*;", Reader.accumulate),
+        (b"run", rf"run\s+(\d+)\s*\(([^)]*)\)\s*{LIST}\s*;", Reader.run),
+    )
+}
 
 
 def read_plan(text):

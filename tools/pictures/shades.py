@@ -34,6 +34,8 @@ class Grid:
         self.least, self.greatest = min(traffic), max(traffic)
         self.width = min(max(56, DIGIT * len(f"{self.greatest:,}") + 8), WIDEST / len(self.axes[1]))
         self.height = next(height for most, height in HEIGHTS if len(self.axes[0]) <= most)
+        self.heads = [choices.cut(value, max(int(self.width // DIGIT), 8)) for value in self.axes[1]]
+        self.over = max(0, DIGIT * max(map(len, self.heads)) - self.width) / 2  # by which a column's name is wider than it
 
     def cell(self, line, column):
         """A choice; its bytes are written where there is room."""
@@ -54,13 +56,11 @@ class Grid:
     def labels(self):
         """The names of both axes, and of their values those that have room."""
         down, right = self.axes
-        room = max(int(self.width // DIGIT), 8)
-        names = [choices.cut(value, room) for value in right]
         middle, end = GUTTER + len(right) * self.width / 2, GUTTER - 8
         yield f'<text class="axis" x="{middle:g}" y="12">{self.names[1]}</text>'
-        yield f'<text class="axis value" x="{end}" y="{HEAD - 6}">{choices.cut(self.names[0], 16)}</text>'
-        for column in range(0, len(right), ceil(DIGIT * max(map(len, names)) / self.width)):
-            yield f'<text x="{GUTTER + (column + 0.5) * self.width:g}" y="{HEAD - 6}">{names[column]}</text>'
+        yield f'<text class="axis value" x="{end - self.over:g}" y="{HEAD - 6}">{choices.cut(self.names[0], 16)}</text>'
+        for column in range(0, len(right), ceil(DIGIT * max(map(len, self.heads)) / self.width)):
+            yield f'<text x="{GUTTER + (column + 0.5) * self.width:g}" y="{HEAD - 6}">{self.heads[column]}</text>'
         for line in range(0, len(down), ceil(12 / self.height)):
             top = HEAD + (line + 0.5) * self.height + 4
             yield f'<text class="value" x="{end}" y="{top:g}">{choices.cut(down[line], 16)}</text>'
@@ -70,7 +70,7 @@ class Grid:
         places = [(line, column) for line in range(len(self.axes[0])) for column in range(len(self.axes[1]))]
         places.sort(key=lambda place: self.cells[place[0]][place[1]] is self.table.best)
         inside = "".join(self.labels()) + "".join(self.cell(*place) for place in places)
-        wide, high = GUTTER + len(self.axes[1]) * self.width + 4, HEAD + len(self.axes[0]) * self.height + 4
+        wide, high = GUTTER + len(self.axes[1]) * self.width + self.over + 4, HEAD + len(self.axes[0]) * self.height + 4
         size = f'style="width:{wide:g}px" viewBox="0 0 {wide:g} {high:g}"'
         return f'<svg class="shades" {size} role="img" aria-label="The traffic of each pair of values">{inside}</svg>'
 
@@ -113,13 +113,13 @@ def row(table, choice, greatest, columns):
 
 
 def rows(table):
-    """A row for each choice. Its settings are one text in columns, and the table's columns have their widths: so a
-    browser is fast with thousands of rows."""
+    """A row for each choice. Its settings are one text in columns, and the table's columns have their widths, so that a
+    browser lays out the rows that are seen, and is fast with thousands of them."""
     greatest = max((choice.traffic for choice in table.accepted()), default=0)
     columns, heads = choices.layout(table, ROOM)
     widths = [len(f"best {len(table.choices)}") + 2, max(len(f"{greatest:,}"), 5) + 3]
     middle = f"{sum(columns) * MONO + 12:g}px"
-    sized = "".join(f'<col style="width:{width}">' for width in (f"{widths[0]}ch", middle, f"{widths[1]}ch")) + "<col>"
+    sized = f"--columns:{widths[0]}ch {middle} {widths[1]}ch minmax(0,1fr)"
     least = f"min-width:calc({sum(widths) + 20}ch + {middle})"
     body = "".join(row(table, choice, greatest, columns) for choice in table.choices)
     edges = zip(COLOURS, choices.edges(table))
@@ -130,8 +130,8 @@ def rows(table):
     told = f"<p>{named}.</p>" if named else ""
     return (
         f'<section id="choices"><h2>The choices</h2>{legend}{told}'
-        f'<p><button id="turn" hidden>least first</button></p><div class="wide"><table class="choices" style="{least}">'
-        f'<colgroup>{sized}</colgroup><thead><tr><th>choice</th><th class="set">{choices.cells(heads, columns)}</th>'
+        f'<p><button id="turn" hidden>least first</button></p><div class="wide"><table class="choices" style="{sized};{least}">'
+        f'<thead><tr><th>choice</th><th class="set">{choices.cells(heads, columns)}</th>'
         f"<th>bytes</th><th></th></tr></thead><tbody>{body}</tbody></table></div></section>"
     )
 

@@ -65,7 +65,7 @@ class Open:
 def place(plan, weights):
     """When each event begins, and the whole plan as a part that has ended."""
     begins, stack = [], [Open(None, 0)]
-    for item in sorted([*plan.parts, *plan.events], key=lambda item: item.place):
+    for item in plan.items:
         while stack[-1].part is not item.within:
             close(stack)
         begin = stack[-1].next()
@@ -121,7 +121,8 @@ class Timeline:
         self.filed, self.costs, self.machine = filed, costs, machine or filed.machine
         self.names = [cost.level for cost in costs]
         plan = filed.plan
-        weights = [self.weight(event) for event in plan.events]
+        self.depths = [self.depth(event) for event in plan.events]
+        weights = [self.weight(*pair) for pair in zip(plan.events, self.depths)]
         begins, whole = place(plan, weights)
         self.total, self.chain = whole.end, chain_of(whole)
         kinds = [self.kind(event) for event in plan.events]
@@ -142,8 +143,8 @@ class Timeline:
             return self.filed.plan.nodes[event.nodes[-1]].level
         return max(self.level(slot) for slot in (event.source, event.to) if slot)
 
-    def weight(self, event):
-        cost = self.costs[self.depth(event)]
+    def weight(self, event, depth):
+        cost = self.costs[depth]
         return cost.leaf if event.kind == "run" else cost.row + cost.byte * event.bytes()
 
     def kind(self, event):
@@ -175,8 +176,8 @@ class Timeline:
     def make_rows(self):
         """The rows that have a bar: of each node what goes to it and comes from it, and then what it performs."""
         held = defaultdict(list)
-        for bar, event in zip(self.bars, self.filed.plan.events):
-            held[(*self.filed.node_of(event, self.depth(event)), self.carries(event))].append(bar)
+        for bar, event, depth in zip(self.bars, self.filed.plan.events, self.depths):
+            held[(*self.filed.node_of(event, depth), self.carries(event))].append(bar)
         rows = []
         for level, index in self.in_order():
             for carries in (True, False):

@@ -58,6 +58,7 @@ def trace(timeline):
     spots = [(timeline.rows[bar.row].level + 1, threads[bar.row] + bar.lane) for bar in timeline.bars]
     # A stable sort: slices stand before the flows that begin or end in them.
     timed = sorted([*slices(timeline, spots), *flows(timeline, spots)], key=lambda event: event["ts"])
-    lines = ",\n".join(json.dumps(event, separators=(",", ":")) for event in [*metadata(timeline, threads), *timed])
+    encode = json.JSONEncoder(separators=(",", ":")).encode  # one for all: to make it takes as long as to use it
+    lines = ",\n".join(map(encode, [*metadata(timeline, threads), *timed]))
     about = json.dumps({"span": str(timeline.total), "unit": "one of the cost file, written as 1 us", "note": NOTHING})
     return f'{{"traceEvents":[\n{lines}\n],\n"displayTimeUnit":"ms",\n"otherData":{about}}}\n'

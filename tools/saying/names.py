@@ -5,11 +5,15 @@ isn't there raises Missing, and then nothing is added.
 """
 import difflib
 from dataclasses import dataclass, field
+from math import prod
 from typing import List
 
-from sqfiles.programs import Call, For, If, Local, Map, Tunable
+from sqfiles.programs import Assign, Call, Chain, Choice, For, If, Local, Map, Tunable, Unary, Use
 
 from saying.snippets import Span, span_of
+
+
+LEAF_CODE = (Assign, Chain, Choice, For, If, Unary)
 
 
 @dataclass
@@ -35,6 +39,14 @@ def listed(texts):
 
 def counted(count, word):
     return f"{count} {word}{'' if count == 1 else 's'}"
+
+
+def meant(name, known):
+    """A label that asks for the nearest of the known names."""
+    known = list(known)
+    same = [one for one in known if one != name and one.lower() == name.lower()]
+    near = same or difflib.get_close_matches(name, known, 1)
+    return f"is `{near[0]}` meant?" if near else ""
 
 
 # ---- names of a program
@@ -105,8 +117,7 @@ def unknown_name(fault, files):
         told = f"names of {variant.name.text}::{variant.kind.text}"
     if fault.args[0] in known:
         return Told("known in the body of its map or loop alone")
-    near = difflib.get_close_matches(fault.args[0], known, 1)
-    return Told(f"is `{near[0]}` meant?" if near else "not known here", [], [f"{told}: {listed(known)}"])
+    return Told(meant(fault.args[0], known) or "not known here", [], [f"{told}: {listed(known)}"])
 
 
 def calls(body):
@@ -145,7 +156,36 @@ def wrong_kind(fault, files):
 def dim_count(fault, files):
     token, told = declared(fault, files)
     spans = [span_of(token, f"`{token.text}` is {told}")] if token.place != fault.place else []
-    return Told("another number of indices or dimensions", spans)
+    return Told(indices_at(fault, files) or "another number of dimensions or sizes", spans)
+
+
+def indices_at(fault, files):
+    """How many indices stand behind the name; None where it is declared or passed."""
+    variant = files.program.around(fault.place)
+    passed = {arg.name.place: arg for call in calls(variant.body) for arg in call.args}
+    found = [use for use in uses(variant.body) if use.name.place == fault.place] or [passed.get(fault.place)]
+    if found[0] is None:
+        return None
+    return f"{len(found[0].indices)} {'index' if len(found[0].indices) == 1 else 'indices'}"
+
+
+def uses(one):
+    """The names with indices in leaf code."""
+    if isinstance(one, Use):
+        yield one
+        yield from uses(one.indices)
+    elif isinstance(one, list):
+        for each in one:
+            yield from uses(each)
+    elif isinstance(one, LEAF_CODE):
+        yield from uses(list(vars(one).values()))
+
+
+def limit_arrays(fault, files):
+    variant = there(there(files.program).around(fault.place))
+    local = [one for one in variant.declared if isinstance(one, Local)]
+    many = f"{counted(len(variant.params), 'parameter')} and {counted(len(local), 'local')}"
+    return Told("", [], [f"{variant.name.text}::{variant.kind.text} has {many}: 32 may be together"])
 
 
 def write_in(fault, files):
@@ -258,47 +298,131 @@ def variant_at(fault, files):
     return variant, f"{instance.task.text}::{instance.variant.text}"
 
 
+def tunables_of(variant):
+    return [one for one in variant.declared if isinstance(one, Tunable)]
+
+
 def tunables(fault, files):
     variant, name = variant_at(fault, files)
-    found = [f"{one.name.text}{'[]' if one.is_list else ''}" for one in variant.declared if isinstance(one, Tunable)]
-    return Told("", [], [f"tunables of {name}: {listed(found)}"])
+    found = tunables_of(variant)
+    told = listed(f"{one.name.text}{'[]' if one.is_list else ''}" for one in found)
+    return Told(tunable_label(fault, found), [], [f"tunables of {name}: {told}"] + elsewhere(fault, files))
+
+
+def tunable_label(fault, found):
+    name = fault.args[0]
+    if fault.code == "TunableMissing":
+        return f"no value for `{name}`"
+    if fault.code == "TunableKind":
+        is_list = next((one.is_list for one in found if one.name.text == name), False)
+        return "a number, and this tunable is a list" if is_list else "a list, and this tunable is a number"
+    return meant(name, [one.name.text for one in found])
+
+
+def elsewhere(fault, files):
+    """The other variants that have a tunable of this name, where it isn't known here."""
+    found = [
+        f"{one.name.text}::{one.kind.text}"
+        for one in (files.program.variants if fault.code == "TunableUnknown" else ())
+        if any(tunable.name.text == fault.args[0] for tunable in tunables_of(one))
+    ]
+    return [f"the tunable `{fault.args[0]}` stands in {', '.join(found)}"] if found else []
 
 
 def called(fault, files):
     variant, name = variant_at(fault, files)
-    return Told("", [], [f"tasks that {name} calls: {listed(call.task.text for call in calls(variant.body))}"])
+    known = [call.task.text for call in calls(variant.body)]
+    missing = fault.code == "CallMissing"
+    label = f"no `call {fault.args[0]} -> ..;`" if missing else meant(fault.args[0], known)
+    return Told(label, [], [f"tasks that {name} calls: {listed(known)}"])
 
 
 def sizes(fault, files):
     entry = there(files.mapping.instance(files.mapping.entry.text) if files.mapping else None)
     variant = there(there(files.program).variant(entry.task.text, entry.variant.text))
     found = [extent.text for param in variant.params for extent in param.extents if extent.kind == "word"]
-    return Told("", [], [f"size names of {entry.task.text}::{entry.variant.text}: {listed(found)}"])
+    label = f"no value for `{fault.args[0]}`" if fault.code == "SizeMissing" else meant(fault.args[0], found)
+    return Told(label, [], [f"size names of {entry.task.text}::{entry.variant.text}: {listed(found)}"])
 
 
-def instances(_, files):
-    return Told("", [], [f"instances: {listed(one.name.text for one in there(files.mapping).instances)}"])
+def instances(fault, files):
+    found = [one.name.text for one in there(files.mapping).instances]
+    return Told(meant(fault.args[0], found), [], [f"instances: {listed(found)}"])
 
 
-def tasks(_, files):
+def tasks(fault, files):
     found = [f"{one.name.text}::{one.kind.text}" for one in there(files.program).variants]
-    return Told("", [], [f"variants of the program: {listed(found)}"])
+    label = meant(fault.args[0], [one.name.text for one in files.program.variants])
+    if fault.code == "NoVariant":
+        label = f"of `{fault.args[0]}` there is `{files.program.of_task(fault.args[0])[0].kind.text}` alone"
+    return Told(label, [], [f"variants of the program: {listed(found)}"])
 
 
-def levels(_, files):
-    found = listed(one.name.text for one in there(files.machine).levels)
-    return Told("", [], [f"levels of the machine, from the root: {found}"])
+def level_names(files):
+    return [one.name.text for one in there(files.machine).levels]
+
+
+def levels(fault, files):
+    found = level_names(files)
+    return Told(meant(fault.args[0], found), [], [f"levels of the machine, from the root: {listed(found)}"])
+
+
+def node_depth(_, files):
+    found = level_names(files)
+    return Told(f"deeper than `{found[-1]}`", [], [f"levels of the machine, from the root: {listed(found)}"])
 
 
 def call_levels(fault, files):
     """LevelSkip: where the caller and the callee are."""
-    told = levels(fault, files)
+    found = level_names(files)
+    told = Told("", [], [f"levels of the machine, from the root: {listed(found)}"])
     named = there(there(files.mapping).instance(fault.args[0]))
-    if fault.place != files.mapping.entry.place:
+    if fault.place == files.mapping.entry.place:
+        told.label = f"the entry has to be at `{found[0]}`"
+    else:
         caller = instance_at(fault, files)
+        next_one = found[found.index(caller.level.text) + 1 :][:1]
+        told.label = f"has to be at {' or '.join(f'`{name}`' for name in [caller.level.text, *next_one])}"
         told.spans.append(span_of(caller.level, f"the caller `{caller.name.text}` is here"))
     told.spans.append(span_of(named.level, f"`{named.name.text}` is here"))
     return told
+
+
+def cycle(fault, files):
+    """The calls that lead from the callee back to the caller."""
+    mapping = there(files.mapping)
+    first = instance_at(fault, files)
+    chain = chain_to(mapping, mapping.instance(fault.args[0]), first.name.text, set())
+    spans = []
+    for caller, call in there(chain):
+        spans.append(span_of(call.instance, f"`{caller.name.text}` calls `{call.instance.text}`"))
+    return Told(f"`{first.name.text}` calls `{fault.args[0]}`", [one for one in spans if one.place != fault.place])
+
+
+def chain_to(mapping, instance, last, seen):
+    """Calls from an instance to the one of the name `last`; None where there are none."""
+    if instance is None or instance.name.text in seen:
+        return None
+    if instance.name.text == last:
+        return []
+    seen.add(instance.name.text)
+    for call in instance.calls:
+        rest = chain_to(mapping, mapping.instance(call.instance.text), last, seen)
+        if rest is not None:
+            return [(instance, call), *rest]
+    return None
+
+
+def spread_leaf(fault, files):
+    instance = instance_at(fault, files)
+    return Told("a leaf has no maps", [span_of(instance.variant, f"`{instance.name.text}` is a leaf")])
+
+
+def limit_choices(fault, files):
+    settings = [one for each in there(files.mapping).instances for one in each.tunables]
+    counts = [len(one.alternatives) for one in settings if one.name.place <= fault.place and len(one.alternatives) > 1]
+    product = f"{' * '.join(map(str, counts))} = {prod(counts)}"
+    return Told("", [], [f"with this tunable there are {product} choices, and 4096 may be"])
 
 
 def call_task(fault, files):
@@ -321,6 +445,46 @@ def dup_item(fault, files):
 
 
 # ---- machines and costs
+
+MOST_NODE, MOST_MEMORIES, MOST_NODES, MOST_FAN, MOST_COST = 1 << 30, 1 << 31, 4096, 64, 1_000_000
+
+
+def limit_capacity(fault, files):
+    machine = there(files.machine)
+    if int(fault.args[0]) > MOST_NODE:
+        return Told(f"a memory has at most {MOST_NODE} bytes, 2^30")
+    total, nodes = 0, 1
+    for one in machine.holders():
+        nodes *= one.children.value if machine.version == 1 and one.children else 1
+        total += nodes * one.capacity.value
+        if one.capacity.place == fault.place:
+            return Told(f"with this all memories have {total} bytes: at most {MOST_MEMORIES}, 2^31, may be")
+    raise Missing
+
+
+def limit_fan(fault, files):
+    last = "above the last level each node" if there(files.machine).version == 2 else "each node"
+    return Told(f"{fault.args[0]} children: {last} has 1 to {MOST_FAN}")
+
+
+def limit_levels(_, files):
+    return Told(f"{counted(len(there(files.machine).levels), 'level')}, and 8 may be")
+
+
+def limit_nodes(fault, files):
+    machine = there(files.machine)
+    if machine.version == 2:
+        return Told(f"{len(list(machine.nodes()))} nodes, and {MOST_NODES} may be")
+    counts = [1]
+    for level in machine.levels[1:]:
+        counts.append(counts[-1] * level.children.value)
+        if level.children.place == fault.place:
+            return Told(f"with this {' + '.join(map(str, counts))} = {sum(counts)} nodes: at most {MOST_NODES} may be")
+    raise Missing
+
+
+def limit_cost(_, files):
+    return Told(f"at most {MOST_COST}")
 
 
 def dup_level(fault, files):
@@ -370,8 +534,17 @@ TELL = {
     "NoTask": tasks,
     "NoVariant": tasks,
     "NoLevel": levels,
-    "NodeDepth": levels,
+    "NodeDepth": node_depth,
     "LevelSkip": call_levels,
+    "Cycle": cycle,
+    "SpreadLeaf": spread_leaf,
+    "LimitChoices": limit_choices,
+    "LimitArrays": limit_arrays,
+    "LimitCapacity": limit_capacity,
+    "LimitFan": limit_fan,
+    "LimitLevels": limit_levels,
+    "LimitNodes": limit_nodes,
+    "LimitCost": limit_cost,
     "DupInstance": dup_instance,
     "DupItem": dup_item,
     "DupLevel": dup_level,

@@ -1,11 +1,18 @@
 """What may stand at the place of a fault of text, and hints for the usual slips."""
 from sqfiles.mappings import read_costs, read_machine, read_mapping
+from sqfiles.planfiles import LARGEST_PLAN, read_plan_file
 from sqfiles.programs import LEVEL_OF, WORDS, read_program
-from sqfiles.tokens import END, END_OF_FILE, NAME, NUMBER, OPERATOR, WORD, Unread, tokens
+from sqfiles.tokens import END, END_OF_FILE, LARGEST_FILE, LARGEST_NUMBER, NAME, NUMBER, OPERATOR, WORD, Unread, tokens
 
 from saying.snippets import span_of
 
-READERS = {"program": read_program, "mapping": read_mapping, "machine": read_machine, "cost": read_costs}
+READERS = {
+    "program": read_program,
+    "mapping": read_mapping,
+    "machine": read_machine,
+    "cost": read_costs,
+    "plan": read_plan_file,
+}
 FIRST_WORDS = {
     "mapping": "a mapping",
     "machine": "a machine",
@@ -108,6 +115,9 @@ SLIPS = [
         "between two levels stands how many nodes each node above has: `children 2;`",
     ),
     ("machine", None, END_OF_FILE, ("}",), "this `}` closes nothing"),
+    ("plan", None, "`+`", None, "a place is a buffer and a byte of it: `2+16`"),
+    ("plan", None, "`leaf`", ("inner",), "leaves alone stand in a plan file; its events are what inner variants do"),
+    ("plan", None, END_OF_FILE, None, "a plan file has one term: several events stand in `seq { .. }` or `par { .. }`"),
     ("machine", None, "`levels`", None, "version 2 names its levels first: `levels host, core;`"),
 ]
 
@@ -131,7 +141,8 @@ class Slip:
     """A fault of Syntax with the tokens round it."""
 
     def __init__(self, phase, data, fault):
-        self.phase, self.fault, self.tokens = phase, fault, tokens(data)
+        largest = LARGEST_PLAN if phase == "plan" else LARGEST_FILE
+        self.phase, self.fault, self.tokens = phase, fault, tokens(data, largest)
         self.at = next(at for at, token in enumerate(self.tokens) if token.place == fault.place)
         self.token = self.tokens[self.at]
         self.before = self.tokens[self.at - 1] if self.at else None
@@ -169,7 +180,8 @@ class Slip:
 def other_file(slip):
     told = FIRST_WORDS.get(slip.token.text)
     if slip.at == 0 and told:
-        return f"this file is {told}; the files stand in the order PROG MAP MACH, then DATA or COST"
+        order = "the files stand in the order PROG MAP MACH, then DATA or COST"
+        return f"this file is {told}; {'`exec` takes PLAN DATA' if slip.phase == 'plan' else order}"
     return None
 
 
@@ -251,6 +263,33 @@ def bad_byte(data, at):
     byte = data[at]
     if byte >= 128:
         return "letters of other alphabets stand in comments alone"
-    return BYTES.get(byte)
+    if byte in BYTES:
+        return BYTES[byte]
+    return f"'{chr(byte)}': no token begins with it" if byte > 32 else f"a byte {byte}: no token begins with it"
 
 
+# ---- other faults of tokens
+
+
+def open_comment(data, at, _):
+    if data[at : at + 3] == b"/*/":
+        return "`/*/` only begins a comment: the `*` of its end is another one"
+    return "behind this no `*/` follows"
+
+
+def too_big(data, at, _):
+    end = at
+    while end < len(data) and data[end] in b"0123456789":
+        end += 1
+    digits = data[at:end].decode().lstrip("0")
+    over = f", {int(digits) - LARGEST_NUMBER} less than this" if len(digits) < 30 else ""
+    return f"the largest number is {LARGEST_NUMBER}, 2^63 - 1{over}"
+
+
+def too_deep(_, __, phase):
+    if phase == "plan":
+        return "level 1025, and 1024 may be; in a leaf's task level 65 of 64"
+    return "level 65, and 64 may be"
+
+
+LABELS = {"OpenComment": open_comment, "NumberTooBig": too_big, "TooDeep": too_deep}

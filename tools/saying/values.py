@@ -1,10 +1,12 @@
 """What a race, a memory that is too small, and data that don't fit are made of: places and values."""
+import os
 from math import prod
 
+from plans import read_plan
 from sqfiles.programs import Call, Map
 
 from saying import forms
-from saying.names import Told, maps, served, there
+from saying.names import Told, counted, maps, served, there
 from saying.snippets import span_of
 
 # ---- races
@@ -133,17 +135,58 @@ def wanted(fault, files):
     return f"{param.name.text} {param.elem.text} {''.join(f'[{extent}]' for extent in extents)}", prod(extents)
 
 
+RANGES = {"byte": "0 to 255", "int": "-2147483648 to 2147483647", "long": "-2^63 to 2^63 - 1"}
+
+
 def data(fault, files):
     if not fault.args:
         return Told("the entry has no array that is read; the data are empty")
     head, count = wanted(fault, files)
-    told = Told("", [], [f"wanted: array {head}"])
-    if fault.code == "Short":
-        found = values_before(there(files.data("data")), fault.place, fault.args[0])
-        told.notes.append(f"{fault.args[0]} has {found} of {count} values")
-    elif fault.code == "Extra":
-        told.label = f"{fault.args[0]} has its {count} values" if count != 1 else f"{fault.args[0]} has its value"
+    name, elem, extents = head.split()
+    labels = {
+        "Name": f"`{name}` has to stand here",
+        "Shape": f"`{elem}` and then `{extents}` have to stand behind the name",
+        "Syntax": "no number of digits, with `-` or without",
+        "Range": f"values of {elem} are {RANGES[elem]}",
+        "Extra": f"{name} has its {count} values" if count != 1 else f"{name} has its value",
+    }
+    told = Told(labels.get(fault.code, ""), [], [f"wanted: array {head}"])
+    if fault.code in ("Short", "Syntax"):
+        found = values_before(there(files.data("data")), fault.place, name)
+        told.notes += [f"{name} has {found} of {count} values"] if fault.code == "Short" or found >= 0 else []
     return told
+
+
+def order(fault):
+    labels = {"Syntax": "no number of digits alone", "Range": "at most 4294967295"}
+    return Told(labels[fault.code])
+
+
+MOST_EVENTS = 65536
+
+
+def limit_events(fault, files, plan):
+    """Of a plan that would be written, by its report; of one that is read, by its lines."""
+    if files.command == "exec":
+        count = len(read_plan(there(files.data("plan"))).events)
+        return Told("", [], [f"the file has {count} events, and {MOST_EVENTS} may be"])
+    words = [line.split() for line in there(plan(files, fault)).splitlines()]
+    leaves = next(line[1] for line in words if line[0] == "leaves")
+    edges = [f"{down} bytes down from {upper} to {lower}, and {up} up" for _, upper, lower, _, down, _, up in
+             (line for line in words if line[0] == "edge")]
+    carried = f", and carries {'; '.join(edges)}" if edges else ""
+    many = counted(int(leaves), "leaf call")
+    return Told("", [], [f"more than {MOST_EVENTS} events: the plan has {many}{carried}, row by row"])
+
+
+MOST_BYTES = {"data": 1 << 28, "order": 1 << 28, "plan": 1 << 24}
+
+
+def limit_file(fault, files):
+    most, name = MOST_BYTES.get(fault.phase, 1 << 20), files.name(fault.phase)
+    if name is None:
+        return Told("", [], [f"the text of the plan has more than {most} bytes"])
+    return Told("", [], [f"{name} has {os.path.getsize(name)} bytes, and {most} may be"])
 
 
 def values_before(content, place, name):

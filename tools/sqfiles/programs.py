@@ -155,6 +155,7 @@ class Variant:
     params: List[Param]
     declared: List[Union[Tunable, Local, Blocks]]
     body: list
+    end: Token  # the brace that closes it
 
     def array(self, name):
         """The parameter or local of this name."""
@@ -204,7 +205,7 @@ class ProgramReader(Reader):
         inner = kind.text == "inner"
         declared = self.declarations(inner)
         body = self.statements(self.statement if inner else self.leaf_statement)
-        return Variant(name, kind, params, declared, body)
+        return Variant(name, kind, params, declared, body, self.tokens[self.at - 1])
 
     def param(self):
         mode = self.need(*MODES)

@@ -56,12 +56,13 @@ class Scanner:
     line: int = 1
     begin: int = 0  # of the line
     found: List[Token] = field(default_factory=list)
+    largest: int = LARGEST_FILE
 
     def unread(self, code):
         return Unread(code, self.line, self.at - self.begin + 1)
 
     def run(self):
-        if len(self.data) > LARGEST_FILE:
+        if len(self.data) > self.largest:
             raise Unread("LimitFile")
         while self.at < len(self.data):
             self.step()
@@ -117,9 +118,9 @@ class Scanner:
         self.at += len(text)
 
 
-def tokens(data):
+def tokens(data, largest=LARGEST_FILE):
     """The tokens of the bytes of a file, and one of the kind END behind them."""
-    return Scanner(data).run()
+    return Scanner(data, largest=largest).run()
 
 
 def token_at(data, line, column):
@@ -141,8 +142,10 @@ class Reader:
     """The tokens one after another. Each question that is asked of the next one is kept in `wanted` until it is taken,
     so where none fits, `wanted` has all that may stand there."""
 
+    largest, most_levels = LARGEST_FILE, MOST_LEVELS
+
     def __init__(self, data, reserved=frozenset()):
-        self.tokens, self.at, self.reserved = tokens(data), 0, reserved
+        self.tokens, self.at, self.reserved = tokens(data, self.largest), 0, reserved
         self.wanted, self.levels = {}, 0
 
     @property
@@ -195,7 +198,7 @@ class Reader:
     def open(self, token):
         """A level that this token opens."""
         self.levels += 1
-        if self.levels > MOST_LEVELS:
+        if self.levels > self.most_levels:
             raise Unread("TooDeep", *token.place)
 
     def opens(self, text):

@@ -1,0 +1,23 @@
+#!/usr/bin/env python3
+"""Writes data.txt, and output.txt, which is what the program has to write of it."""
+import random
+
+N, M = 66, 64
+
+
+def array(name, extents, values):
+    """An array as `sq` reads and writes it."""
+    rows = [values[at : at + extents[-1]] for at in range(0, len(values), extents[-1])]
+    head = f"array {name} int " + "".join(f"[{extent}]" for extent in extents)
+    return "\n".join([head, *(" ".join(map(str, row)) for row in rows)]) + "\n"
+
+
+def write(name, text):
+    with open(name, "w") as file:
+        file.write(text)
+
+
+random.seed(1)
+A = [random.randint(-9, 9) for _ in range(N)]
+write("data.txt", array("A", [N], A))
+write("output.txt", array("B", [M], [A[i] + A[i + 1] + A[i + 2] for i in range(M)]))
