@@ -223,7 +223,8 @@ def counted(name, mapping, machine):
     plan = Plan(name, mapping, next(choices(mapping))[1])
     levels = [level.name.text for level in machine.levels]
     needs = [f"{level} need {plan.need[level]}" for level in levels]
-    edges = [f"edge {upper} {lower} down {plan.down[upper]} up {plan.up[upper]}" for upper, lower in zip(levels, levels[1:])]
+    pairs = zip(levels, levels[1:])
+    edges = [f"edge {upper} {lower} down {plan.down[upper]} up {plan.up[upper]}" for upper, lower in pairs]
     return [*needs, *edges, f"leaves {plan.leaves}"]
 
 
@@ -275,7 +276,8 @@ def differences():
             if kind == "table" and sys.argv[1:] == ["write"]:
                 result.write_text(table(name, mapping, machine))
             found = result.read_text() if result.exists() else ""
-            if told_by(found) != counted(name, mapping, machine) if kind == "report" else found != table(name, mapping, machine):
+            count = counted if kind == "report" else table
+            if (told_by(found) if kind == "report" else found) != count(name, mapping, machine):
                 yield f"{result}: not what this counts"
             if kind == "report":
                 rows.append(carried_row(name, stem, mapping, machine))

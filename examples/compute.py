@@ -118,22 +118,20 @@ def gravity(M, R, V):
 
 
 def hmmer(E, T, S):
-    to_match, to_insert, to_delete = T[:3], T[3:5], T[5:]
+    """For each residue and place the best way that ends there in each state, out of those that ended before."""
+    steps = {"M": dict(zip("MID", T[:3])), "I": dict(zip("MI", T[3:5])), "D": dict(zip("MD", T[5:]))}
+
+    def best(before, state, place):
+        return [score + steps[state][old][place] for old, score in before.items() if old in steps[state]]
 
     def score(residues):
-        """The best way that ends with residue i at place k, in each of the three states, from those that ended before."""
-        best, ended = 0, {}
+        ended = {}
         for i, residue in enumerate(residues):
             for k, gain in enumerate(E[residue]):
-                before = ended.get((i - 1, k - 1), {})
-                match = gain + max([0] + [before[state] + step[k] for state, step in zip("MID", to_match) if state in before])
-                insert = [ended[i - 1, k][state] + step[k] for state, step in zip("MI", to_insert)
-                          if state in ended.get((i - 1, k), {})]
-                delete = [ended[i, k - 1][state] + step[k] for state, step in zip("MD", to_delete)
-                          if state in ended.get((i, k - 1), {})]
-                ended[i, k] = {"M": match, **({"I": max(insert)} if insert else {}), **({"D": max(delete)} if delete else {})}
-                best = max(best, match)
-        return best
+                ways = {"M": [gain + way for way in [0] + best(ended.get((i - 1, k - 1), {}), "M", k)],
+                        "I": best(ended.get((i - 1, k), {}), "I", k), "D": best(ended.get((i, k - 1), {}), "D", k)}
+                ended[i, k] = {state: max(some) for state, some in ways.items() if some}
+        return max([0] + [states["M"] for states in ended.values()])
     return {"Z": ("int", [score(row) for row in S])}
 
 

@@ -302,7 +302,7 @@ class Reader:
         return Event("acc", place, within, nodes, Slot(source, at), Slot(to, to_at), size, elem, op)
 
     def run(self, place, within, nodes, groups):
-        leaf, views, path = groups
+        leaf, views, path = groups[0], groups[1].strip(), groups[2]
         if views not in self.views:  # calls of one form have the same ones
             self.views[views] = self.read_views(views)
         return Event("run", place, within, nodes, leaf=int(leaf), views=self.views[views], path=integers(path))
