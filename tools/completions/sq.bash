@@ -38,7 +38,7 @@ _sq_options() {
 # What stands at a place behind a command, counted from 1.
 _sq_at() {
   case $1:$2 in
-    help:1) _sq_words "$3" "check fmt plan eval run demo compile exec tune span build install" ;;
+    help:1) _sq_words "$3" "check fmt plan eval run demo compile exec tune span build library install" ;;
     install:1) _sq_files "$3" ;;
     check:1 | fmt:1 | plan:1 | eval:1 | run:1 | compile:1 | tune:1 | span:1) _sq_files "$3" sq ;;
     plan:2 | eval:2 | run:2 | compile:2 | span:2) _sq_files "$3" map ;;
@@ -55,7 +55,7 @@ _sq() {
   local word=${COMP_WORDS[COMP_CWORD]}
   COMPREPLY=()
   if [ "$COMP_CWORD" -eq 1 ]; then
-    _sq_words "$word" "check fmt plan eval run demo compile exec tune span build install help version"
+    _sq_words "$word" "check fmt plan eval run demo compile exec tune span build library install help version"
     return
   fi
   _sq_at "${COMP_WORDS[1]}" $((COMP_CWORD - 1)) "$word"
