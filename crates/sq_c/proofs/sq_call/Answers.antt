@@ -1,3 +1,4 @@
+use Rattle.std.proofs.Common.{rules}
 use Rattle.sq_call.proofs.Telling.{not_four, not_five, seven_names_none}
 use Rattle.sq_c.proofs.Numbering.{numbered}
 use Rattle.sq_c.proofs.sq_call.Goals as goal
@@ -9,10 +10,10 @@ returns-clause-given c =
       out_text = c.call-said.result.out.items;
       err_text = c.call-said.result.err.items;
       numbered = numbered c.number.ensures (record { says = says.says; only = says.only; demo = says.demo });
-      out_is = c.fill-out_length.ensures.room;
-      err_is = c.fill-err_length.ensures.room;
-      out_length = c.fill-out_length.ensures.length;
-      err_length = c.fill-err_length.ensures.length;
+      out_is = search rules;
+      err_is = search rules;
+      out_length = search rules;
+      err_length = search rules;
     }
 
 pub returns-clause-no_file_fault : goal.returns-clause-no_file_fault
