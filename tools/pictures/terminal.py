@@ -1,4 +1,5 @@
 """The picture as text, for a terminal of 80 columns: the tree of memories, and each memory as a bar of its buffers."""
+from saying.values import lack
 from stays import ENTRY, layouts_of
 from tree import placed_tree
 
@@ -6,6 +7,7 @@ COLUMNS = 80
 NAMES = 9  # columns for the names of levels and nodes
 BAR = COLUMNS - NAMES - 2
 MOST = 6  # memories of a level, and calls of one memory, that are drawn
+OVER = "!"  # what lies behind the end of a memory
 
 
 # ---- the tree
@@ -58,18 +60,34 @@ def scaled(at, capacity):
     return at * BAR // capacity if capacity else 0
 
 
+def cut(pieces, end):
+    """The pieces of a track, of which one that passes the memory's end is two: the text stands in the longer one."""
+    for begin, stop, texts, stroke in pieces:
+        if stop <= end:
+            yield begin, stop, texts, stroke
+        elif begin >= end:
+            yield begin, stop, texts, OVER
+        else:
+            front, behind = (texts, []) if end - begin >= stop - end else ([], texts)
+            yield begin, end, front, stroke
+            yield end, stop, behind, OVER
+
+
 def bar_line(pieces, capacity, end):
     """One track, of (from, to, texts, stroke) in bytes: of the texts the first that fits is shown. `end` is where the
-    memory ends. Behind the line stands whether each piece has its text."""
-    line, told = ["."] * (scaled(end, capacity) + 1), True
-    for begin, stop, texts, stroke in pieces:
+    memory ends; what lies behind it doesn't fit. Behind the line stands whether each piece has its text."""
+    last, mark, told = max([end, *(stop for _, stop, *_ in pieces)]), scaled(end, capacity), True
+    line = ["."] * mark + [" "] * (scaled(last, capacity) + 1 - mark)
+    for begin, stop, texts, stroke in cut(pieces, end):
         left, right = scaled(begin, capacity), scaled(stop, capacity)
         inside = max(right - left - 1, 0)
         shown = next((text for text in texts if len(text) <= inside), "")
-        told &= shown != ""
+        told &= shown != "" or not texts
         line[left:right] = list(("|" + shown.center(inside, stroke))[: right - left])
         line[right] = "|"
-    line[0] = line[-1] = "|"
+    line[0] = line[mark] = line[-1] = "|"
+    if last > end and OVER not in line[mark:]:
+        line[-1] = OVER
     return "".join(line), told
 
 
@@ -90,14 +108,29 @@ def labels(buffer):
     return [f" {buffer.instance} {name} {size} ", f" {name} {size} ", f"{name} {size}", name]
 
 
+def capacity_mark(capacity, widest):
+    """A line below a bar that points to where its memory ends."""
+    column, told = scaled(capacity, widest), f"capacity {capacity}"
+    return f"{told} ^".rjust(column + 1) if len(told) < column else f"{' ' * column}^ {told}"
+
+
+def below_bar(level, memory, ats, widest):
+    """What stands below a bar: its bytes, and of a memory that lacks bytes its capacity and how many these are."""
+    if not level.lacks(memory):
+        return [ruler({0, memory.capacity} | ats, widest)]
+    told = lack(memory.name or level.name, level.need_of(memory), memory.capacity)
+    return [ruler({0, level.reach(memory)} | ats, widest), capacity_mark(memory.capacity, widest), told]
+
+
 def level_bars(report, machine, layouts, level):
     """The bars of a level: for all of its nodes, or in version 2 for each, up to a few."""
     nodes = machine.nodes[level] if machine.version == 2 else machine.nodes[level][:1]
-    widest = max(node.capacity for node in nodes)
+    named = report.levels[level]
+    widest = max(map(named.reach, nodes))
     lines, listed = [], []
     for node in nodes[:MOST]:
-        name = node.name or report.levels[level].name
-        fitting = [layout for layout in layouts if layout.end <= node.capacity]
+        name = node.name or named.name
+        fitting = [layout for layout in layouts if layout.end <= named.reach(node)]
         for layout in fitting[:MOST] or [None]:
             pieces = [(b.offset, b.end, labels(b), "-") for b in layout.buffers] if layout else []
             line, told = bar_line(pieces, widest, node.capacity)
@@ -106,8 +139,8 @@ def level_bars(report, machine, layouts, level):
             name = ""
         if len(fitting) > MOST:
             lines.append(" " * NAMES + f" and {len(fitting) - MOST} more, of other calls")
-        ats = {0, node.capacity} | {b.offset for layout in fitting[:MOST] for b in layout.buffers}
-        lines.append(" " * NAMES + ruler(ats, widest))
+        ats = {b.offset for layout in fitting[:MOST] for b in layout.buffers}
+        lines += [" " * NAMES + line for line in below_bar(named, node, ats, widest)]
     if len(nodes) > MOST:
         lines.append(" " * NAMES + f" and {len(nodes) - MOST} more memories")
     lines += [f"{' ' * NAMES} byte {b.offset}: {b.instance} {b.array}, {b.size} bytes" for b in listed]
@@ -175,15 +208,29 @@ def notes(report):
     return lines
 
 
-def picture(report, machine, mapping, tracker=None, number=None):
+def memories(report, machine, mapping):
     lines = tree(report, machine)
     for level, layouts in enumerate(layouts_of(report, mapping)):
         lines += [""] + level_bars(report, machine, layouts, level)
-    lines.append("")
+    return lines
+
+
+def finished(lines):
+    return "\n".join(line.rstrip() for line in lines) + "\n"
+
+
+def picture(report, machine, mapping, tracker=None, number=None):
+    lines = memories(report, machine, mapping) + [""]
     for edge in report.edges:
         lines.append(f"{edge.upper.ljust(NAMES)}{edge.down} bytes down to {edge.lower}, {edge.up} up")
     lines.append(f"{''.ljust(NAMES)}{report.leaves} leaf call{'' if report.leaves == 1 else 's'}")
     lines += notes(report)
     if tracker and number is not None:
         lines += [""] + event_bars(report, machine, tracker, number)
-    return "\n".join(line.rstrip() for line in lines) + "\n"
+    return finished(lines)
+
+
+def lacking(line, report, machine, mapping):
+    """Of a program that is refused with this line the memories that are too small, by the report of a machine with room."""
+    told = f"The buffers of its plan on a machine with more room; {OVER} is what doesn't fit:"
+    return finished([line, "", told, "", *memories(report, machine, mapping)])

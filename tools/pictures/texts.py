@@ -1,7 +1,7 @@
 """Reads what sq writes: reports, traces and tables of choices. docs/FORMATS.md has their lines."""
 import re
 from dataclasses import dataclass, field
-from functools import lru_cache
+from functools import cached_property, lru_cache
 from typing import List, Optional
 
 WIDTHS = {"byte": 1, "int": 4, "long": 8}
@@ -25,6 +25,21 @@ class Level:
 
     def node_name(self, index):
         return self.name if self.nodes == 1 else f"{self.name} {index}"
+
+    @cached_property
+    def needs(self):
+        return {name: need for name, _, need in self.own}
+
+    def need_of(self, memory):
+        """What a memory of the level needs: a named one its own bytes, others those of the level."""
+        return self.needs.get(memory.name, self.need)
+
+    def lacks(self, memory):
+        return self.need_of(memory) > memory.capacity
+
+    def reach(self, memory):
+        """The byte up to which a memory is drawn: its capacity, or its need where that is more."""
+        return max(memory.capacity, self.need_of(memory))
 
 
 @dataclass
@@ -66,6 +81,12 @@ class Report:
     edges: List[Edge] = field(default_factory=list)
     leaves: int = 0
     layouts: Optional[list] = None  # by level, of a plan file, which names the buffers that stand together
+
+    def lacking(self, machine):
+        """The memories that need more than the machine has, each with its name; of levels whose memories are alike one."""
+        for level, memories in zip(self.levels, machine.nodes):
+            shown = memories if machine.version == 2 else memories[:1]
+            yield from ((memory.name or level.name, level.need_of(memory), memory) for memory in shown if level.lacks(memory))
 
     def loops(self):
         """The notes, each once: a report has a line for each form of the calling instance."""

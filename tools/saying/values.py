@@ -116,9 +116,13 @@ def capacity(fault, files, plan):
     stack = stack_of(buffers_of(report, level_of(machine, name)), need) if report else []
     largest = sorted(reversed(stack), key=lambda buffer: -buffer[2])
     sum_ = ", ".join(f"{instance} {array} {size}" for _, _, size, instance, array in largest)
-    lacks = f"{need - has} byte{'s' if need - has > 1 else ''}"
-    told.notes.append(f"{name} lacks {lacks}" + (f": {sum_} = {need} of {has}" if stack else f": {need} of {has}"))
+    told.notes.append(lack(name, need, has, f"{sum_} = " if stack else ""))
     return told
+
+
+def lack(name, need, has, sum_=""):
+    """That a memory is too small, in words."""
+    return f"{name} lacks {need - has} byte{'s' if need - has > 1 else ''}: {sum_}{need} of {has}"
 
 
 # ---- data
