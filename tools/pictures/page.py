@@ -8,6 +8,7 @@ from dataclasses import dataclass, field
 from html import escape
 from typing import Any, Dict, List, Optional
 
+from saying.values import lack
 from sources import Machine, Mapping, Variant
 from stays import ENTRY, layouts_of
 from sums import traffic
@@ -71,14 +72,13 @@ def tree_box(cell, middle, level, picture):
     if cell.more:
         return f'<text class="more" x="{middle}" y="{top + TALL // 2}">and {cell.more} more</text>'
     node, told = cell.nodes[0], picture.report.levels[level]
-    own = {name: need for name, _, need in told.own}
-    need = own.get(node.name, told.need)
+    need = told.need_of(node)
     name = node_name(picture, node) if len(cell.nodes) == 1 else f"{len(cell.nodes)} x {told.name}"
     key = f"{level}.{node.index}" if len(cell.nodes) == 1 else ""
     gauge = BOX - 12
     filled = gauge * need // node.capacity if node.capacity else 0
     return (
-        f'<g class="memory" data-node="{key}"><title>{escape(name)}: {plural(node.capacity, "byte")}'
+        f'<g class="memory{" lacks" if told.lacks(node) else ""}" data-node="{key}"><title>{escape(name)}: {plural(node.capacity, "byte")}'
         f'{" each" if len(cell.nodes) > 1 else ""}, need {need:,}</title>'
         f'<rect class="box" x="{left}" y="{top}" width="{BOX}" height="{TALL}" rx="3"/>'
         f'<text class="name" x="{middle}" y="{top + 15}">{escape(name)}</text>'
@@ -127,29 +127,47 @@ def share(count, whole):
     return f"{100 * count / whole if whole else 0:.3f}%"
 
 
-def buffer_box(buffer, capacity, calls):
+def buffer_box(buffer, node, reach, calls):
+    """The box of a buffer; what of it lies behind the end of its memory is marked."""
     several = f", of {calls} calls" if calls > 1 else ""
     told = f"{buffer.instance} {buffer.array}: bytes {buffer.offset:,} to {buffer.end - 1:,}{several}"
-    where = f"left:{share(buffer.offset, capacity)};width:{share(buffer.size, capacity)}"
+    where = f"left:{share(buffer.offset, reach)};width:{share(buffer.size, reach)}"
     text = f"<b>{escape(buffer.instance)} {escape(buffer.array)}</b> {buffer.size:,}"
     data = f'data-offset="{buffer.offset}" data-size="{buffer.size}"'
-    return f'<span class="buffer" style="{where}" title="{escape(told)}" {data}>{text}</span>'
+    kind, over = "buffer", min(buffer.end - node.capacity, buffer.size)
+    if over > 0:
+        kind, text = "buffer over", f'<i class="past" style="width:{share(over, buffer.size)}"></i>{text}'
+        told += f", {over:,} behind the end of the memory"
+    return f'<span class="{kind}" style="{where}" title="{escape(told)}" {data}>{text}</span>'
 
 
-def plan_bar(node, layouts, name, widest):
+def plan_bar(node, level, layouts, name, widest):
     """A row for each layout of buffers that a call has at the node."""
-    fitting = [layout for layout in layouts if layout.end <= node.capacity]
+    reach, lacks = level.reach(node), level.lacks(node)
+    fitting = [layout for layout in layouts if layout.end <= reach]
+    room = f'<span class="room" style="width:{share(node.capacity, reach)}"></span>' if lacks else ""
     rows = []
     for layout in fitting[:MOST_ROWS]:
-        boxes = "".join(buffer_box(buffer, node.capacity, layout.calls) for buffer in layout.buffers)
-        rows.append(f'<div class="track">{boxes}</div>')
+        boxes = "".join(buffer_box(buffer, node, reach, layout.calls) for buffer in layout.buffers)
+        rows.append(f'<div class="track">{room}{boxes}</div>')
     more = f'<p class="more">and {plural(len(fitting) - MOST_ROWS, "more row")}, of other calls</p>'
-    marks = {0, node.capacity} | {buffer.offset for layout in fitting[:MOST_ROWS] for buffer in layout.buffers}
-    kept = thin(sorted(marks), node.capacity)
-    ticks = "".join(f'<span style="left:{share(at, node.capacity)}">{at:,}</span>' for at in kept)
-    bar = "".join(rows) or '<div class="track"></div>'
-    bar = f'<div class="bar" style="width:{share(node.capacity, widest)}">{bar}<div class="ticks">{ticks}</div></div>'
-    return f'<div class="node"><b>{escape(name)}</b><div>{bar}{more if len(fitting) > MOST_ROWS else ""}</div></div>'
+    marks = {0, reach} | {buffer.offset for layout in fitting[:MOST_ROWS] for buffer in layout.buffers}
+    kept = thin(sorted(marks), reach)
+    ticks = "".join(f'<span style="left:{share(at, reach)}">{at:,}</span>' for at in kept)
+    bar = "".join(rows) or f'<div class="track">{room}</div>'
+    kind, mark = ("bar lacks", capacity_mark(node, reach)) if lacks else ("bar", "")
+    bar = f'<div class="{kind}" style="width:{share(reach, widest)}">{mark}{bar}<div class="ticks">{ticks}</div></div>'
+    told = escape(lack(node.name or level.name, level.need_of(node), node.capacity)) if lacks else ""
+    told = told and f'<p class="lack">{told}</p>'
+    more = more if len(fitting) > MOST_ROWS else ""
+    return f'<div class="node"><b>{escape(name)}</b><div>{bar}{told}{more}</div></div>'
+
+
+def capacity_mark(node, reach):
+    """A line across a bar where its memory ends, with its number beside it where there is room."""
+    side = "left" if 2 * node.capacity > reach else "right"
+    where = f'style="left:{share(node.capacity, reach)}" data-capacity="{node.capacity}"'
+    return f'<span class="capacity {side}" {where}><b>capacity {node.capacity:,}</b></span>'
 
 
 def thin(marks, capacity):
@@ -167,9 +185,9 @@ def plan_bars(picture):
         told, nodes = picture.report.levels[level], picture.machine.nodes[level]
         named = picture.machine.version == 2
         shown = nodes[:MOST_BARS] if named else nodes[:1]
-        widest = max(node.capacity for node in nodes)
+        widest = max(map(told.reach, nodes))
         alike = "" if named or told.nodes == 1 else f", each of {told.nodes:,}"
-        parts += [plan_bar(node, layouts, node.name or told.name + alike, widest) for node in shown]
+        parts += [plan_bar(node, told, layouts, node.name or told.name + alike, widest) for node in shown]
         if len(shown) < len(nodes) and named:
             parts.append(f'<p class="more">and {plural(len(nodes) - len(shown), "more memory", "more memories")}</p>')
     return "".join(parts)
@@ -218,12 +236,13 @@ def column_at(line, column):
 # ---- refusals and traps
 
 
-def say(line, words):
-    """What tools/say adds to a refusal or a trap: its place, its cause and its cure."""
+def say(line, words, report=None):
+    """What tools/say adds to a refusal or a trap: its place, its cause and its cure; `report` is that of the plan of a
+    program whose memories are too small."""
     loader = importlib.machinery.SourceFileLoader("say", os.path.join(os.path.dirname(HERE), "say"))
     module = importlib.util.module_from_spec(importlib.util.spec_from_loader("say", loader))
     loader.exec_module(module)
-    return module.say(line, words) or ""
+    return module.say(line, words, lambda files, fault: report) or ""
 
 
 def place_in(line):
@@ -235,8 +254,8 @@ def place_in(line):
     return ("trap", (int(match.group(1)), int(match.group(2)))) if match else ("", None)
 
 
-def stopped(line, names, command="run"):
-    told = say(line, [command, *names])
+def stopped(line, names, command="run", report=None):
+    told = say(line, [command, *names], report)
     return f'<section class="stopped" id="stopped"><h2><code>{escape(line)}</code></h2><pre>{escape(told)}</pre></section>'
 
 
@@ -418,6 +437,39 @@ def sources(picture):
     return f"Program {picture.names[0]}, mapping {picture.names[1]}, machine {picture.names[2]}"
 
 
+def memories(picture):
+    return (
+        '<section id="memories"><h2>The memories</h2>'
+        "<p>Each box is one memory: the bytes that it needs, of the bytes that it has.</p>"
+        f"{tree(picture)}</section>"
+    )
+
+
+def lacking(picture, report):
+    """The page of a program whose memories are too small: its buffers by the report of a machine with more room."""
+    title = f"{picture.names[0]} on {picture.names[2]}"
+    told = "; ".join(lack(name, need, memory.capacity) for name, need, memory in picture.report.lacking(picture.machine))
+    body = (
+        f"<header><h1>{escape(title)}</h1><p>has no plan: <b>{escape(told)}</b>.</p></header>",
+        stopped(picture.refused, picture.names, "plan", report),
+        memories(picture),
+        '<section id="plan"><h2>Where buffers would lie</h2>',
+        "<p>Each bar is the bytes of one memory, from byte 0 on. Its rows have the buffers of calls, by the plan on a "
+        "machine with more room. A memory that is too small ends at the line with its capacity; what lies behind that doesn't "
+        "fit.</p>",
+        f"{plan_bars(picture)}</section>",
+        source_texts(picture),
+    )
+    return fill_in(f"{title}: {picture.refused}", "".join(body), "null", "")
+
+
+def source_texts(picture):
+    return "".join(
+        f"<details><summary>The {kind}</summary><pre>{escape(text)}</pre></details>"
+        for kind, text in zip(("program", "mapping", "machine"), picture.files)
+    )
+
+
 def page(picture):
     owner = "scope" if picture.filed else "call"
     title = picture.names[0] if picture.filed else f"{picture.names[0]} on {picture.names[2]}"
@@ -430,10 +482,8 @@ def page(picture):
         "Below: the memories of the machine, what the plan needs of them and where its buffers lie",
         ", and what happens when, event by event.</p></header>" if picture.runs else ".</p></header>",
         stopped(stopped_line, picture.names, command) if stopped_line else "",
-        '<section id="memories"><h2>The memories</h2>',
-        "<p>Each box is one memory: the bytes that it needs, of the bytes that it has.</p>",
-        tree(picture),
-        '</section><div class="two"><div><section id="plan"><h2>Where buffers lie</h2>',
+        memories(picture),
+        '<div class="two"><div><section id="plan"><h2>Where buffers lie</h2>',
         f"<p>Each bar is the bytes of one memory, from byte 0 to its capacity. A row has the buffers of one {owner}; those of",
         f" {owner}s at different times may lie over one another.",
         " A memory has the rows that fit into it.</p>" if picture.machine.version == 2 else "</p>",

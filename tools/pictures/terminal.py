@@ -231,6 +231,6 @@ def picture(report, machine, mapping, tracker=None, number=None):
 
 
 def lacking(line, report, machine, mapping):
-    """Of a program that is refused with this line the memories that are too small, by the report of a machine with room."""
+    """The memories of a program that is refused with this line, by the report of a machine with room."""
     told = f"The buffers of its plan on a machine with more room; {OVER} is what doesn't fit:"
     return finished([line, "", told, "", *memories(report, machine, mapping)])

@@ -83,10 +83,11 @@ class Report:
     layouts: Optional[list] = None  # by level, of a plan file, which names the buffers that stand together
 
     def lacking(self, machine):
-        """The memories that need more than the machine has, each with its name; of levels whose memories are alike one."""
+        """The memories that need more than they have, with their names and needs; of a level of version 1 one."""
         for level, memories in zip(self.levels, machine.nodes):
             shown = memories if machine.version == 2 else memories[:1]
-            yield from ((memory.name or level.name, level.need_of(memory), memory) for memory in shown if level.lacks(memory))
+            for memory in filter(level.lacks, shown):
+                yield memory.name or level.name, level.need_of(memory), memory
 
     def loops(self):
         """The notes, each once: a report has a line for each form of the calling instance."""
