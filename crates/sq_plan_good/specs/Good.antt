@@ -69,7 +69,8 @@ EndsAsMeant r p = (a : Arrays) (m : Bytes) → IsInput r p a m
 -- and what is given back, in the order of the source.
 abbrev pub IsWrittenOut : Resolved → List Choice → Plan → Type 0
 IsWrittenOut r choices p = tree_of p
-    ≡ plan_tree (setting_of p) (entry_placed (body_in (bodies_of r)) (homes_in (homes_of r choices)) (length (bodies_of r)) (args_of r))
+    ≡ plan_tree (setting_of p)
+    (entry_placed (body_in (bodies_of r)) (homes_in (homes_of r choices)) (length (bodies_of r)) (args_of r))
     (shapes_in r) p.draft.entry
 
 -- ---- its leaf calls
@@ -91,8 +92,8 @@ LeavesAreAtHome r choices p = AllEvents
 -- ---- the whole
 
 -- The plan of a program under these choices, which may be chosen, in these memories: it is well formed, its unordered
--- events are independent, its live buffers have room in each state, and its run ends as the program means; its events are
--- those of the placed source.
+-- events are independent, its live buffers have room in each state, and its run ends as the program means; its events
+-- are those of the placed source.
 pub record IsGoodFor (r : Resolved) (choices : List Choice) (nodes : List PlanNode) (p : Plan) : Type 0 where
   pub may : MayBeChosen r choices
   pub draft_ : IsDraftOf r choices p.draft

@@ -5,7 +5,6 @@ pub mod Rows
 pub mod Terms
 pub mod Lines
 pub mod Plans
-pub mod Bare
 pub mod Places
 pub mod Worths
 pub mod Moved

@@ -24,7 +24,7 @@ use Rattle.sq_ast.specs.declared.program.Body.{Body}
 use Rattle.sq_ast.specs.declared.program.Body.TheVariants as body
 use Rattle.sq_ast.specs.declared.program.Variant.{Variant}
 use Rattle.sq_ast.specs.Unplaced.{nowhere, bare_word, bare_expr, bare_use, bare_link, bare_leaf, bare_param, bare_decl, bare_body, bare_variant}
-use Rattle.sq_written_laws.proofs.Bare.{bare_number, bare_name, bare_element, bare_len, bare_unary, bare_chain, bare_least, bare_most, use_is, link_is, bare_assign, bare_if, bare_for}
+use Rattle.sq_ast.proofs.Bare.{bare_number, bare_name, bare_element, bare_len, bare_unary, bare_chain, bare_least, bare_most, use_is, link_is, bare_assign, bare_if, bare_for}
 use Rattle.sq_blocks.specs.Names.{Numbers}
 use Rattle.sq_leaf.specs.declared.shape.Shape.{Shape}
 use Rattle.sq_leaf.specs.declared.trap.Trap.{Trap}

@@ -27,7 +27,7 @@ use Rattle.sq_blocks.proofs.Opened.{worth_number, worth_name, worth_len, worth_e
 use Rattle.sq_leaf.specs.Leaf.{local_flags, written_of}
 use Rattle.sq_ir.specs.Events.{Shape}
 use Rattle.sq_ir.specs.DraftLeaves.{extent_of, param_shape, nat_worth, local_shapes, shapes_of}
-use Rattle.sq_written_laws.proofs.Bare.{bare_number, bare_name, bare_element, bare_len, bare_unary, bare_chain, bare_least, bare_most, link_is}
+use Rattle.sq_ast.proofs.Bare.{bare_number, bare_name, bare_element, bare_len, bare_unary, bare_chain, bare_least, bare_most, link_is}
 
 -- ---- constants
 

@@ -19,4 +19,5 @@ EndAlike (Err t) (Err u) = t.kind ≡ u.kind
 abbrev pub LeavesMeanTheSame : Type 0
 LeavesMeanTheSame =
     (v u : Variant) → bare_variant v ≡ bare_variant u → (numbers : Numbers) (shapes : List Shape) (a : Arrays)
-    → EndAlike (leaf_value (record { variant = v; numbers = numbers }) shapes a) (leaf_value (record { variant = u; numbers = numbers }) shapes a)
+    → EndAlike (leaf_value (record { variant = v; numbers = numbers }) shapes a)
+    (leaf_value (record { variant = u; numbers = numbers }) shapes a)
