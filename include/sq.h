@@ -8,7 +8,8 @@
 
    As much of each text as there is room for goes to its room, and `lengths` gets how long both are, also where a room
    was smaller: then call again with more room. Nothing is kept from one call to the next, what is handed in is only
-   read, and calls may run in several threads at the same time. A call needs 1 MiB of stack, and memory by `malloc`.
+   read, and calls may run in several threads at the same time. A call needs memory by `malloc`, and 1 MiB of stack, or
+   3 MiB where it reads a plan file whose brackets stand 1,024 deep; main threads have 8 MiB, others what they are given.
 
    The caller owes what no call can check: `at` is never null, not even where `len` is 0; no room is null, nor is
    `lengths`; rooms and `lengths` overlap each other nowhere, and nothing that is handed in; and no call is made from a

@@ -8,7 +8,7 @@
 
 A file is a text (`str` or `bytes`) or a path (`pathlib.Path` and its like). What sq refuses is raised as `Refused`, a
 trap of the program as `Trapped`, want of memory as `MemoryError`. Calls keep nothing, and may run in several threads at
-the same time.
+the same time; a thread whose stack was made small (`threading.stack_size`) needs 3 MiB of it for the deepest plan file.
 
 It takes the library that `./sq library` makes: beside this module, in `lib/` of the repository, or where the environment
 names it as SQ_LIBRARY.

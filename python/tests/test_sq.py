@@ -279,6 +279,21 @@ class ManyCalls(unittest.TestCase):
             self.assertEqual(sq.call(words, files).status, 1)
         self.assertLess(self.resident() - before, 1 << 20)
 
+    def test_the_deepest_plan_file_in_a_small_thread(self):
+        event = "seq { par { " * 512 + "fill 0+0 int 1 9;\n" + " }" * 1024
+        plan = "plan 1;\nnode 0 4 0 0;\nbuffer 0 0 4 top A;\narray inout int A [1] 0;\n" + event + "\n"
+        said = []
+        usual = threading.stack_size(3 << 20)
+        try:
+            words = ["exec", "p", "d"]
+            files = {"p": plan.encode(), "d": b"array A int [1]\n0\n"}
+            thread = threading.Thread(target=lambda: said.append(sq.call(words, files)))
+            thread.start()
+            thread.join()
+        finally:
+            threading.stack_size(usual)
+        self.assertEqual(said, [sq.Said(0, b"array A int [1]\n9\n", b"")])
+
     def test_eight_threads_at_once(self):
         folders = [folder for folder in programs() if (folder / "output.txt").exists()][:8]
         wrong = []
