@@ -21,8 +21,8 @@ use Rattle.sq_root.specs.declared.place.Place.{Place}
 use Rattle.sq_root.specs.Flagged.{flagged}
 use Rattle.sq_root.specs.Places.{parts, Fits}
 use Rattle.sq_compile.specs.Compiled.{IsPlanOf}
-use Rattle.sq_meant.specs.Laws.{HasPlaces, PlacesFit}
-use Rattle.sq_meant.specs.Places.{shapes_of, place_of as shape_place, places_in}
+use Rattle.sq_compiled_laws.specs.Meant.Laws.{HasPlaces, PlacesFit}
+use Rattle.sq_compiled_laws.specs.Meant.Places.{shapes_of, place_of as shape_place, places_in}
 use Rattle.sq_ir.specs.Plans.{node_at}
 use Rattle.sq_planfile.specs.File.{entry_arrays}
 use Rattle.sq_planfile.specs.declared.entry.EntryArray.{EntryArray}

@@ -2,6 +2,7 @@ pub mod Accepted
 pub mod Answering
 pub mod CapacityPhase
 pub mod CheckEnds
+pub mod CompiledFiles
 pub mod CostPhase
 pub mod DataPhase
 pub mod Datas

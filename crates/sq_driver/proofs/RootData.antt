@@ -17,7 +17,7 @@ use Rattle.sq_flat.specs.Held.{Stored, zero_bytes}
 use Rattle.sq_root.specs.declared.place.Place.{Place}
 use Rattle.sq_root.specs.Flagged.{flagged}
 use Rattle.sq_root.specs.Places.{part, parts, IsWithin, IsClear, IsOutside, Fits}
-use Rattle.sq_meant.specs.Places.{places_in}
+use Rattle.sq_compiled_laws.specs.Meant.Places.{places_in}
 use Rattle.sq_driver.specs.Entry.{params_of}
 use Rattle.sq_driver.specs.Givens.{Given, Extents, read_wants}
 use Rattle.sq_driver.specs.Picking.{picked, unpicked, IsFilled, AreGiven}

@@ -26,8 +26,8 @@ use Rattle.sq_root.specs.Flagged.{flagged}
 use Rattle.sq_root.specs.Places.{parts, Fits, IsOutside}
 use Rattle.sq_compile.specs.Capacity.{NoneLacks}
 use Rattle.sq_compile.specs.Compiled.{IsPlanOf}
-use Rattle.sq_meant.specs.Ends.{EndsOnBank}
-use Rattle.sq_meant.specs.Places.{shapes_of, places_of as shape_places}
+use Rattle.sq_compiled_laws.specs.Meant.Ends.{EndsOnBank}
+use Rattle.sq_compiled_laws.specs.Meant.Places.{shapes_of, places_of as shape_places}
 use Rattle.sq_planfile.specs.File.{PlanFile, entry_arrays}
 use Rattle.sq_planfile.specs.declared.entry.EntryArray.{EntryArray}
 use Rattle.sq_launch.specs.Arrays.{wants_of, read_places, root_text}

@@ -4,6 +4,7 @@ use Rattle.sq_port.specs.Ports.{Content}
 use Rattle.sq_text.specs.declared.code.Phase.TheVariants.{Program, Types, Machine, Mapping, Resolve, Race}
 use Rattle.sq_text.specs.declared.fault.Fault.{Fault}
 use Rattle.sq_ast.specs.declared.program.Program.{Program as Tree}
+use Rattle.sq_ast.specs.Given.{IsGiven}
 use Rattle.sq_machfile.specs.Machines.{Hierarchy}
 use Rattle.sq_mapping.specs.declared.mapping.Mapping.{Mapping as Mapped}
 use Rattle.sq_forms.specs.Forms.{IsFirstMet}
@@ -13,6 +14,7 @@ use Rattle.sq_forms.specs.declared.form.Use.{Use}
 use Rattle.sq_spec.specs.declared.resolved.Resolved.{Resolved}
 use Rattle.sq_race.specs.declared.forms.Found.{Found}
 use Rattle.sq_race.specs.Race.{variant_by, maps_by, HoldsIn, HoldsAt, IsFirstRace}
+use Rattle.sq_race.proofs.FirstInText.{first_in_text}
 use Rattle.sq_tree.specs.Bank.{BankSeen}
 use Rattle.sq_driver.specs.declared.outside.end.End.{End}
 use Rattle.sq_driver.specs.declared.outside.end.End.TheVariants.{Usage, Absent, FileFault, Refused, Trapped, NoMemory, SinkFault}
@@ -22,7 +24,7 @@ use Rattle.sq_driver.specs.Phases.{Inputs, inputs_of, IsTold}
 use Rattle.sq_driver.specs.Holding.{Holds}
 use Rattle.sq_driver.specs.Programs.{IsProgramText, IsFirstTypeFault}
 use Rattle.sq_driver.specs.Sources.{IsMachineText, IsFirstMachineFault, IsMappingText, IsFirstMappingFault, IsFirstOfMapping, Sources}
-use Rattle.sq_driver.specs.Races.{IsResolved, IsFirstRaceFault}
+use Rattle.sq_driver.specs.Races.{IsResolved, IsFirstRaceFault, IsFirstTextRace}
 use Rattle.sq_driver.specs.Faults.{IsFirstOfMappings, IsFirstOf}
 use Rattle.sq_driver.specs.Meaning.{Passed, AllPassed}
 use Rattle.sq_driver.specs.Steps.{ReadsTree, Stopped}
@@ -221,6 +223,15 @@ module _ (its : Command) (begun : ReadsSources its.kind) (p m k : List ℕ) (tol
       five c is = let before = four c is
           in (before.0, (before.1.0, (before.1.1.0, (before.1.1.1.0, (resolve_passed c is, tt)))))
 
+      -- the first race by its numbers is the first in the text
+      in_the_text : (c : Content) → told ≡ Some c → (g : Fault) → IsFirstRaceFault r g → IsFirstTextRace r g
+      in_the_text c is g first =
+          let holds = (held.machine.program.held c is).one.holds in
+          let text = holds.2 in
+          let given : IsGiven r.typed.now = subst IsGiven (sym are.tree_is)
+          (record { text = holds.0; tokens = text.tokens; read = text.are; stand = text.stand }) in
+          record { race = first.race; first = first_in_text r given first.race first.first; is = first.is }
+
       pub race_stops : (bank : BankSeen) (f : Fault) → IsFirstRaceFault r f
           → Stopped (command_with its p m k) told bank bank (Refused f)
       race_stops bank f first = phase_stops (command_with its p m k) told Race (λ c f. IsFirstRaceFault r f) bank bank
@@ -232,7 +243,7 @@ module _ (its : Command) (begun : ReadsSources its.kind) (p m k : List ℕ) (tol
             split = begun.split;
             passed = five c (one c is);
           })
-          (λ c is g first. record { sources = sources c is; forms = r; are = are; first = first }) refl
+          (λ c is g first. record { sources = sources c is; forms = r; are = are; first = in_the_text c is g first }) refl
           (λ closed. refl) (Refused f) (λ c is. first)
 
       module _ (none : IsFirstRace r None) where
@@ -253,8 +264,9 @@ module _ (its : Command) (begun : ReadsSources its.kind) (p m k : List ℕ) (tol
         race_passed : (c : Content) → told ≡ Some c → Passed (command_with its p m k) c Race
         race_passed c is = record {
           there = no_file_there c;
-          no_fault = λ f first. no_race c is first.sources first.forms first.are first.first.first.form
-              first.first.first.round first.first.first.found first.first.first.holds;
+          no_fault = λ f met.
+              let its = met.first.first in
+              no_race c is met.sources met.forms met.are its.form its.round its.found its.holds;
         }
 
         pub six : (c : Content) → told ≡ Some c → AllPassed (command_with its p m k) c

@@ -2,6 +2,7 @@ pub mod Banks
 pub mod Capacity
 pub mod Choosing
 pub mod Chosen
+pub mod CompiledFiles
 pub mod Costing
 pub mod Data
 pub mod DemoRuns

@@ -13,6 +13,7 @@ use Rattle.sq_spec.specs.Works.{found_in}
 use Rattle.sq_spec.specs.declared.resolved.Resolved.{Resolved}
 use Rattle.sq_race.specs.declared.race.Race.{Race}
 use Rattle.sq_race.specs.Race.{IsFirst}
+use Rattle.sq_race.specs.TextOrder.{IsFirstInText}
 use Rattle.sq_driver.specs.Phases.{Inputs}
 use Rattle.sq_driver.specs.Sources.{Sources}
 
@@ -44,9 +45,16 @@ pub record IsFirstRaceFault (forms : Resolved) (its : Fault) : Type 0 where
   pub first : IsFirst forms race
   pub is : its ≡ race_fault race
 
--- of the races of the program's forms the first has it
+-- The race that stands first in the text has it: by form, then by where the map stands, then by the iterations round
+-- the map, then by the later access, and then by the earlier one.
+pub record IsFirstTextRace (forms : Resolved) (its : Fault) : Type 0 where
+  pub race : Race
+  pub first : IsFirstInText forms race
+  pub is : its ≡ race_fault race
+
+-- of the races of the program's forms the first in the text has it
 pub record IsFirstOfRace (inputs : Inputs) (its : Fault) : Type 0 where
   pub sources : Sources inputs
   pub forms : Resolved
   pub are : IsResolved sources.tree sources.hierarchy sources.mapped forms
-  pub first : IsFirstRaceFault forms its
+  pub first : IsFirstTextRace forms its

@@ -5,7 +5,7 @@ use Rattle.sq_ast.specs.Modes.{is_read}
 use Rattle.sq_ir.specs.declared.plan.Plan.{Plan}
 use Rattle.sq_spec.specs.Works.{param_shapes}
 use Rattle.sq_root.specs.declared.place.Place.{Place}
-use Rattle.sq_meant.specs.Places.{places_of}
+use Rattle.sq_compiled_laws.specs.Meant.Places.{places_of}
 
 -- the arrays of these parameters, with these extents
 abbrev pub places_for : Plan → List Param → List (List ℕ) → List Place

@@ -8,7 +8,7 @@ use Rattle.sq_root.specs.PlaceLaws.{FlaggedParts, FlaggedFit, OthersAreClear}
 use Rattle.sq_spec.specs.Entry.{IsEntry}
 use Rattle.sq_spec.specs.declared.resolved.Resolved.{Resolved}
 use Rattle.sq_compile.specs.Capacity.{LacksAreOne}
-use Rattle.sq_meant.specs.Laws.{PlacesFit, InputsAreHeld, RunsEndAsMeant}
+use Rattle.sq_compiled_laws.specs.Meant.Laws.{PlacesFit, InputsAreHeld, RunsEndAsMeant}
 use Rattle.sq_launch.specs.Starts.{BanksHaveRoom, RootsAreTexts, StartsAreOne}
 
 pub record RootLaws : Type 0 where

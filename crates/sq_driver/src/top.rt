@@ -2,6 +2,7 @@
 ghost use Rattle.std.specs.Prelude.{◌≡◌, ◌≢◌, ◌⊎◌, ◌≤◌, Some, None};
 ghost use Rattle.sq_port.specs.Ports.{Rose};
 ghost use Rattle.sq_words.specs.Words.{command_of, texts};
+ghost use Rattle.sq_driver.specs.CompiledFiles.{CompiledAreRead};
 ghost use Rattle.sq_driver.specs.Ends.{ending, FileCauses};
 ghost use Rattle.sq_driver.specs.Meaning.{Answer};
 ghost use Rattle.sq_driver.specs.Banks.{Writing};
@@ -13,6 +14,7 @@ use crate::outside::end::{End, put_end};
 use crate::outside::status::Status;
 use crate::outside::world::{Perform, World};
 use sq_compile::laws::plans_are_one;
+use sq_compiled_laws::laws::compiled_files_are_read_again;
 use sq_demo_laws::laws::the_demo_is_accepted;
 use sq_port::{Failed, Files, Sink};
 use sq_tree::Bank;
@@ -94,9 +96,13 @@ pub fn sq_top<F: Files, S: Sink, E: Sink, B: Bank>(
 
     // A program has one plan: what `run` performs is what `plan` reports.
     ensures one_plan { PlanIsOne }
+
+    // What `compile` writes `exec` accepts, and it runs as the program, but for the place of a trap.
+    ensures compiled { CompiledAreRead }
 {
     the_demo_is_accepted();
     plans_are_one();
+    compiled_files_are_read_again();
     let ended = execute(alloc, words, files, out, err, bank);
     finish(ended, err)
 }

@@ -48,7 +48,7 @@ code_alike l k same numbers xs =
     (leaf_alike (written_of l.variant) (map shape_in xs) (leaf_value l shapes (arrays_of xs)) (leaf_value (record { variant = k.variant; numbers = l.numbers }) shapes (arrays_of xs))
     (leaves_mean l.variant k.variant same l.numbers shapes (arrays_of xs))))
 
-flags_at : (ls ks : List Leaf) → AreMoved ls ks → (code : ℕ)
+pub flags_at : (ls ks : List Leaf) → AreMoved ls ks → (code : ℕ)
     → option_map_or (λ (l : LeafSource). written_of l.variant) (option_map (λ (l : Leaf). l.code) (slice_get ls code)) []
     ≡ option_map_or (λ (l : LeafSource). written_of l.variant) (option_map (λ (l : Leaf). l.code) (slice_get ks code)) []
 flags_at [] [] h code = refl

@@ -32,7 +32,7 @@ use Rattle.sq_ast.proofs.Bare.{bare_number, bare_name, bare_element, bare_len, b
 -- ---- constants
 
 -- the same number, or faults of one kind
-abbrev Alike : Result ℤ Bad → Result ℤ Bad → Type 0
+abbrev pub Alike : Result ℤ Bad → Result ℤ Bad → Type 0
 Alike (Ok x) (Ok y) = x ≡ y
 Alike (Ok x) (Err c) = ⊥
 Alike (Err b) (Ok y) = ⊥
@@ -133,7 +133,8 @@ link_same y ns ls n =
     (subst (λ (f : Turn). Alike (then_by (worth (bare_expr y.right.0) ns ls) (binary nowhere y.op n)) (f ns ls n)) (sym now)
     (then_alike (worth (bare_expr y.right.0) ns ls) (worth y.right.0 ns ls) _ _ (y.right.1 ns ls) (λ k. binary_alike nowhere y.place y.op n k)))
 
-same_worth : (x : Expr) → SameExpr x
+pub same_worth : (x : Expr) (numbers : Numbers) (lists : Lists)
+    → Alike (worth (bare_expr x) numbers lists) (worth x numbers lists)
 same_worth = ind-Expr SameExpr SameUse SameLink (λ x y is. subst (λ z. SameExpr (roll-Expr z)) is (expr_same y)) (λ x y is. tt) (λ x y is. subst (λ z. SameLink (roll-Link z)) is (link_same y))
 
 nat_alike : (r q : Result ℤ Bad) → Alike r q → nat_worth r ≡ nat_worth q

@@ -75,6 +75,7 @@ pub fn put_usage<E: Sink>(err: &mut E) -> Status
         (E.written err.new) usage_line }
     ensures sink_fault { result ≡ Status.SinkFault → GainsPrefix (E.written err.old) (E.written err.new) usage_line
         × Rose (E.faults err.old) (E.faults err.new) }
+    ensures no_sink_fault { result ≢ Status.SinkFault → E.faults err.new ≡ E.faults err.old }
 {
     match put_end(err, &End::Usage) {
         Ok(()) => Status::Usage,

@@ -4,8 +4,8 @@ ghost use Rattle.sq_compile.specs.Compiled.{IsPlanOf};
 ghost use Rattle.sq_driver.specs.Filing.{AreArraysOf, IsFileOf};
 
 use crate::phases::entry::entry_dims;
+use sq_compiled_laws::sq_meant::places_fit;
 use sq_ir::Plan;
-use sq_meant::places_fit;
 use sq_planfile::{EntryArrays, PlanFile, entry_arrays};
 use sq_spec::Resolved;
 use std::alloc::{AllocError, Global};

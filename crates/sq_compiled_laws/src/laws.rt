@@ -1,0 +1,27 @@
+//! What holds of the plan files that programs are compiled to.
+
+ghost use Rattle.sq_compiled_laws.specs.Compiled.{CompiledLeavesAreSound, CompiledAreInOrder};
+ghost use Rattle.sq_compiled_laws.specs.Compiled.{CompiledHaveSoundHeads, CompiledAreReadable};
+ghost use Rattle.sq_compiled_laws.specs.Refiled.{CompiledAreRefiled};
+
+use sq_filed_laws::laws::good_plans_are_filed;
+
+/// The lines of its leaves are sound.
+pub fn compiled_leaves_are_sound()
+    ensures { CompiledLeavesAreSound }
+{}
+
+/// So are all others, and they can be read.
+pub fn compiled_files_are_sound()
+    ensures order { CompiledAreInOrder }
+    ensures heads { CompiledHaveSoundHeads }
+    ensures readable { CompiledAreReadable }
+{}
+
+/// Their texts are plan files without faults, which stand for them, but for places, and run as the program.
+pub fn compiled_files_are_read_again()
+    ensures { CompiledAreRefiled }
+{
+    compiled_files_are_sound();
+    good_plans_are_filed();
+}

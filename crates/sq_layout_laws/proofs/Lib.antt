@@ -1,0 +1,9 @@
+mod Backwards
+mod Fronted
+mod Lists
+mod Events
+mod Lines
+mod Terms
+mod Keywords
+mod LeafTasks
+mod Whole

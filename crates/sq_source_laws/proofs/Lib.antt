@@ -1,0 +1,9 @@
+pub mod Texts
+pub mod Rising
+pub mod TokenPlaces
+pub mod Determined
+pub mod MachineWords
+pub mod MachineFaults
+pub mod MappingWords
+pub mod MappingFaults
+pub mod FirstFaults

@@ -1,0 +1,10 @@
+pub mod BareExprs
+pub mod BareTasks
+pub mod Lists
+pub mod Terms
+pub mod Looks
+pub mod Asking
+pub mod Leaves
+pub mod Heads
+pub mod Events
+pub mod Plans
