@@ -1,0 +1,30 @@
+//! What may be chosen is chosen, and noted.
+
+ghost use Rattle.sq_choice_laws.specs.Leaving.{HoistedIsOutermost};
+ghost use Rattle.sq_choice_laws.specs.Overlapping.{LoopsAreAll, CandidatesAreAll};
+ghost use Rattle.sq_choice_laws.specs.Noted.{HoistNotesAreChoices, NotesAreChoices};
+
+/// An argument leaves n loops exactly where n is the greatest number of plain loops round its call that it may leave.
+pub fn hoisted_is_outermost()
+    ensures { HoistedIsOutermost }
+{}
+
+/// The loops that are asked whether they may overlap are all loops of lower calls that the source of a plan has.
+pub fn loops_are_all()
+    ensures { LoopsAreAll }
+{}
+
+/// A loop is a candidate exactly where it may overlap its transfers.
+pub fn candidates_are_all()
+    ensures { CandidatesAreAll }
+{}
+
+/// The notes of hoisting are those of the arguments that leave loops, in the order of the text.
+pub fn hoist_notes_are_choices()
+    ensures { HoistNotesAreChoices }
+{}
+
+/// With the loops that overlap they are those of both, where the maps of each form stand in the order of their places.
+pub fn notes_are_choices()
+    ensures { NotesAreChoices }
+{}

@@ -1,0 +1,17 @@
+pub mod Made
+pub mod Called
+pub mod Landed
+pub mod Flagged
+pub mod Set
+pub mod Marked
+pub mod Exact
+pub mod Nodes
+pub mod Sizes
+pub mod Ends
+pub mod Rooms
+pub mod Covered
+pub mod Bytes
+pub mod Reaching
+pub mod Beneath
+pub mod Enough
+pub mod Plans
