@@ -10,6 +10,7 @@ use Rattle.sq_spec.specs.declared.statement.Statement.{Statement, roll-Statement
 use Rattle.sq_spec.specs.declared.statement.Statement.TheVariants as b
 use Rattle.sq_spec.specs.declared.statement.Statement.TheOpen.{Statement-F}
 use Rattle.sq_spec.specs.declared.statement.Statement.TheFolds.{ind-Statement, map-Statement}
+use Rattle.sq_spec.specs.Spreads.{any_of, is_spread, lower_in, same_in}
 use Rattle.sq_spec_laws.specs.TableRows.{Table, red_of, all_tables, tables_of}
 use Rattle.sq_spec_laws.proofs.TableRowsHold.{tables_call, tables_map}
 use Rattle.sq_draft_laws.specs.TermLaws.Orders.{EachOf}
@@ -17,13 +18,12 @@ use Rattle.sq_draft_laws.proofs.ProgramLaws.Loops.{nothing_more, each_left, each
 use Rattle.sq_pipe.specs.Homes.declared.choice.Choice.{Choice}
 use Rattle.sq_pipe.specs.Homes.Numbering.{left_by}
 use Rattle.sq_pipe.specs.Homes.Drafts.{choice_in}
-use Rattle.sq_pipe.specs.Tables.Loops.{any_of, lower_in, same_in}
 use Rattle.sq_pipe.specs.Hoist.Loops.{Nest, seen, sites_by, sites_in, all_sites}
 use Rattle.sq_pipe.specs.Hoist.Choices.{find_leaves, leaves_or}
 use Rattle.sq_pipe.proofs.Hoist.Opened.{nest_call, inner_call, inner_map}
 use Rattle.sq_pipe.specs.declared.candidate.Candidate.{Candidate}
 use Rattle.sq_pipe.specs.Candidates as code
-use Rattle.sq_pipe.specs.Candidates.{may_overlap, first_form, call_in, only_call, is_spread}
+use Rattle.sq_pipe.specs.Candidates.{may_overlap, first_form, call_in, only_call}
 use Rattle.sq_pipe.proofs.CallsOpened as opened
 use Rattle.sq_pass_laws.proofs.Nests.{nest_of, climb, IsBound, bounds_climb, if_true, itself}
 use Rattle.sq_pass_laws.proofs.Nests.{call_is}

@@ -9,11 +9,11 @@ use Rattle.sq_spec.specs.declared.statement.Statement.TheVariants as b
 use Rattle.sq_spec.specs.declared.statement.Statement.TheOpen.{Statement-F}
 use Rattle.sq_spec.specs.declared.statement.Statement.TheFolds.{ind-Statement, map-Statement}
 use Rattle.sq_spec.specs.declared.body.Body.TheVariants as body
+use Rattle.sq_spec.specs.Spreads.{any_of, is_spread, lower_in, same_in}
 use Rattle.sq_placed.specs.Pipes as pipes
 use Rattle.sq_placed.specs.Pipes.{CallLoop, CallLoops, call_loops}
 use Rattle.sq_placed.proofs.Pipes as placed
-use Rattle.sq_pipe.specs.Tables.Loops.{any_of, lower_in, same_in}
-use Rattle.sq_pipe.specs.Candidates.{call_in, is_spread}
+use Rattle.sq_pipe.specs.Candidates.{call_in}
 use Rattle.sq_pass_laws.proofs.Candidates.{is_call_in}
 use Rattle.sq_choice_laws.specs.Overlapping.{Loop, all_loops, own_loop, loop_round, loops_in, LoopsAreAll}
 use Rattle.sq_choice_laws.proofs.Rounds.{loops_call, loops_map}

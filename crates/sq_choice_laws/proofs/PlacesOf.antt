@@ -11,6 +11,7 @@ use Rattle.sq_spec.specs.declared.statement.Statement.{Statement, roll-Statement
 use Rattle.sq_spec.specs.declared.statement.Statement.TheVariants as b
 use Rattle.sq_spec.specs.declared.statement.Statement.TheOpen.{Statement-F}
 use Rattle.sq_spec.specs.declared.statement.Statement.TheFolds.{fold-roll-Statement, ind-Statement, map-Statement}
+use Rattle.sq_spec.specs.Spreads.{any_of, is_spread, lower_in, same_in}
 use Rattle.sq_draft_laws.specs.TermLaws.Orders.{EachOf}
 use Rattle.sq_draft_laws.proofs.ProgramLaws.Loops.{each_left, each_right, each_both}
 use Rattle.sq_pipe.specs.Hoist.declared.sites.Site.{Site}
@@ -26,7 +27,6 @@ use Rattle.sq_pass_laws.proofs.Sites.{sites_of_one}
 use Rattle.sq_choice_laws.specs.Noted.{all_places, places_step, places_in, AreRising}
 use Rattle.sq_choice_laws.proofs.Wholes.{Whole, whole_call, whole_loop, is_whole}
 use Rattle.sq_choice_laws.proofs.Merges.{key}
-use Rattle.sq_pipe.specs.Tables.Loops.{any_of, lower_in, same_in}
 
 -- ---- order
 
@@ -112,7 +112,7 @@ module _ (P : Place → Type 0) (caller : ℕ) where
         let ys = these xs in
         subst Placed (sym (b.rolls-Map place m counts starts ys)) (λ h inside.
         let its = subst (EachOf P) (places_map place m counts starts ys) h in
-        let spread = code.is_spread m inside (any_of (map lower_in ys)) (any_of (map same_in ys)) in
+        let spread = is_spread m inside (any_of (map lower_in ys)) (any_of (map same_in ys)) in
         subst (EachOf Stands) (sym (opened.loops_map lefts children caller place m counts starts ys inside))
         (each_both Stands (code.own_loop lefts children caller place m spread counts (only_call (map call_in ys)))
         (code.all_loops (map sees ys) (inside || spread))

@@ -7,8 +7,8 @@ use Rattle.sq_spec.specs.declared.statement.Statement.{Statement, roll-Statement
 use Rattle.sq_spec.specs.declared.statement.Statement.TheVariants as b
 use Rattle.sq_spec.specs.declared.statement.Statement.TheOpen.{Statement-F}
 use Rattle.sq_spec.specs.declared.statement.Statement.TheFolds.{fold-roll-Statement, ind-Statement, map-Statement}
-use Rattle.sq_pipe.specs.Tables.Loops.{any_of, lower_in, same_in}
-use Rattle.sq_pipe.proofs.Tables.InStatements.{lower_call, lower_map, same_call, same_map}
+use Rattle.sq_spec.specs.Spreads.{any_of, lower_in, same_in}
+use Rattle.sq_spec.proofs.InStatements.{lower_call, lower_map, same_call, same_map}
 use Rattle.sq_pipe.specs.Candidates.{call_in}
 use Rattle.sq_pipe.proofs.CallsOpened.{call_call, call_map}
 use Rattle.sq_choice_laws.specs.Overlapping.{Loop, LoopsIn, Part, map_loops, part_step, part, loops_in}

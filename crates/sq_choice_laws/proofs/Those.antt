@@ -14,18 +14,18 @@ use Rattle.sq_spec.specs.declared.statement.Statement.TheVariants as b
 use Rattle.sq_spec.specs.declared.statement.Statement.TheOpen.{Statement-F}
 use Rattle.sq_spec.specs.declared.statement.Statement.TheFolds.{ind-Statement, map-Statement}
 use Rattle.sq_spec.specs.Statements.{starts_from}
+use Rattle.sq_spec.specs.Spreads.{any_of, is_spread, lower_in, same_in}
 use Rattle.sq_spec_laws.specs.TableRows.{Table, red_of, all_tables, tables_of}
 use Rattle.sq_spec_laws.proofs.TableRowsHold.{tables_call, tables_map}
 use Rattle.sq_placed.specs.Pipes.{CallLoop}
 use Rattle.sq_draft_laws.specs.TermLaws.Fits.{AskedOfStatement, all_parts}
 use Rattle.sq_draft_laws.specs.TermLaws.Orders.{EachOf}
 use Rattle.sq_draft_laws.proofs.ProgramLaws.Loops.{each_left, each_map, each_right}
-use Rattle.sq_pipe.specs.Tables.Loops.{any_of, lower_in, same_in}
 use Rattle.sq_pipe.specs.Hoist.Counts.{total}
 use Rattle.sq_pipe.specs.Hoist.Loops.{cut}
 use Rattle.sq_pipe.specs.declared.candidate.Candidate.{Candidate}
 use Rattle.sq_pipe.specs.Candidates as code
-use Rattle.sq_pipe.specs.Candidates.{may_overlap, have_one_form, first_form, are_ahead, call_in, only_call, is_spread}
+use Rattle.sq_pipe.specs.Candidates.{may_overlap, have_one_form, first_form, are_ahead, call_in, only_call}
 use Rattle.sq_pipe.specs.Candidates.{Seen, seen}
 use Rattle.sq_pipe.proofs.CallsOpened as opened
 use Rattle.sq_pass_laws.specs.Times.{IsBegun}

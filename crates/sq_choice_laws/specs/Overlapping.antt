@@ -32,13 +32,12 @@ use Rattle.sq_spec.specs.declared.body.Body.{Body}
 use Rattle.sq_spec.specs.declared.body.Body.TheVariants as body
 use Rattle.sq_spec.specs.declared.body.FormBody.{FormBody}
 use Rattle.sq_spec.specs.declared.resolved.Resolved.{Resolved}
+use Rattle.sq_spec.specs.Spreads.{any_of, is_spread}
 use Rattle.sq_placed.specs.Pipes.{CallLoop, call_loops_of}
 use Rattle.sq_draft_laws.specs.Choosing.{Walked}
-use Rattle.sq_pipe.specs.Tables.Loops.{any_of}
 use Rattle.sq_pipe.specs.Homes.Drafts.{bodies_of}
 use Rattle.sq_pipe.specs.declared.candidate.Candidate.{Candidate}
 use Rattle.sq_pipe.specs.Runs.{is_marked, marks_of}
-use Rattle.sq_pipe.specs.Candidates.{is_spread}
 use Rattle.sq_pipe.specs.Greedy.{candidates_of}
 use Rattle.sq_choice_laws.specs.Leaving.{HasTurns, HasForm, left_of}
 

@@ -13,12 +13,11 @@ use Rattle.sq_spec.specs.declared.statement.Statement.TheOpen.{Statement-F}
 use Rattle.sq_spec.specs.declared.statement.Statement.TheFolds.{fold-roll-Statement, ind-Statement, map-Statement}
 use Rattle.sq_spec.specs.declared.body.Body.{Body}
 use Rattle.sq_spec.specs.declared.body.Body.TheVariants as body
+use Rattle.sq_spec.specs.Spreads.{any_of, is_spread}
 use Rattle.sq_spec_laws.specs.Needs.{Turn, turn_in}
 use Rattle.sq_pass_laws.specs.Term.Stands.{Each, none, more}
 use Rattle.sq_plan_good.specs.Homes.Begun as tables
 use Rattle.sq_plan_good.specs.Homes.Begun.{Begun, BegunPart, calls_in, row_begun, begun, begun_step, calls_of, child_in}
-use Rattle.sq_lower.specs.Tables.Loops.{any_of}
-use Rattle.sq_pass_laws.specs.Pipe.Candidates as pipe
 use Rattle.sq_pass_laws.specs.Pipe.Runs.{Landing, all_lands, row_lands, turns_land, turn_lands, landing_step, landing, body_lands}
 use Rattle.sq_plan_good.proofs.Terms.{begun_call, begun_map}
 use Rattle.sq_plan_good.proofs.Turning.{Among, among_left, among_right, EachIn, each_both, each_weaker}
@@ -169,16 +168,16 @@ module _ (rule : SpreadRule) (children : ℕ) where
   }
     where
       own_spread : Option Turn → Bool
-      own_spread turn = pipe.is_spread m (is_some turn)
+      own_spread turn = is_spread m (is_some turn)
           (any_of (map (λ (p : Landing). p.lower) (map landed (list_of ys))))
           (any_of (map (λ (p : Landing). p.same) (map landed (list_of ys))))
 
       its_spread : Option Turn → Bool
-      its_spread turn = tables.is_spread m turn (tables.any_lower (map begun (list_of ys)))
+      its_spread turn = is_spread m (is_some turn) (tables.any_lower (map begun (list_of ys)))
           (tables.any_same (map begun (list_of ys)))
 
       spread_same : (turn : Option Turn) → own_spread turn ≡ its_spread turn
-      spread_same turn = ap₂ (pipe.is_spread m (is_some turn)) (lowers ys) (sames ys)
+      spread_same turn = ap₂ (is_spread m (is_some turn)) (lowers ys) (sames ys)
 
       lands_by : Option Turn → ℕ → Bool → List (ℕ × ℕ)
       lands_by turn k v = turns_land (turn_lands rule children (map landed (list_of ys)) (is_some turn) v

@@ -12,10 +12,9 @@ use Rattle.sq_spec.specs.declared.statement.Statement.TheOpen.{Statement-F}
 use Rattle.sq_spec.specs.declared.statement.Statement.TheFolds.{ind-Statement, map-Statement, fold-roll-Statement}
 use Rattle.sq_spec.specs.declared.body.Body.{Body}
 use Rattle.sq_spec.specs.declared.body.Body.TheVariants as body
+use Rattle.sq_spec.specs.Spreads.{any_of, is_spread, lower_in, same_in}
 use Rattle.sq_spec_laws.specs.Needs.{Turn, turn_in}
-use Rattle.sq_meant.specs.PlanGood.DraftLaws.TermLaws.Lowers.{any_of, lower_in, same_in}
 use Rattle.sq_meant.specs.PlanGood.DraftLaws.TermLaws.Orders.{EachOf}
-use Rattle.sq_meant.specs.PlanGood.DraftLaws.TermLaws.Overlapping as over
 use Rattle.sq_meant.specs.PlanGood.DraftLaws.TermLaws.Overlapping.{AskedInMaps, each_in_maps, any_by, can_overlap, RowOverlaps, Overlaps, BodyOverlaps}
 use Rattle.sq_meant.specs.PlanGood.Homes.Begun as tables
 use Rattle.sq_meant.specs.PlanGood.Homes.Begun.{Begun, BegunPart, calls_in, row_begun, calls_of}
@@ -24,8 +23,8 @@ use Rattle.sq_meant.specs.PlanGood.Term.Placed.declared.home.Homes.{Homes}
 use Rattle.sq_meant.specs.PlanGood.Term.Placed.Pipes.{CallLoop, CallLoops, AreHeads, no_heads, more_heads, IsPiped, LoopsStand, all_loops, call_loops, call_loops_of, call_loops_step, loop_round}
 use Rattle.sq_meant.specs.PlanGood.Term.Placed.Tables.{row_form}
 use Rattle.sq_meant.specs.PlanGood.Term.Terms.{row_args}
-use Rattle.sq_meant.proofs.PlanGood.DraftLaws.TermLaws.LowersOpened.{lower_call, lower_map}
-use Rattle.sq_meant.proofs.PlanGood.DraftLaws.TermLaws.Overlaps.{overlaps_call, overlaps_map, same_call, same_map}
+use Rattle.sq_spec.proofs.InStatements.{lower_call, lower_map, same_call, same_map}
+use Rattle.sq_meant.proofs.PlanGood.DraftLaws.TermLaws.Overlaps.{overlaps_call, overlaps_map}
 use Rattle.sq_meant.proofs.PlanGood.Terms.{begun_call, begun_map, starts_call, starts_map}
 use Rattle.sq_meant.proofs.PlanGood.Turning.{Among, among_left, among_right, EachIn, each_both, each_weaker, each_item, IsTurn, only_rows}
 
@@ -301,16 +300,16 @@ module _ (homes : ℕ → Homes) where
   }
     where
       own_spread : Option Turn → Bool
-      own_spread turn = tables.is_spread m turn (any_lower (map starting (list_of ys))) (any_same (map starting (list_of ys)))
+      own_spread turn = is_spread m (is_some turn) (any_lower (map starting (list_of ys))) (any_same (map starting (list_of ys)))
 
       its_spread : Option Turn → Bool
-      its_spread turn = tables.is_spread m turn (tables.any_lower (map tables.begun (list_of ys))) (tables.any_same (map tables.begun (list_of ys)))
+      its_spread turn = is_spread m (is_some turn) (tables.any_lower (map tables.begun (list_of ys))) (tables.any_same (map tables.begun (list_of ys)))
 
       spread_same : (turn : Option Turn) → own_spread turn ≡ its_spread turn
-      spread_same turn = ap₂ (tables.is_spread m turn) (start_lowers ys) (start_sames ys)
+      spread_same turn = ap₂ (is_spread m (is_some turn)) (start_lowers ys) (start_sames ys)
 
-      over_same : (turn : Option Turn) → over.is_spread m (is_some turn) (any_by (λ x. lower_in x) (list_of ys)) (any_by (λ x. same_in x) (list_of ys)) ≡ its_spread turn
-      over_same turn = ap₂ (over.is_spread m (is_some turn)) (lows_by ys) (alikes_by ys)
+      over_same : (turn : Option Turn) → is_spread m (is_some turn) (any_by (λ x. lower_in x) (list_of ys)) (any_by (λ x. same_in x) (list_of ys)) ≡ its_spread turn
+      over_same turn = ap₂ (is_spread m (is_some turn)) (lows_by ys) (alikes_by ys)
 
       starts_with : Bool → Option Turn → ℕ → List Starts
       starts_with v turn k = map_starts (in_lanes m v (doubled_in homes (map starting (list_of ys)))) v (get_or counts k 0) (get_or starts k 0) turn (map starting (list_of ys))

@@ -23,12 +23,14 @@ use Rattle.sq_tables.specs.Placed.Tables.{op_of, spread_of, Chain, chain_of, lea
 use Rattle.sq_tables.specs.Term.Terms.{arm_term, entry_context, entry_row, entry_term, body_in, homes_in, no_homes, body_term}
 use Rattle.sq_tables.specs.Term.Terms.{term_of, TermPart, any_lower, any_same, all_terms, in_map, map_term, count_num}
 use Rattle.sq_tables.specs.Term.Terms.{rows_term, statement_term, chains, first_num, loop_term, hold_term, map_hold, run_term}
-use Rattle.sq_tables.specs.Loops.{any_of, lower_in, same_in, chain_in}
+use Rattle.sq_tables.specs.Loops.{chain_in}
 use Rattle.sq_draft.specs.Building.{callee_in, holding_args, holding_row, holding_of, hold_by, pipe_by, run_in}
 use Rattle.sq_spec.specs.Bodies.{no_body}
+use Rattle.sq_spec.specs.Spreads.{any_of, lower_in, same_in}
 use Rattle.sq_tables.proofs.Lists.{an_item}
 use Rattle.sq_tables.proofs.Term.Opened.{built_call, built_map}
-use Rattle.sq_tables.proofs.InStatements.{lower_call, lower_map, same_call, same_map, chain_call, chain_map}
+use Rattle.sq_spec.proofs.InStatements.{lower_call, lower_map, same_call, same_map}
+use Rattle.sq_tables.proofs.InStatements.{chain_call, chain_map}
 
 module _ (bodies : ℕ → FormBody) (homes : ℕ → Homes) (callee : ℕ → Context → Term) (rule : SpreadRule) where
   abbrev built : Statement → TermPart

@@ -10,6 +10,7 @@ use Rattle.sq_spec.specs.declared.statement.LoopKind.{LoopKind}
 use Rattle.sq_spec.specs.declared.statement.CallInstance.{CallInstance}
 use Rattle.sq_spec.specs.declared.statement.Statement.{Statement}
 use Rattle.sq_spec.specs.declared.body.FormBody.{FormBody}
+use Rattle.sq_spec.specs.Spreads.{any_of, lower_in, same_in}
 use Rattle.sq_tables.specs.Placed.declared.home.Home.{Home}
 use Rattle.sq_tables.specs.Placed.declared.home.Homes.{Homes}
 use Rattle.sq_tables.specs.Placed.Tables.{Chain, leaving_args, spread_of, Pipe, pipe_of}
@@ -18,7 +19,7 @@ use Rattle.sq_tables.specs.Term.Terms.{TermPart, statement_term, loop_term, term
 use Rattle.sq_tables.specs.Term.declared.context.Move.{Move}
 use Rattle.sq_tables.specs.Term.Terms.{held_moves, leaving_buffers, hold_in_term, hold_out_term, at_child_already, pipe_term}
 use Rattle.sq_tables.specs.Term.Terms.{bring_term, back_term, come_in_term, fill_held_term}
-use Rattle.sq_tables.specs.Loops.{rows_of_chain, loops_of_chain, any_of, lower_in, same_in, chain_in}
+use Rattle.sq_tables.specs.Loops.{rows_of_chain, loops_of_chain, chain_in}
 use Rattle.sq_draft.specs.declared.forms.Holding.{Holding}
 use Rattle.sq_draft.specs.declared.transfers.Transfer.{Transfer}
 use Rattle.sq_draft.specs.declared.transfers.Transfer.TheVariants.{Bring, Back, Come, Fill, HoldIn, HoldOut}

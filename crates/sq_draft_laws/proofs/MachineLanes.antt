@@ -16,6 +16,7 @@ use Rattle.sq_spec.specs.declared.statement.CallInstance.{CallInstance}
 use Rattle.sq_spec.specs.declared.statement.Statement.{Statement}
 use Rattle.sq_spec.specs.declared.body.FormBody.{FormBody}
 use Rattle.sq_spec.specs.declared.resolved.Resolved.{Resolved}
+use Rattle.sq_spec.specs.Spreads.{lower_in}
 use Rattle.sq_placed.specs.declared.home.Homes.{Homes}
 use Rattle.sq_placed.specs.Placed.{Placed, PlacedArg, Call, Piped}
 use Rattle.sq_placed.specs.Tables.{map_placed, placed_call, placed_of, leaving_chain, held_arg, chain_form, chain_row}
@@ -27,7 +28,7 @@ use Rattle.sq_term.specs.Stands.{below, calls_of, AreLevel}
 use Rattle.sq_program_laws.specs.TermLaws.Fits.{NodeAt, TabledBody}
 use Rattle.sq_program_laws.proofs.TermLaws.Lower.{lower_stand_above}
 use Rattle.sq_program_laws.proofs.TermLaws.Programs.{programs_are_tabled}
-use Rattle.sq_program_laws.specs.TermLaws.Lowers.{statements, lower_in}
+use Rattle.sq_program_laws.specs.TermLaws.Lowers.{statements}
 use Rattle.sq_program_laws.specs.TermLaws.Orders.{EachOf}
 use Rattle.sq_program_laws.specs.PlanLaws.Buffers.{HaveLanes}
 use Rattle.sq_homes.specs.declared.choice.Choice.{Choice}

@@ -18,10 +18,11 @@ use Rattle.sq_spec.specs.declared.statement.Statement.TheFolds.{ind-Statement, m
 use Rattle.sq_spec.specs.declared.body.Body.{Body}
 use Rattle.sq_spec.specs.declared.body.Body.TheVariants as body
 use Rattle.sq_spec.specs.declared.body.FormBody.{FormBody}
+use Rattle.sq_spec.specs.Spreads.{any_of, is_beside, lower_in}
 use Rattle.sq_homes.specs.SpecLaws.TableRows.{Table, red_of, all_tables, tables_step, tables_of, tables_in}
 use Rattle.sq_placed.specs.declared.home.Homes.{Homes}
 use Rattle.sq_placed.specs.Placed.{Placed, Nothing, Then, Call, Piped, Leaf}
-use Rattle.sq_placed.specs.Tables.{is_beside, op_of, spread_of, map_placed, Chain, chain_of, first_of}
+use Rattle.sq_placed.specs.Tables.{op_of, spread_of, map_placed, Chain, chain_of, first_of}
 use Rattle.sq_placed.specs.Tables.{leaving_chain, hold_placed, holds, held_arg, chain_form}
 use Rattle.sq_placed.specs.Tables.{chain_row, PlacedPart, chains, any_lower, any_same, all_placed, row_placed}
 use Rattle.sq_placed.specs.Tables.{placed_call, placed_step, statement_placed, body_placed}
@@ -31,9 +32,9 @@ use Rattle.sq_placed.proofs.Opened.{part_call, part_map}
 use Rattle.sq_placed.proofs.Pipes.{taken, chains_placed}
 use Rattle.sq_term.specs.Stands.{below, calls_in_rows, all_calls, calls_in, calls_in_all, calls_of, AreLevel}
 use Rattle.sq_term.proofs.Opened.{calls_call, calls_map}
-use Rattle.sq_program_laws.specs.TermLaws.Lowers.{statements, any_of, lower_in}
+use Rattle.sq_program_laws.specs.TermLaws.Lowers.{statements}
 use Rattle.sq_program_laws.specs.TermLaws.Orders.{EachOf}
-use Rattle.sq_program_laws.proofs.TermLaws.LowersOpened.{lower_call, lower_map}
+use Rattle.sq_spec.proofs.InStatements.{lower_call, lower_map}
 use Rattle.sq_draft_laws.proofs.Rounds.{TablesSo, BodySo, tables_call, tables_map, each_left, each_right, one_of}
 
 -- ---- levels

@@ -17,6 +17,7 @@ use Rattle.sq_spec.specs.declared.statement.Statement.TheFolds.{ind-Statement, m
 use Rattle.sq_spec.specs.declared.body.Body.{Body}
 use Rattle.sq_spec.specs.declared.body.Body.TheVariants as body
 use Rattle.sq_spec.specs.declared.body.FormBody.{FormBody}
+use Rattle.sq_spec.specs.Spreads.{is_spread, lower_in, same_in}
 use Rattle.sq_placed.specs.declared.home.Homes.{Homes}
 use Rattle.sq_placed.specs.Placed.{Placed, PlacedArg, PlacedCall, Nothing, Then, Each, AtOnce, Gathers, Call, Hold, Piped, Leaf}
 use Rattle.sq_placed.specs.Tables.{op_of, spread_of, map_placed, Chain, call_chain, chain_of, first_of, leaving_chain}
@@ -24,12 +25,11 @@ use Rattle.sq_placed.specs.Tables.{hold_placed, holds, Pipe, overlapped, pipe_of
 use Rattle.sq_placed.specs.Tables.{pipe_placed, row_form, PlacedPart, chains, any_lower, any_same, all_placed, row_placed}
 use Rattle.sq_placed.specs.Tables.{placed_step, statement_placed, body_placed, no_call, row_call, one_more, lanes_of}
 use Rattle.sq_placed.proofs.Opened.{part_call, part_map}
-use Rattle.sq_program_laws.specs.TermLaws.Lowers.{lower_in, same_in}
 use Rattle.sq_program_laws.specs.TermLaws.Orders.{EachOf}
-use Rattle.sq_program_laws.specs.TermLaws.Overlapping.{AskedInMaps, each_in_maps, any_by, is_spread, can_overlap, RowOverlaps, overlaps_step}
+use Rattle.sq_program_laws.specs.TermLaws.Overlapping.{AskedInMaps, each_in_maps, any_by, can_overlap, RowOverlaps, overlaps_step}
 use Rattle.sq_program_laws.specs.TermLaws.Overlapping.{Overlaps, BodyOverlaps}
-use Rattle.sq_program_laws.proofs.TermLaws.Overlaps.{overlaps_call, overlaps_map, same_call, same_map, any_map}
-use Rattle.sq_program_laws.proofs.TermLaws.LowersOpened.{lower_call, lower_map}
+use Rattle.sq_program_laws.proofs.TermLaws.Overlaps.{overlaps_call, overlaps_map, any_map}
+use Rattle.sq_spec.proofs.InStatements.{lower_call, lower_map, same_call, same_map}
 use Rattle.sq_program_laws.proofs.TermLaws.Piped.{no_pipe, pipe_is, pipe_none}
 use Rattle.sq_draft_laws.proofs.Rounds.{one_of}
 

@@ -64,10 +64,10 @@ use Rattle.sq_draft_laws.proofs.Moves.{IsSingle, come_in_up, fill_held_up}
 use Rattle.sq_draft_laws.proofs.Sets.{plain_homes, set_single, set_near, set_level, set_held, set_there}
 use Rattle.sq_draft_laws.proofs.Lanes.{lanes_up}
 use Rattle.sq_spec.specs.declared.statement.LoopKind.TheVariants as loop_kind
+use Rattle.sq_spec.specs.Spreads.{is_spread, lower_in, same_in}
 use Rattle.sq_program_laws.specs.TermLaws.Orders.{EachOf, Round, all_rounds, map_rounds, round_step, rounds_in, rounds_of}
 use Rattle.sq_program_laws.specs.TermLaws.Held.{IsHeldRow, AreHeldRows}
-use Rattle.sq_program_laws.specs.TermLaws.Lowers.{lower_in, same_in}
-use Rattle.sq_program_laws.specs.TermLaws.Overlapping.{IsSuited, AskedInMaps, each_in_maps, any_by, is_spread, can_overlap, RowOverlaps}
+use Rattle.sq_program_laws.specs.TermLaws.Overlapping.{IsSuited, AskedInMaps, each_in_maps, any_by, can_overlap, RowOverlaps}
 use Rattle.sq_program_laws.specs.TermLaws.Overlapping.{overlaps_step, Overlaps, BodyOverlaps}
 use Rattle.sq_program_laws.proofs.TermLaws.Piped.{pipe_none}
 use Rattle.sq_program_laws.proofs.TermLaws.Overlaps.{overlaps_call, overlaps_map, spread_as}

@@ -1,18 +1,17 @@
 -- The calls that a form's tables begin, in the order in which they would run.
-use Rattle.std.specs.Prelude.{ℕ, ◌+◌, Bool, not, ◌&&◌, ◌||◌, false, List, [], ◌∷◌, ◌++◌, map, get_or, slice_get}
+use Rattle.std.specs.Prelude.{ℕ, ◌+◌, Bool, not, ◌||◌, false, List, [], ◌∷◌, ◌++◌, map, get_or, slice_get}
 use Rattle.std.specs.Prelude.{Option, Some, None, is_some}
 use Rattle.std.specs.List.{flat_map, range_with_len}
 use Rattle.sq_text.specs.declared.spread.SpreadRule.{SpreadRule}
 use Rattle.sq_text.specs.Spreading.{child_of}
-use Rattle.sq_spec_laws.specs.Spec.declared.statement.LoopKind.{LoopKind}
 use Rattle.sq_spec_laws.specs.Spec.declared.statement.CallInstance.{CallInstance}
 use Rattle.sq_spec_laws.specs.Spec.declared.statement.Statement.{Statement}
 use Rattle.sq_spec_laws.specs.Spec.declared.statement.Statement.TheOpen.{Statement-F}
 use Rattle.sq_spec_laws.specs.Spec.declared.statement.Statement.TheFolds.{fold-Statement}
 use Rattle.sq_spec_laws.specs.Spec.declared.body.Body.{Body}
 use Rattle.sq_spec_laws.specs.Spec.declared.body.Body.TheVariants as body
+use Rattle.sq_spec_laws.specs.Spec.Spreads.{is_spread}
 use Rattle.sq_spec_laws.specs.Needs.{Turn, turn_in}
-use Rattle.sq_draft.specs.Placed.Tables.{is_beside}
 
 -- A call: its row, whether it is a lower one, and the iteration of the spread map round it.
 pub record Begun : Type 0 where
@@ -43,9 +42,6 @@ abbrev pub row_begun : (lower : Bool) → Option Turn → Option CallInstance �
 row_begun lower turn None = []
 row_begun lower turn (Some r) = record { row = r; lower = lower; turn = turn } ∷ []
 
-abbrev pub is_spread : LoopKind → Option Turn → (lower same : Bool) → Bool
-is_spread m turn lower same = is_beside m && (not (is_some turn) && (lower && not same))
-
 abbrev pub begun_step : Statement-F BegunPart → BegunPart
 begun_step (Statement-F.Call lower instances) = record {
   lower = lower;
@@ -56,7 +52,7 @@ begun_step (Statement-F.Map place m counts starts parts) = record {
   lower = any_lower parts;
   same = any_same parts;
   calls = λ turn k.
-      let spread = is_spread m turn (any_lower parts) (any_same parts) in
+      let spread = is_spread m (is_some turn) (any_lower parts) (any_same parts) in
       flat_map (λ t. calls_in parts (turn_in spread turn (get_or counts k 0) t) (get_or starts k 0 + t))
       (range_with_len 0 (get_or counts k 0));
 }

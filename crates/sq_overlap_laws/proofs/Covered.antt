@@ -15,6 +15,7 @@ use Rattle.sq_spec.specs.declared.statement.Statement.TheOpen.{Statement-F}
 use Rattle.sq_spec.specs.declared.statement.Statement.TheFolds.{ind-Statement, map-Statement}
 use Rattle.sq_spec.specs.declared.body.Body.{Body}
 use Rattle.sq_spec.specs.declared.body.Body.TheVariants as body
+use Rattle.sq_spec.specs.Spreads.{is_spread, lower_in, same_in}
 use Rattle.sq_spec_laws.specs.Needs.{Turn, turn_in}
 use Rattle.sq_placed.specs.declared.home.Homes.{Homes}
 use Rattle.sq_placed.specs.Tables.{row_form}
@@ -22,16 +23,14 @@ use Rattle.sq_placed.specs.Pipes.{CallLoop, AreHeads, no_heads, more_heads, IsPi
 use Rattle.sq_placed.specs.Pipes.{CallLoops, call_loops_of, loop_round}
 use Rattle.sq_placed.proofs.Pipes.{map_loops, loops_left, loops_right, loops_call}
 use Rattle.sq_pass_laws.specs.TermLaws.Orders.{EachOf}
-use Rattle.sq_pass_laws.specs.TermLaws.Lowers.{lower_in, same_in}
-use Rattle.sq_pass_laws.specs.TermLaws.Overlapping as over
 use Rattle.sq_pass_laws.specs.TermLaws.Overlapping.{AskedInMaps, each_in_maps, any_by, can_overlap, RowOverlaps, Overlaps}
 use Rattle.sq_pass_laws.specs.TermLaws.Overlapping.{BodyOverlaps}
 use Rattle.sq_pass_laws.specs.Term.Terms.{row_args}
 use Rattle.sq_plan_good.proofs.ProgramLaws.Loops.{each_at}
-use Rattle.sq_plan_good.proofs.ProgramLaws.TermLaws.LowersOpened.{lower_call, lower_map}
-use Rattle.sq_plan_good.proofs.ProgramLaws.TermLaws.Overlaps.{overlaps_call, overlaps_map, same_call, same_map, any_map}
+use Rattle.sq_spec.proofs.InStatements.{lower_call, lower_map, same_call, same_map}
+use Rattle.sq_plan_good.proofs.ProgramLaws.TermLaws.Overlaps.{overlaps_call, overlaps_map, any_map}
 use Rattle.sq_plan_good.specs.Homes.Begun as tables
-use Rattle.sq_plan_good.specs.Homes.Begun.{Begun, BegunPart, calls_in, row_begun, is_spread, calls_of}
+use Rattle.sq_plan_good.specs.Homes.Begun.{Begun, BegunPart, calls_in, row_begun, calls_of}
 use Rattle.sq_plan_good.specs.Loops.{BegunLoop, Starts, Once, Lanes, StartsPart, any_lower, any_same, starts_in, once}
 use Rattle.sq_plan_good.specs.Loops.{in_lanes, map_starts, doubled, doubled_in, starts_by, starts_of}
 use Rattle.sq_plan_good.proofs.Terms.{begun_call, begun_map, starts_call, starts_map}
@@ -338,27 +337,27 @@ module _ (homes : ℕ → Homes) where
   }
     where
       own_spread : Option Turn → Bool
-      own_spread turn = is_spread m turn (any_lower (map starting (list_of ys))) (any_same (map starting (list_of ys)))
+      own_spread turn = is_spread m (is_some turn) (any_lower (map starting (list_of ys))) (any_same (map starting (list_of ys)))
 
       its_spread : Option Turn → Bool
-      its_spread turn = is_spread m turn (tables.any_lower (map tables.begun (list_of ys)))
+      its_spread turn = is_spread m (is_some turn) (tables.any_lower (map tables.begun (list_of ys)))
           (tables.any_same (map tables.begun (list_of ys)))
 
       spread_same : (turn : Option Turn) → own_spread turn ≡ its_spread turn
-      spread_same turn = ap₂ (is_spread m turn) (lowers ys) (sames ys)
+      spread_same turn = ap₂ (is_spread m (is_some turn)) (lowers ys) (sames ys)
 
       asked_same : (inside : Bool) (turn : Option Turn) → is_some turn ≡ inside
-          → own_spread turn ≡ over.is_spread m inside (any_by lower_in (list_of ys)) (any_by same_in (list_of ys))
+          → own_spread turn ≡ is_spread m inside (any_by lower_in (list_of ys)) (any_by same_in (list_of ys))
       asked_same inside turn is =
-          ap₂ (is_spread m turn) (lows ys) (likes ys)
-          ∙ ap (λ (i : Bool). over.is_spread m i (any_by lower_in (list_of ys)) (any_by same_in (list_of ys))) is
+          ap₂ (is_spread m (is_some turn)) (lows ys) (likes ys)
+          ∙ ap (λ (i : Bool). is_spread m i (any_by lower_in (list_of ys)) (any_by same_in (list_of ys))) is
 
       by : (v inside : Bool) (turn : Option Turn) (k : ℕ) → is_some turn ≡ inside
-          → v ≡ over.is_spread m inside (any_by lower_in (list_of ys)) (any_by same_in (list_of ys)) → (d : Begun)
+          → v ≡ is_spread m inside (any_by lower_in (list_of ys)) (any_by same_in (list_of ys)) → (d : Begun)
           → LoopsStand homes (call_loops (b.Map place m counts starts (list_of ys))).loops
           → each_in_maps (Overlaps homes) (list_of ys)
-          (inside || over.is_spread m inside (any_by lower_in (list_of ys)) (any_by same_in (list_of ys)))
-          (can_overlap m (over.is_spread m inside (any_by lower_in (list_of ys)) (any_by same_in (list_of ys))) (list_of ys))
+          (inside || is_spread m inside (any_by lower_in (list_of ys)) (any_by same_in (list_of ys)))
+          (can_overlap m (is_spread m inside (any_by lower_in (list_of ys)) (any_by same_in (list_of ys))) (list_of ys))
           → (o : Option (List CallInstance)) → in_lanes m v (doubled_in homes (map starting (list_of ys))) ≡ o
           → Among d (flat_map (λ t. calls_in (map tables.begun (list_of ys)) (turn_in v turn (get_or counts k 0) t)
           (get_or starts k 0 + t)) (range_with_len 0 (get_or counts k 0)))

@@ -11,6 +11,7 @@ use Rattle.sq_spec.specs.declared.statement.Statement.{Statement, roll-Statement
 use Rattle.sq_spec.specs.declared.statement.Statement.TheVariants as b
 use Rattle.sq_spec.specs.declared.statement.Statement.TheOpen.{Statement-F}
 use Rattle.sq_spec.specs.declared.statement.Statement.TheFolds.{ind-Statement, map-Statement}
+use Rattle.sq_spec.specs.Spreads.{any_of, is_spread, lower_in, same_in}
 use Rattle.sq_spec_laws.specs.TableRows.{Table, red_of, all_tables, tables_of}
 use Rattle.sq_spec_laws.proofs.TableRowsHold.{tables_call, tables_map}
 use Rattle.sq_placed.specs.Pipes.{CallLoops, loop_round, call_loops}
@@ -20,9 +21,8 @@ use Rattle.sq_draft_laws.proofs.ProgramLaws.Loops.{each_both, each_left, each_ma
 use Rattle.sq_pass_laws.proofs.HoistLists.{all_each}
 use Rattle.sq_pass_laws.proofs.Nests.{same_number}
 use Rattle.sq_pass_laws.proofs.Sites.{IsWithin, LowersSo}
-use Rattle.sq_pipe.specs.Tables.Loops.{any_of, lower_in, same_in}
 use Rattle.sq_pipe.specs.declared.candidate.Candidate.{Candidate}
-use Rattle.sq_pipe.specs.Candidates.{may_overlap, have_one_form, first_form, is_spread, Seen, all_loops, only_call}
+use Rattle.sq_pipe.specs.Candidates.{may_overlap, have_one_form, first_form, Seen, all_loops, only_call}
 use Rattle.sq_pipe.specs.Candidates.{own_loop, seen, call_in}
 use Rattle.sq_pipe.specs.Greedy.{with_form, taken_from}
 use Rattle.sq_pipe.proofs.CallsOpened.{call_call, call_map, loops_call, loops_map}

@@ -14,6 +14,7 @@ use Rattle.sq_spec.specs.declared.statement.Statement.TheVariants as b
 use Rattle.sq_spec.specs.declared.statement.Statement.TheOpen.{Statement-F}
 use Rattle.sq_spec.specs.declared.statement.Statement.TheFolds.{ind-Statement, map-Statement}
 use Rattle.sq_spec.specs.Statements.{starts_from}
+use Rattle.sq_spec.specs.Spreads.{any_of, is_spread, lower_in, same_in}
 use Rattle.sq_spec_laws.specs.TableRows.{Table, red_of, all_tables, tables_of}
 use Rattle.sq_spec_laws.proofs.TableRowsHold.{tables_call, tables_map}
 use Rattle.sq_placed.specs.declared.home.Home.TheVariants.{InPlace}
@@ -25,9 +26,7 @@ use Rattle.sq_placed.proofs.Pipes as pipes
 use Rattle.sq_cells.specs.Work.{Buffer}
 use Rattle.sq_draft_laws.specs.PlanLaws.Calling.{place_of}
 use Rattle.sq_draft_laws.specs.TermLaws.Fits.{AskedOfStatement, all_parts}
-use Rattle.sq_draft_laws.specs.TermLaws.Lowers as rooms
 use Rattle.sq_draft_laws.specs.TermLaws.Orders.{EachOf}
-use Rattle.sq_draft_laws.specs.TermLaws.Overlapping as overlapping
 use Rattle.sq_draft_laws.specs.TermLaws.Overlapping.{AskedInMaps, each_in_maps, any_by, can_overlap, RowOverlaps, Overlaps}
 use Rattle.sq_draft_laws.proofs.TermLaws.Overlaps.{overlaps_call, overlaps_map}
 use Rattle.sq_draft_laws.specs.ProgramLaws.Piped.{IsDoubled, IsClear, IsClearBy, LoopOverlaps}
@@ -41,9 +40,8 @@ use Rattle.sq_pass_laws.proofs.Holding.{body_below}
 use Rattle.sq_pass_laws.proofs.HoistLists.{each_two}
 use Rattle.sq_pass_laws.proofs.Sites.{HasNumber, IsWithin, Numbered, from_left, from_right, lowers}
 use Rattle.sq_pass_laws.proofs.Staying.{words, AreAlike, shares_is}
-use Rattle.sq_pipe.specs.Tables.Loops.{any_of, lower_in, same_in}
 use Rattle.sq_pipe.specs.declared.candidate.Candidate.{Candidate}
-use Rattle.sq_pipe.specs.Candidates.{is_held, are_ahead, is_clear, may_overlap, have_one_form, first_form, is_spread}
+use Rattle.sq_pipe.specs.Candidates.{is_held, are_ahead, is_clear, may_overlap, have_one_form, first_form}
 use Rattle.sq_pipe.specs.Candidates.{Seen, all_loops, only_call, own_loop, seen, call_in}
 use Rattle.sq_pipe.proofs.CallsOpened.{call_call, loops_call, loops_map}
 use Rattle.sq_pass_laws.proofs.Candidates.{IsIn, in_front, in_back, only_one, no_round, each_form, one_form, IsOwn}
@@ -224,7 +222,7 @@ module _ (homes : ℕ → Homes) (leaves : ℕ → List ℕ) (suited : AreSuited
           (each_form rows (one_form leaves children m spread counts rows h.may)) at ∙ h.form
 
       abbrev alone_spread : Bool
-      alone_spread = overlapping.is_spread m inside (any_by rooms.lower_in one) (any_by rooms.same_in one)
+      alone_spread = is_spread m inside (any_by lower_in one) (any_by same_in one)
 
       row_overlaps : (q : CallInstance) → ((homes q.form).overlaps ≡ true → IsIts q.form)
           → RowOverlaps homes true (can_overlap m alone_spread one) rows q

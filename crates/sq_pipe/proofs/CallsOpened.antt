@@ -7,9 +7,9 @@ use Rattle.sq_spec.specs.declared.statement.Statement.{Statement, roll-Statement
 use Rattle.sq_spec.specs.declared.statement.Statement.TheVariants as s
 use Rattle.sq_spec.specs.declared.statement.Statement.TheOpen.{Statement-F}
 use Rattle.sq_spec.specs.declared.statement.Statement.TheFolds.{fold-roll-Statement, ind-Statement, map-Statement}
-use Rattle.sq_hoist.specs.Tables.Loops.{any_of, lower_in, same_in}
+use Rattle.sq_spec.specs.Spreads.{any_of, lower_in, same_in}
 use Rattle.sq_pipe.specs.Candidates.{Seen, call_step, call_in, map_loops, seen_step, seen}
-use Rattle.sq_hoist.proofs.Tables.InStatements.{lower_call, lower_map, same_call, same_map}
+use Rattle.sq_spec.proofs.InStatements.{lower_call, lower_map, same_call, same_map}
 
 pub call_call : (lower : Bool) (instances : List CallInstance) → call_in (s.Call lower instances)
     ≡ call_step (Statement-F.Call lower instances)

@@ -10,8 +10,8 @@ use Rattle.sq_spec.specs.declared.statement.Statement.{Statement, roll-Statement
 use Rattle.sq_spec.specs.declared.statement.Statement.TheVariants as s
 use Rattle.sq_spec.specs.declared.statement.Statement.TheOpen.{Statement-F}
 use Rattle.sq_spec.specs.declared.statement.Statement.TheFolds.{fold-roll-Statement, ind-Statement, map-Statement}
-use Rattle.sq_hoist.specs.Tables.Loops.{any_of, lower_in, same_in}
-use Rattle.sq_hoist.proofs.Tables.InStatements.{lower_call, lower_map, same_call, same_map}
+use Rattle.sq_spec.specs.Spreads.{any_of, lower_in, same_in}
+use Rattle.sq_spec.proofs.InStatements.{lower_call, lower_map, same_call, same_map}
 use Rattle.sq_pipe.specs.Runs.{Landing, all_lands, row_lands, turns_land, map_lands, landing_step, landing, noted}
 
 -- ---- statements

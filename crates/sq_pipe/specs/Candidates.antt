@@ -21,8 +21,7 @@ use Rattle.sq_spec.specs.declared.statement.CallInstance.{CallInstance}
 use Rattle.sq_spec.specs.declared.statement.Statement.{Statement}
 use Rattle.sq_spec.specs.declared.statement.Statement.TheOpen.{Statement-F}
 use Rattle.sq_spec.specs.declared.statement.Statement.TheFolds.{fold-Statement}
-use Rattle.sq_hoist.specs.Placed.Tables.{is_beside}
-use Rattle.sq_hoist.specs.Tables.Loops.{any_of}
+use Rattle.sq_spec.specs.Spreads.{any_of, is_spread}
 use Rattle.sq_hoist.specs.Loops.{cut}
 use Rattle.sq_pipe.specs.declared.candidate.Candidate.{Candidate}
 
@@ -79,11 +78,6 @@ may_overlap leaves children loop_kind.Parallel spread counts rows =
 may_overlap leaves children (loop_kind.Reduction r) spread counts rows = false
 
 -- ---- the loops of a form
-
--- A map is spread where it stands in no other spread map of its form, and has in its body a lower call and no
--- same-level call.
-abbrev pub is_spread : LoopKind → (inside lower same : Bool) → Bool
-is_spread kind inside lower same = is_beside kind && (not inside && (lower && not same))
 
 -- A statement: its rows if it is a lower call, whether lower and same-level calls stand in it, and its loops that may
 -- overlap, where a spread map stands round it or not.

@@ -4,14 +4,13 @@ ghost use Rattle.std.specs.Prelude.{◌≡◌, ◌||◌, ◌++◌, nat_le, nat_l
 ghost use Rattle.std.specs.List.{list_all};
 ghost use Rattle.std.specs.Option.{option_copied};
 ghost use Rattle.sq_hoist.specs.Homes.Drafts.{choice_in};
-ghost use Rattle.sq_hoist.specs.Placed.Tables.{is_beside};
-ghost use Rattle.sq_hoist.specs.Tables.Loops as statements;
 ghost use Rattle.sq_pipe.specs.Candidates as spec;
+ghost use Rattle.sq_spec.specs.Spreads as spreads;
 
 use crate::ahead::are_all_ahead;
 use crate::candidate::Candidate;
-use sq_hoist::{Choice, any_lower, any_same};
-use sq_spec::{CallInstance, LoopKind, Statement};
+use sq_hoist::Choice;
+use sq_spec::{CallInstance, LoopKind, Statement, is_spread};
 use sq_text::Place;
 use sqlite_items::{Items, at};
 use std::alloc::AllocError;
@@ -105,19 +104,6 @@ fn may_overlap(caller: Caller<'_>, map: Map<'_>, rows: &[CallInstance]) -> bool
             map.spread && have_one_form(rows) && are_more(caller.children, map.counts)
         }
         LoopKind::Reduction(_) => false,
-    }
-}
-
-/// A map is spread where it stands in no other spread map, and has in its body a lower call and no same-level call.
-pub fn is_spread(kind: LoopKind, inside: bool, body: &[Statement]) -> bool
-    ensures { result ≡ spec.is_spread kind inside (statements.any_of (map statements.lower_in body.now))
-        (statements.any_of (map statements.same_in body.now)) }
-{
-    match kind {
-        LoopKind::Sequential => false,
-        LoopKind::Parallel | LoopKind::Reduction(_) => {
-            !inside && (any_lower(body) && !any_same(body))
-        }
     }
 }
 
@@ -216,8 +202,8 @@ fn push_map(
     body: &[Statement],
 ) -> Result<(), AllocError>
     ensures { OnOk result (out.new ≡ out.old ++ spec.map_loops (λ f. (choice_in caller.entry.choices.now f).leaves)
-        caller.entry.children caller.entry.form place kind counts.now (map statements.lower_in body.now)
-        (map statements.same_in body.now) (map spec.call_in body.now)
+        caller.entry.children caller.entry.form place kind counts.now (map spreads.lower_in body.now)
+        (map spreads.same_in body.now) (map spec.call_in body.now)
         (map (spec.seen (λ f. (choice_in caller.entry.choices.now f).leaves) caller.entry.children caller.entry.form)
         body.now) inside) }
 {

@@ -2,11 +2,10 @@
 
 ghost use Rattle.std.specs.Prelude.{◌≡◌, ◌+◌, ◌*◌, ◌<◌, ◌≤◌, true, false, slice_get, slice_set, get_or, replicate};
 ghost use Rattle.std.specs.Prelude.{map, IfOk, OnOk};
-ghost use Rattle.sq_hoist.specs.Tables.Loops as statements;
 ghost use Rattle.sq_pipe.specs.Runs as spec;
 
-use crate::loops::{either, is_spread};
-use sq_spec::{Body, CallInstance, LoopKind, Statement};
+use crate::loops::either;
+use sq_spec::{Body, CallInstance, LoopKind, Statement, is_spread};
 use sq_text::SpreadRule;
 use sqlite_items::{Items, at};
 use std::alloc::{AllocError, Global};

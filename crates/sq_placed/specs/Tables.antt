@@ -14,6 +14,7 @@ use Rattle.sq_spec.specs.declared.statement.CallInstance.{CallInstance}
 use Rattle.sq_spec.specs.declared.statement.Statement.{Statement}
 use Rattle.sq_spec.specs.declared.statement.Statement.TheOpen.{Statement-F}
 use Rattle.sq_spec.specs.declared.statement.Statement.TheFolds.{fold-Statement}
+use Rattle.sq_spec.specs.Spreads.{is_spread}
 use Rattle.sq_spec.specs.declared.body.Body.{Body}
 use Rattle.sq_spec.specs.declared.body.Body.TheVariants as body
 use Rattle.sq_spec.specs.declared.body.FormBody.{FormBody}
@@ -61,20 +62,14 @@ placed_call bodies homes op lower r =
 
 -- ---- maps
 
-abbrev pub is_beside : LoopKind → Bool
-is_beside loop_kind.Sequential = false
-is_beside loop_kind.Parallel = true
-is_beside (loop_kind.Reduction r) = true
-
 abbrev pub op_of : LoopKind → Option RedOp
 op_of loop_kind.Sequential = None
 op_of loop_kind.Parallel = None
 op_of (loop_kind.Reduction r) = Some r.op
 
--- A `mappar` or `mapreduce` is spread where it stands in no other spread map of its form, and has in its body a lower
--- call and no same-level call.
+-- the rule of a map that is spread
 abbrev pub spread_of : SpreadRule → LoopKind → (inside lower same : Bool) → Option SpreadRule
-spread_of rule m inside lower same = if is_beside m && (not inside && (lower && not same)) then Some rule else None
+spread_of rule m inside lower same = if is_spread m inside lower same then Some rule else None
 
 abbrev pub map_placed : LoopKind → Place → Option SpreadRule → ℕ → (ℕ → Placed) → Placed
 map_placed loop_kind.Sequential place spread count w = Each count w

@@ -3,6 +3,7 @@ use Rattle.std.proofs.Common.{◌≡◌, ℕ, zero, suc, ◌+◌, ◌<◌, ◌�
 use Rattle.std.proofs.Common.{◌++◌, map, length, get_or, slice_get, Option, Some, None, refl, sym, ap, subst, ◌∙◌}
 use Rattle.std.proofs.Common.{arith}
 use Rattle.std.proofs.lemmas.Bool.Decides.{nat_tests}
+use Rattle.std.specs.Prelude.{is_some}
 use Rattle.std.specs.List.{flat_map, range_with_len}
 use Rattle.sq_text.specs.declared.place.Place.{Place}
 use Rattle.sq_ir.specs.declared.plan.PlanNode.{PlanNode}
@@ -16,6 +17,7 @@ use Rattle.sq_spec.specs.declared.statement.Statement.TheFolds.{ind-Statement, m
 use Rattle.sq_spec.specs.declared.body.Body.{Body}
 use Rattle.sq_spec.specs.declared.body.Body.TheVariants as body
 use Rattle.sq_spec.specs.declared.resolved.Resolved.{Resolved}
+use Rattle.sq_spec.specs.Spreads.{is_spread}
 use Rattle.sq_spec_laws.specs.Needs.{Turn, turn_in, RunsAt}
 use Rattle.sq_placed.specs.declared.home.Homes.{Homes}
 use Rattle.sq_placed.specs.Tables.{row_form}
@@ -26,7 +28,6 @@ use Rattle.sq_draft_laws.specs.TermLaws.Fits.{Bounds, AskedOfStatement, HaveCoun
 use Rattle.sq_draft_laws.proofs.TermLaws.Chains.{tabled_map}
 use Rattle.sq_pipe.specs.Homes.declared.choice.Choice.{Choice}
 use Rattle.sq_pipe.specs.Homes.Drafts.{bodies_of, homes_of}
-use Rattle.sq_pipe.specs.Homes.Begun.{is_spread}
 use Rattle.sq_draft_laws.specs.Choosing.{Walked, MayBeChosen}
 use Rattle.sq_draft_laws.specs.Given.{level_at}
 use Rattle.sq_draft_laws.specs.Drafts.{limits}
@@ -107,7 +108,7 @@ module _ (homes : ℕ → Homes) (most : Bounds) (last_level level : ℕ) where
 
   -- the kind of a loop by whether it is spread
   spread_kind : (m : LoopKind) (v : Bool) (o : Option (List CallInstance)) (rows : List CallInstance)
-      (turn : Option Turn) (low same : Bool) → in_lanes m v o ≡ Some rows → v ≡ is_spread m turn low same → v ≡ true
+      (turn : Option Turn) (low same : Bool) → in_lanes m v o ≡ Some rows → v ≡ is_spread m (is_some turn) low same → v ≡ true
       → m ≡ loop_kind.Parallel
   spread_kind loop_kind.Sequential v o rows turn low same e g t = absurd (let z : false ≡ true = sym g ∙ t in cc z)
   spread_kind loop_kind.Parallel v o rows turn low same e g t = refl
@@ -140,7 +141,7 @@ module _ (homes : ℕ → Homes) (most : Bounds) (last_level level : ℕ) where
       (by a.0 a.2 (λ t l. a.4 k t less l) a.5 (in_lanes m v (doubled_in homes (map starting (list_of ys)))) refl))
     where
       v : Bool
-      v = is_spread m turn (any_lower (map starting (list_of ys))) (any_same (map starting (list_of ys)))
+      v = is_spread m (is_some turn) (any_lower (map starting (list_of ys))) (any_same (map starting (list_of ys)))
 
       its_loops : List CallLoop
       its_loops = loop_round m counts starts (map call_loops (list_of ys)) ++ all_loops (map call_loops (list_of ys))

@@ -26,6 +26,7 @@ use Rattle.sq_spec.specs.declared.statement.Statement.TheFolds.{ind-Statement, m
 use Rattle.sq_spec.specs.declared.body.Body.{Body}
 use Rattle.sq_spec.specs.declared.body.Body.TheVariants as body
 use Rattle.sq_spec.specs.declared.body.FormBody.{FormBody}
+use Rattle.sq_spec.specs.Spreads.{is_spread}
 use Rattle.sq_spec_laws.specs.Needs.{Turn, turn_in}
 use Rattle.sq_nests.specs.Nests.{ScopesAt, all_at, each_of, scopes_of}
 use Rattle.sq_nests.specs.Stacks.{total}
@@ -52,7 +53,7 @@ use Rattle.sq_draft_laws.specs.TermLaws.Leaves.{Leaves, BodyLeaves, joined_calls
 use Rattle.sq_draft_laws.proofs.TermLaws.Chains.{tabled_call, tabled_map, leaves_call, leaves_map, by_call_map}
 use Rattle.sq_draft_laws.proofs.Standing.{map_length}
 use Rattle.sq_draft_laws.proofs.Hoisting.{at_index}
-use Rattle.sq_pipe.specs.Homes.Begun.{is_spread, child_in}
+use Rattle.sq_pipe.specs.Homes.Begun.{child_in}
 use Rattle.sq_plan_good.specs.Sums.{greatest, here}
 use Rattle.sq_plan_good.specs.Loops.{Starts, Once, StartsPart, any_lower, any_same, starts_in, once, in_lanes, map_starts}
 use Rattle.sq_plan_good.specs.Loops.{doubled, doubled_in, starts_by, starts_of, standing_from, brought_by, both_sets}
@@ -675,7 +676,7 @@ module _ (s : Setting) (x : ℕ) (bodies : ℕ → FormBody) (homes : ℕ → Ho
       (is_some round || is_some (spread_of rule m (is_some round) lower same))
       (in_map (spread_of rule m (is_some round) lower same) (count_num counts c) starts c)))) env
       ≡ greatest weigh (flat_map (λ t. starts_in (map stands (list_of ys))
-      (turn_in (is_spread m round lower same) round (get_or counts k 0) t) (get_or starts k 0 + t))
+      (turn_in (is_spread m (is_some round) lower same) round (get_or counts k 0) t) (get_or starts k 0 + t))
       (range_with_len 0 (get_or counts k 0)))
   loop_sum m counts starts ys outer inner asked round k c env below h lower same =
       map_sum v count many _ env _ counted (λ t l.
@@ -686,7 +687,7 @@ module _ (s : Setting) (x : ℕ) (bodies : ℕ → FormBody) (homes : ℕ → Ho
       (turn_begins s env rule node round k c count many counted starts t v h))
     where
       v : Bool
-      v = is_spread m round lower same
+      v = is_spread m (is_some round) lower same
 
       many : ℕ
       many = get_or counts k 0
@@ -743,7 +744,7 @@ module _ (s : Setting) (x : ℕ) (bodies : ℕ → FormBody) (homes : ℕ → Ho
       start = get_or starts k 0
 
       v : Bool
-      v = is_spread m round (any_lower (map stands (list_of ys))) (any_same (map stands (list_of ys)))
+      v = is_spread m (is_some round) (any_lower (map stands (list_of ys))) (any_same (map stands (list_of ys)))
 
       is : built (b.Map place m counts starts (list_of ys))
           ≡ term_step bodies homes made rule (Statement-F.Map place m counts starts parts)

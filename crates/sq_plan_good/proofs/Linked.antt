@@ -3,6 +3,7 @@ use Rattle.std.proofs.Common.{◌≡◌, ℕ, zero, suc, ◌+◌, ◌<◌, ◌==
 use Rattle.std.proofs.Common.{◌∷◌, ◌++◌, map, length, get_or, slice_get, Option, Some, None, refl, sym, ap, ap₂}
 use Rattle.std.proofs.Common.{subst, ◌∙◌, arith, append_assoc, append-nil, length-append}
 use Rattle.std.proofs.lemmas.Bool.Decides.{nat_tests}
+use Rattle.std.specs.Prelude.{is_some}
 use Rattle.std.specs.List.{flat_map, range_with_len}
 use Rattle.sq_num.specs.declared.Elem.{Elem}
 use Rattle.sq_text.specs.declared.place.Place.{Place}
@@ -37,6 +38,7 @@ use Rattle.sq_form_laws.proofs.EachCall.{AllIn, all_front, all_back, text_call, 
 use Rattle.sq_spec.specs.declared.statement.CallInstance.{CallInstance}
 use Rattle.sq_spec.specs.Statements.{number_or, starts_from, iteration_points, count_at, count_rows, call_instance}
 use Rattle.sq_spec.specs.Statements.{loop_kind_of, StatementTable, all_of, call_table, table_of}
+use Rattle.sq_spec.specs.Spreads.{is_beside, is_spread}
 use Rattle.sq_spec.proofs.OpenedStatement.{table_of_call, table_of_map, same_calls}
 use Rattle.sq_spec.proofs.Rows.{row_kept, rows_kept, begun_before, slice_get_map, get_or_map, inner_at}
 use Rattle.sq_spec.proofs.TablesMean.{turn, iteration_points_deeper, first_start}
@@ -44,9 +46,8 @@ use Rattle.sq_spec_laws.specs.Needs as needs
 use Rattle.sq_spec_laws.specs.Needs.{Turn, Reached, Reaching, reached_by, total_calls, reached_in, turn_in, reaching_step}
 use Rattle.sq_spec_laws.specs.Needs.{reaching, frame_at}
 use Rattle.sq_spec_laws.proofs.LevelsHold.{reaching_call, reaching_map}
-use Rattle.sq_placed.specs.Tables as placing
 use Rattle.sq_pipe.specs.Homes.Begun as tables
-use Rattle.sq_pipe.specs.Homes.Begun.{Begun, BegunPart, row_begun, is_spread}
+use Rattle.sq_pipe.specs.Homes.Begun.{Begun, BegunPart, row_begun}
 use Rattle.sq_plan_good.proofs.Terms.{begun_call, begun_map}
 
 -- ---- small things
@@ -76,13 +77,13 @@ args_calls outer names numbers reduced params i (a ∷ rest) later =
     used_calls outer _ ∙ args_calls outer names numbers reduced params (i + 1) rest later
 
 beside_same : (elems : List Elem) (names : Names) (kind : MapKind)
-    → placing.is_beside (loop_kind_of elems names kind) ≡ needs.is_beside kind
+    → is_beside (loop_kind_of elems names kind) ≡ needs.is_beside kind
 beside_same elems names Par = refl
 beside_same elems names Seq = refl
 beside_same elems names (Reduce op array) = refl
 
 spread_same : (elems : List Elem) (names : Names) (kind : MapKind) (round : Option Turn) (lower same : Bool)
-    → is_spread (loop_kind_of elems names kind) round lower same ≡ needs.is_spread kind round lower same
+    → is_spread (loop_kind_of elems names kind) (is_some round) lower same ≡ needs.is_spread kind round lower same
 spread_same elems names kind None lower same =
     ap (λ (v : Bool). v && (lower && not same)) (beside_same elems names kind)
 spread_same elems names kind (Some u) lower same = ap (λ (v : Bool). v && false) (beside_same elems names kind)
@@ -424,7 +425,7 @@ module _ (variants : List Variant) (instances : List Instance) (x : Instance) (f
         let inside : AreText site (concat (map text_calls (stmts ys))) = subst (AreText site) (text_map p kind rs (stmts ys)) at in
         let v = needs.is_spread kind round (needs.any_lower (map reaching (stmts ys)) listed_) (needs.any_same (map reaching (stmts ys)) listed_) in
         let parts = map tables.begun (all_of (map table (stmts ys)) site.call (reduced_by kind) (nest ++ rs ∷ [])) in
-        let chosen : is_spread (loop_kind_of elems names kind) round (tables.any_lower parts) (tables.any_same parts) ≡ v =
+        let chosen : is_spread (loop_kind_of elems names kind) (is_some round) (tables.any_lower parts) (tables.any_same parts) ≡ v =
         spread_same elems names kind round (tables.any_lower parts) (tables.any_same parts)
         ∙ ap₂ (needs.is_spread kind round) (lowers ys own site.call (reduced_by kind) (nest ++ rs ∷ [])) (sames ys own site.call (reduced_by kind) (nest ++ rs ∷ [])) in
         let all = map_agrees p kind rs ys own site nest k e round inside there v in

@@ -1,6 +1,7 @@
 -- Where no loop overlaps its transfers, what tables begin are calls, and each brings all of its buffers.
 use Rattle.std.proofs.Common.{◌≡◌, ℕ, zero, suc, ◌+◌, max, Bool, true, false, ◌||◌, List, [], ◌∷◌, ◌++◌, map}
 use Rattle.std.proofs.Common.{get_or, slice_get, Option, Some, None, refl, sym, ap, ap₂, subst, ◌∙◌, if◌then◌else◌}
+use Rattle.std.specs.Prelude.{is_some}
 use Rattle.std.specs.List.{flat_map, range_with_len}
 use Rattle.sq_text.specs.declared.place.Place.{Place}
 use Rattle.sq_text.specs.declared.spread.SpreadRule.{SpreadRule}
@@ -16,6 +17,7 @@ use Rattle.sq_spec.specs.declared.statement.Statement.TheFolds.{ind-Statement, m
 use Rattle.sq_spec.specs.declared.body.Body.{Body}
 use Rattle.sq_spec.specs.declared.body.Body.TheVariants as body
 use Rattle.sq_spec.specs.declared.body.FormBody.{FormBody}
+use Rattle.sq_spec.specs.Spreads.{is_spread}
 use Rattle.sq_spec_laws.specs.Needs.{Turn, turn_in}
 use Rattle.sq_nests.specs.Stacks.{total}
 use Rattle.sq_placed.specs.declared.home.Home.{Home}
@@ -27,7 +29,7 @@ use Rattle.sq_placed.specs.Trees.{local_buffers, callee_node}
 use Rattle.sq_draft_laws.specs.TermLaws.Orders.{EachOf}
 use Rattle.sq_draft_laws.specs.TermLaws.Overlapping.{IsSuited}
 use Rattle.sq_pipe.specs.Homes.Begun as tables
-use Rattle.sq_pipe.specs.Homes.Begun.{Begun, BegunPart, calls_in, row_begun, is_spread, calls_of, child_in}
+use Rattle.sq_pipe.specs.Homes.Begun.{Begun, BegunPart, calls_in, row_begun, calls_of, child_in}
 use Rattle.sq_plan_good.specs.Sums.{greatest, here, either_buffer, params_from, worth, sum_of, entry_sum}
 use Rattle.sq_plan_good.specs.Loops.{Starts, Once, StartsPart, any_lower, any_same, starts_in, once, in_lanes, map_starts}
 use Rattle.sq_plan_good.specs.Loops.{doubled, doubled_in, starts_by, starts_of, standing, standing_from, starts_worth}
@@ -139,9 +141,9 @@ module _ (homes : ℕ → Homes) (free : NonePiped homes) where
         let count = get_or counts k 0 in
         let start = get_or starts k 0 in
         ap (λ (p : StartsPart). p.starts turn k) (starts_map homes place m counts starts (list_of ys))
-        ∙ ap₂ (λ (u v : Bool). map_starts (in_lanes m (is_spread m turn u v) (doubled_in homes parts))
-        (is_spread m turn u v) count start turn parts) (lowers ys) (sames ys)
-        ∙ plain m (is_spread m turn (tables.any_lower (map tables.begun (list_of ys)))
+        ∙ ap₂ (λ (u v : Bool). map_starts (in_lanes m (is_spread m (is_some turn) u v) (doubled_in homes parts))
+        (is_spread m (is_some turn) u v) count start turn parts) (lowers ys) (sames ys)
+        ∙ plain m (is_spread m (is_some turn) (tables.any_lower (map tables.begun (list_of ys)))
         (tables.any_same (map tables.begun (list_of ys)))) count start turn
         ∙ sym (ap (λ (p : BegunPart). map Once (p.calls turn k)) (begun_map place m counts starts (list_of ys)));
   }

@@ -2,6 +2,7 @@
 use Rattle.std.proofs.Common.{◌≡◌, ℕ, zero, suc, ◌+◌, ◌<◌, Bool, true, false, ◌||◌, List, [], ◌∷◌, ◌++◌, map}
 use Rattle.std.proofs.Common.{length, get_or, slice_get, Option, Some, None, refl, sym, ap, ap₂, subst, ◌∙◌, arith}
 use Rattle.std.proofs.Common.{if◌then◌else◌}
+use Rattle.std.specs.Prelude.{is_some}
 use Rattle.std.specs.List.{flat_map, range_with_len}
 use Rattle.sq_text.specs.declared.place.Place.{Place}
 use Rattle.sq_blocks.specs.declared.argument.Argument.{Argument}
@@ -14,6 +15,7 @@ use Rattle.sq_spec.specs.declared.statement.Statement.TheOpen.{Statement-F}
 use Rattle.sq_spec.specs.declared.statement.Statement.TheFolds.{ind-Statement, map-Statement}
 use Rattle.sq_spec.specs.declared.body.Body.{Body}
 use Rattle.sq_spec.specs.declared.body.Body.TheVariants as body
+use Rattle.sq_spec.specs.Spreads.{is_spread}
 use Rattle.sq_spec_laws.specs.Needs.{Turn, turn_in}
 use Rattle.sq_placed.specs.declared.home.Homes.{Homes}
 use Rattle.sq_placed.specs.Tables.{row_form}
@@ -22,7 +24,7 @@ use Rattle.sq_placed.specs.Pipes.{CallLoops, call_loops_of, loop_round}
 use Rattle.sq_placed.proofs.Pipes.{map_loops, loops_left, loops_right, loops_call}
 use Rattle.sq_term.specs.Terms.{row_args}
 use Rattle.sq_pipe.specs.Homes.Begun as tables
-use Rattle.sq_pipe.specs.Homes.Begun.{Begun, BegunPart, calls_in, row_begun, is_spread, calls_of}
+use Rattle.sq_pipe.specs.Homes.Begun.{Begun, BegunPart, calls_in, row_begun, calls_of}
 use Rattle.sq_plan_good.specs.Loops.{BegunLoop, Starts, Once, Lanes, StartsPart, any_lower, any_same, starts_in, once}
 use Rattle.sq_plan_good.specs.Loops.{in_lanes, map_starts, doubled, doubled_in, starts_by, starts_of}
 use Rattle.sq_plan_good.proofs.Terms.{begun_call, begun_map, starts_call, starts_map}
@@ -279,14 +281,14 @@ module _ (homes : ℕ → Homes) where
   }
     where
       own_spread : Option Turn → Bool
-      own_spread turn = is_spread m turn (any_lower (map starting (list_of ys))) (any_same (map starting (list_of ys)))
+      own_spread turn = is_spread m (is_some turn) (any_lower (map starting (list_of ys))) (any_same (map starting (list_of ys)))
 
       its_spread : Option Turn → Bool
-      its_spread turn = is_spread m turn (tables.any_lower (map tables.begun (list_of ys)))
+      its_spread turn = is_spread m (is_some turn) (tables.any_lower (map tables.begun (list_of ys)))
           (tables.any_same (map tables.begun (list_of ys)))
 
       spread_same : (turn : Option Turn) → own_spread turn ≡ its_spread turn
-      spread_same turn = ap₂ (is_spread m turn) (lowers ys) (sames ys)
+      spread_same turn = ap₂ (is_spread m (is_some turn)) (lowers ys) (sames ys)
 
       calls_by : Bool → Option Turn → ℕ → List Begun
       calls_by v turn k = flat_map (λ t. calls_in (map tables.begun (list_of ys))

@@ -2,6 +2,7 @@
 -- that calls within one another, and such loops round them, bring to it.
 use Rattle.std.specs.Prelude.{◌≡◌, ℕ, zero, suc, ◌+◌, Bool, not, ◌||◌, false, true, List, [], ◌∷◌, ◌++◌, map}
 use Rattle.std.specs.Prelude.{length, get_or, slice_get, Option, Some, None, if◌then◌else◌}
+use Rattle.std.specs.Prelude.{is_some}
 use Rattle.std.specs.List.{flat_map, range_with_len}
 use Rattle.sq_text.specs.declared.spread.SpreadRule.{SpreadRule}
 use Rattle.sq_text.specs.Spreading.{iterations_at}
@@ -19,6 +20,7 @@ use Rattle.sq_spec.specs.declared.body.Body.{Body}
 use Rattle.sq_spec.specs.declared.body.Body.TheVariants as body
 use Rattle.sq_spec.specs.declared.body.FormBody.{FormBody}
 use Rattle.sq_spec.specs.declared.resolved.Resolved.{Resolved}
+use Rattle.sq_spec.specs.Spreads.{is_spread}
 use Rattle.sq_spec_laws.specs.Needs.{Turn, turn_in}
 use Rattle.sq_nests.specs.Stacks.{total}
 use Rattle.sq_nests.specs.Drafts.{nested_sum}
@@ -31,7 +33,7 @@ use Rattle.sq_term.specs.Terms.{body_in, homes_in, set_buffers_from, row_args}
 use Rattle.sq_pipe.specs.Homes.declared.choice.Choice.{Choice}
 use Rattle.sq_pipe.specs.Homes.Drafts.{IsDraftOf, bodies_of, homes_of, entry_of}
 use Rattle.sq_draft_laws.specs.Choosing.{Walked, MayBeChosen, setting_of}
-use Rattle.sq_pipe.specs.Homes.Begun.{Begun, child_in, is_spread}
+use Rattle.sq_pipe.specs.Homes.Begun.{Begun, child_in}
 use Rattle.sq_plan_good.specs.Sums.{greatest, here}
 
 -- ---- what tables begin
@@ -109,7 +111,7 @@ module _ (homes : ℕ → Homes) where
     same = any_same parts;
     call = None;
     starts = λ turn k.
-        let spread = is_spread m turn (any_lower parts) (any_same parts) in
+        let spread = is_spread m (is_some turn) (any_lower parts) (any_same parts) in
         map_starts (in_lanes m spread (doubled_in parts)) spread (get_or counts k 0) (get_or starts k 0) turn parts;
   }
 

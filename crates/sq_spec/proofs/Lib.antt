@@ -1,4 +1,5 @@
 pub mod OpenedStatement
+pub mod InStatements
 pub mod StatementLists
 pub mod Rows
 pub mod TablesMean

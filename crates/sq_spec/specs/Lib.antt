@@ -1,4 +1,5 @@
 pub mod Statements
+pub mod Spreads
 pub mod Works
 pub mod StatementsWork
 pub mod Bodies

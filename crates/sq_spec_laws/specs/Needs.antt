@@ -12,7 +12,7 @@
 --   and b needs 0.
 -- A call of form 0 at its own level, whose first argument of ten ints is in place and whose second isn't, reaches a
 -- form that runs at h too, and ends at 80 + 40: with it h needs 120.
-use Rattle.std.specs.Prelude.{◌≡◌, ◌⊎◌, ℕ, suc, ◌+◌, ◌*◌, ◌/◌, ◌≤◌, Bool, true, false, not, ◌&&◌, ◌||◌, ◌==◌, List, [], ◌∷◌, ◌++◌, map, Option, Some, None, is_none, Ok, Err, if◌then◌else◌, slice_get}
+use Rattle.std.specs.Prelude.{◌≡◌, ◌⊎◌, ℕ, suc, ◌+◌, ◌*◌, ◌/◌, ◌≤◌, Bool, true, false, ◌||◌, ◌==◌, List, [], ◌∷◌, ◌++◌, map, Option, Some, None, is_none, Ok, Err, if◌then◌else◌, slice_get}
 use Rattle.std.specs.List.{flat_map, range_with_len}
 use Rattle.sq_num.specs.declared.Elem.{Elem}
 use Rattle.sq_num.specs.Elements.{width}
@@ -51,6 +51,7 @@ use Rattle.sq_forms.specs.Decls.{Scope, empty_scope, params_from, all_declared}
 use Rattle.sq_forms.specs.Resolving.{Resolving, resolution, with_locals, start, params_of}
 use Rattle.sq_forms.specs.Steps.{Called}
 use Rattle.sq_spec.specs.FormLaws.Reached.{Ran, calls_in, steps_of}
+use Rattle.sq_spec.specs.Spreads.{spreads}
 
 -- ---- how many bytes forms take
 
@@ -177,10 +178,9 @@ is_beside Par = true
 is_beside Seq = false
 is_beside (Reduce op array) = true
 
--- A `mappar` or `mapreduce` is spread where it stands in no other spread map of its form, and has in its body a lower
--- call and no same-level call.
+-- where an iteration of a spread map stands round it or not
 abbrev pub is_spread : MapKind → Option Turn → Bool → Bool → Bool
-is_spread kind turn lower same = is_beside kind && (is_none turn && (lower && not same))
+is_spread kind turn lower same = spreads (is_beside kind) (is_none turn) lower same
 
 abbrev pub turn_in : Bool → Option Turn → ℕ → ℕ → Option Turn
 turn_in true turn count t = Some (record { count = count; t = t })

@@ -1,5 +1,5 @@
--- What stands in a statement: calls of either kind, and the one call that it is a loop of.
-use Rattle.std.specs.Prelude.{ℕ, ◌+◌, Bool, false, not, ◌||◌, List, [], ◌∷◌, Option, Some, None}
+-- The one call that a statement is a loop of.
+use Rattle.std.specs.Prelude.{ℕ, ◌+◌, Bool, List, [], ◌∷◌, Option, Some, None}
 use Rattle.sq_term.specs.Ir.declared.num.Num.{Num}
 use Rattle.sq_spec.specs.declared.statement.LoopKind.{LoopKind}
 use Rattle.sq_spec.specs.declared.statement.LoopKind.TheVariants as loop_kind
@@ -9,25 +9,6 @@ use Rattle.sq_spec.specs.declared.statement.Statement.TheOpen.{Statement-F}
 use Rattle.sq_spec.specs.declared.statement.Statement.TheFolds.{fold-Statement}
 use Rattle.sq_term.specs.Placed.Tables.{Chain, call_chain, chain_of}
 use Rattle.sq_term.specs.Terms.{first_num, chain_num}
-
--- whether statements have a lower call in them, and a same-level one
-abbrev pub any_of : List Bool → Bool
-any_of [] = false
-any_of (b ∷ bs) = b || any_of bs
-
-abbrev pub lower_step : Statement-F Bool → Bool
-lower_step (Statement-F.Call lower instances) = lower
-lower_step (Statement-F.Map place m counts starts parts) = any_of parts
-
-abbrev pub lower_in : Statement → Bool
-lower_in = fold-Statement Bool lower_step
-
-abbrev pub same_step : Statement-F Bool → Bool
-same_step (Statement-F.Call lower instances) = not lower
-same_step (Statement-F.Map place m counts starts parts) = any_of parts
-
-abbrev pub same_in : Statement → Bool
-same_in = fold-Statement Bool same_step
 
 -- the call that a statement is a loop of
 abbrev pub chain_of_call : (lower : Bool) → List CallInstance → Option (Chain Num)

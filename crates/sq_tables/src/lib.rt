@@ -3,7 +3,6 @@
 
 mod blocks;
 mod cases;
-mod inside;
 mod leaving;
 mod loops;
 mod pipes;
@@ -11,9 +10,9 @@ mod tables;
 
 pub use blocks::held_offsets;
 pub use cases::{Arm, Arms, arms_of, picks};
-pub use inside::{any_lower, any_same};
 pub use leaving::{Left, home_at, leaving_args};
 pub use loops::{loops_in, op_of, rows_in, spread_of};
 pub use pipes::{Pipe, pipe_of};
+pub use sq_spec::{any_lower, any_same};
 pub use sq_term::{Context, Home, Homes, Lane, Move};
 pub use tables::{CallTable, table_of, tables_of};

@@ -4,6 +4,7 @@ ghost use Rattle.std.specs.Prelude.{◌≡◌, ◌+◌, IfOk, map};
 ghost use Rattle.std.specs.Option.{option_copied};
 ghost use Rattle.sq_term.specs.Placed.Tables as tables;
 ghost use Rattle.sq_tables.specs.Loops as loops;
+ghost use Rattle.sq_spec.specs.Spreads.{is_beside};
 
 use sq_num::RedOp;
 use sq_spec::{CallInstance, LoopKind, Statement};
@@ -20,8 +21,8 @@ pub fn op_of(kind: LoopKind) -> Option<RedOp>
     }
 }
 
-fn is_beside(kind: LoopKind) -> bool
-    ensures { result ≡ tables.is_beside kind }
+fn stand_beside(kind: LoopKind) -> bool
+    ensures { result ≡ is_beside kind }
 {
     match kind {
         LoopKind::Sequential => false,
@@ -39,7 +40,7 @@ pub fn spread_of(
 ) -> Option<SpreadRule>
     ensures { result ≡ tables.spread_of rule kind inside lower same }
 {
-    if is_beside(kind) && (!inside && (lower && !same)) {
+    if stand_beside(kind) && (!inside && (lower && !same)) {
         Some(rule)
     } else {
         None

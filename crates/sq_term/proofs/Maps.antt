@@ -17,12 +17,13 @@ use Rattle.sq_ir.proofs.LiftOnce.{lift_one}
 use Rattle.sq_ir.proofs.Equations.{written_loop, written_spread}
 use Rattle.sq_placed.specs.Spec.declared.statement.LoopKind.{LoopKind}
 use Rattle.sq_placed.specs.Spec.declared.statement.LoopKind.TheVariants as loop_kind
+use Rattle.sq_placed.specs.Spec.Spreads.{is_beside}
 use Rattle.sq_term.specs.declared.context.Context.{Context}
 use Rattle.sq_placed.specs.Placed.{Placed}
 use Rattle.sq_placed.specs.Seats.{Seat}
 use Rattle.sq_placed.specs.Trees as trees
 use Rattle.sq_placed.specs.Trees.{map_tree}
-use Rattle.sq_placed.specs.Tables.{is_beside, spread_of, map_placed}
+use Rattle.sq_placed.specs.Tables.{spread_of, map_placed}
 use Rattle.sq_term.specs.Terms.{numbers, lift_view, child_in, in_map, map_term}
 use Rattle.sq_term.specs.Stands.{none, more, IsNumber, IsSeat, Goes, to_child, entered, Stands}
 use Rattle.sq_term.proofs.Numbers.{index_is, mul_is, div_is, rem_is, children_is, lifted_is, turn, sum, picked}

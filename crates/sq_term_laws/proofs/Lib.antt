@@ -14,7 +14,6 @@ pub mod Seeing
 pub mod Holding
 pub mod Roomed
 pub mod ExampleFits
-pub mod LowersOpened
 pub mod Piped
 pub mod Overlaps
 pub mod ExampleOverlapping

@@ -10,9 +10,10 @@ use Rattle.sq_spec.specs.declared.statement.Statement.{Statement, roll-Statement
 use Rattle.sq_spec.specs.declared.statement.Statement.TheVariants as b
 use Rattle.sq_spec.specs.declared.statement.Statement.TheOpen.{Statement-F}
 use Rattle.sq_spec.specs.declared.statement.Statement.TheFolds.{ind-Statement, map-Statement}
-use Rattle.sq_term_laws.specs.Lowers.{statements, any_of, lower_in}
+use Rattle.sq_spec.specs.Spreads.{any_of, lower_in}
+use Rattle.sq_term_laws.specs.Lowers.{statements}
 use Rattle.sq_term_laws.specs.Orders.{EachOf}
-use Rattle.sq_term_laws.proofs.LowersOpened.{lower_call, lower_map}
+use Rattle.sq_spec.proofs.InStatements.{lower_call, lower_map}
 use Rattle.sq_term_laws.specs.Fits.{Bounds, AskedOfStatement, all_parts, Tabled, TabledBody}
 use Rattle.sq_term_laws.proofs.Chains.{tabled_call, tabled_map}
 use Rattle.sq_term_laws.specs.Lower.{LowerStandAbove}

@@ -26,12 +26,13 @@ use Rattle.sq_spec.specs.declared.statement.Statement.TheFolds.{ind-Statement, m
 use Rattle.sq_spec.specs.declared.body.Body.{Body}
 use Rattle.sq_spec.specs.declared.body.Body.TheVariants as body
 use Rattle.sq_spec.specs.declared.body.FormBody.{FormBody}
+use Rattle.sq_spec.specs.Spreads.{is_beside}
 use Rattle.sq_placed.specs.declared.home.Home.{Home}
 use Rattle.sq_placed.specs.declared.home.Homes.{Homes}
 use Rattle.sq_term.specs.declared.context.Context.{Context}
 use Rattle.sq_term.specs.declared.context.Move.{Move}
 use Rattle.sq_placed.specs.Trees.{home_in_set, local_buffers}
-use Rattle.sq_placed.specs.Tables.{locals_of, op_of, spread_of, is_beside, Chain, chain_of}
+use Rattle.sq_placed.specs.Tables.{locals_of, op_of, spread_of, Chain, chain_of}
 use Rattle.sq_placed.specs.Tables.{row_form, leaving_row, leaving_chain, chain_form, Pipe, pipe_of}
 use Rattle.sq_placed.specs.Pipes.{all_loops, loop_round, call_loops, call_loops_of, IsPiped, LoopsStand}
 use Rattle.sq_placed.specs.Pipes.{PipesStand}

@@ -17,6 +17,7 @@ use Rattle.sq_spec.specs.declared.statement.Statement.TheFolds.{rec-roll-Stateme
 use Rattle.sq_spec.specs.declared.body.Body.{Body}
 use Rattle.sq_spec.specs.declared.body.Body.TheVariants as body
 use Rattle.sq_spec.specs.declared.body.FormBody.{FormBody}
+use Rattle.sq_spec.specs.Spreads.{any_of, is_spread, lower_in, same_in}
 use Rattle.sq_placed.specs.declared.home.Home.{Home}
 use Rattle.sq_placed.specs.declared.home.Home.TheVariants.{InPlace, Own, Held, Twin}
 use Rattle.sq_placed.specs.declared.home.Homes.{Homes}
@@ -27,10 +28,9 @@ use Rattle.sq_term.specs.declared.context.Context.{Context}
 use Rattle.sq_term.specs.Terms.{buffers_from, set_buffers_from, TermPart, any_lower, any_same, statement_term}
 use Rattle.sq_term.proofs.Opened.{built_call, built_map}
 use Rattle.sq_term_laws.specs.Orders.{EachOf, call_buffers}
-use Rattle.sq_term_laws.specs.Lowers.{any_of, same_step, lower_in, same_in}
-use Rattle.sq_term_laws.specs.Overlapping.{IsSuited, AskedInMaps, each_in_maps, any_by, is_spread, can_overlap, RowOverlaps}
+use Rattle.sq_term_laws.specs.Overlapping.{IsSuited, AskedInMaps, each_in_maps, any_by, can_overlap, RowOverlaps}
 use Rattle.sq_term_laws.specs.Overlapping.{overlaps_step, Overlaps, BodyOverlaps, OverlapsStand}
-use Rattle.sq_term_laws.proofs.LowersOpened.{lower_call, lower_map}
+use Rattle.sq_spec.proofs.InStatements.{lower_call, lower_map, same_call, same_map}
 
 -- ---- the buffers of a call
 
@@ -139,15 +139,6 @@ module _ (homes : ℕ → Homes) where
       ∙ rec-roll-Statement AskedInMaps (overlaps_step homes) natural (Statement-F.Map place m counts starts parts)
 
 -- ---- whether lower and same-level calls are in a statement
-
-pub same_call : (lower : Bool) (instances : List CallInstance) → same_in (b.Call lower instances) ≡ not lower
-same_call lower instances = ap same_in (sym (b.rolls-Call lower instances))
-    ∙ fold-roll-Statement Bool same_step (Statement-F.Call lower instances)
-
-pub same_map : (place : Place) (m : LoopKind) (counts starts : List ℕ) (parts : List Statement)
-    → same_in (b.Map place m counts starts parts) ≡ any_of (map same_in parts)
-same_map place m counts starts parts = ap same_in (sym (b.rolls-Map place m counts starts parts))
-    ∙ fold-roll-Statement Bool same_step (Statement-F.Map place m counts starts parts)
 
 pub any_map : (test : Statement → Bool) (xs : List Statement) → any_of (map test xs) ≡ any_by test xs
 any_map test [] = refl

@@ -17,9 +17,10 @@ use Rattle.sq_spec.specs.declared.statement.Statement.TheFolds.{ind-Statement, m
 use Rattle.sq_spec.specs.declared.body.Body.{Body}
 use Rattle.sq_spec.specs.declared.body.Body.TheVariants as body
 use Rattle.sq_spec.specs.declared.body.FormBody.{FormBody}
+use Rattle.sq_spec.specs.Spreads.{is_beside}
 use Rattle.sq_placed.specs.declared.home.Homes.{Homes}
 use Rattle.sq_placed.specs.Placed.{Placed, PlacedArg}
-use Rattle.sq_placed.specs.Tables.{is_beside, op_of, spread_of, map_placed, Chain, chain_of, first_of, leaving_row}
+use Rattle.sq_placed.specs.Tables.{op_of, spread_of, map_placed, Chain, chain_of, first_of, leaving_row}
 use Rattle.sq_placed.specs.Tables.{leaving_chain, hold_placed, holds, held_arg, chain_form, chain_row, PlacedPart}
 use Rattle.sq_placed.specs.Tables.{chains, any_lower, any_same, all_placed, row_placed, placed_step, statement_placed}
 use Rattle.sq_placed.specs.Tables.{body_placed, placed_of, overlapped, lanes_of, Pipe, pipe_of, placed_rule, row_body}

@@ -1,7 +1,8 @@
 -- Where lower calls stand.
 use Rattle.std.specs.Prelude.{◌≡◌, ℕ, suc, ◌<◌, true}
 use Rattle.sq_spec.specs.declared.body.Body.{Body}
-use Rattle.sq_term_laws.specs.Lowers.{statements, lower_in}
+use Rattle.sq_spec.specs.Spreads.{lower_in}
+use Rattle.sq_term_laws.specs.Lowers.{statements}
 use Rattle.sq_term_laws.specs.Orders.{EachOf}
 use Rattle.sq_term_laws.specs.Fits.{Bounds, TabledBody}
 

@@ -1,5 +1,5 @@
 -- Which forms may overlap their transfers: those whose calls stand each alone in a loop that can.
-use Rattle.std.specs.Prelude.{◌≡◌, ℕ, Bool, true, false, not, ◌&&◌, ◌||◌, List, [], ◌∷◌, slice_get, Some}
+use Rattle.std.specs.Prelude.{◌≡◌, ℕ, Bool, true, false, ◌||◌, List, [], ◌∷◌, slice_get, Some}
 use Rattle.sq_spec.specs.declared.statement.LoopKind.{LoopKind}
 use Rattle.sq_spec.specs.declared.statement.LoopKind.TheVariants as loop_kind
 use Rattle.sq_spec.specs.declared.statement.CallInstance.{CallInstance}
@@ -9,11 +9,10 @@ use Rattle.sq_spec.specs.declared.statement.Statement.TheFolds.{rec-Statement}
 use Rattle.sq_spec.specs.declared.body.Body.{Body}
 use Rattle.sq_spec.specs.declared.body.Body.TheVariants as body
 use Rattle.sq_spec.specs.declared.body.FormBody.{FormBody}
+use Rattle.sq_spec.specs.Spreads.{is_spread, lower_in, same_in}
 use Rattle.sq_placed.specs.declared.home.Home.{Home}
 use Rattle.sq_placed.specs.declared.home.Home.TheVariants.{InPlace, Own, Held, Twin}
 use Rattle.sq_placed.specs.declared.home.Homes.{Homes}
-use Rattle.sq_placed.specs.Tables.{is_beside}
-use Rattle.sq_term_laws.specs.Lowers.{lower_in, same_in}
 use Rattle.sq_term_laws.specs.Orders.{EachOf}
 
 -- ---- the homes of a form
@@ -39,10 +38,6 @@ each_in_maps asked (x ∷ xs) inside alone = asked x inside alone × each_in_map
 abbrev pub any_by : {X : Type 0} → (X → Bool) → List X → Bool
 any_by test [] = false
 any_by test (x ∷ xs) = test x || any_by test xs
-
--- the maps that `spread_of` spreads
-abbrev pub is_spread : LoopKind → (inside lower same : Bool) → Bool
-is_spread m inside lower same = is_beside m && (not inside && (lower && not same))
 
 -- a `mapseq`, or a spread `mappar`, in which one statement stands
 abbrev pub can_overlap : {X : Type 0} → LoopKind → (spread : Bool) → List X → Bool
