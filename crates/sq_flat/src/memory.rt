@@ -5,8 +5,6 @@ ghost use Rattle.std.specs.Prelude.{OnOk, IfOk};
 ghost use Rattle.std.specs.Option.{option_copied};
 ghost use Rattle.sq_rect.specs.declared.view.View.{View as SpecView};
 ghost use Rattle.sq_blocks.specs.declared.argument.Argument.{Argument as SpecArgument};
-ghost use Rattle.sq_ast.specs.Modes.{is_read};
-ghost use Rattle.sq_ast.specs.Modes.{is_written};
 ghost use Rattle.sq_blocks.specs.Arguments.{lengths};
 ghost use Rattle.sq_num.specs.Elements.{width};
 ghost use Rattle.sq_num.specs.Reductions.{identity};
@@ -16,7 +14,6 @@ ghost use Rattle.sq_flat.specs.Blocks.{Fits};
 ghost use Rattle.sq_flat.specs.Memory as spec;
 
 use crate::block::{push_block, put_block};
-use sq_ast::Mode;
 use sq_blocks::Argument;
 use sq_kern::{acc_cells, fill_cells};
 use sq_num::{Elem, RedOp, identity, width};
@@ -75,15 +72,6 @@ fn push_argument(
     }
 }
 
-fn is_read(mode: Mode) -> bool
-    ensures { result ≡ is_read mode }
-{
-    match mode {
-        Mode::Input | Mode::Both => true,
-        Mode::Output => false,
-    }
-}
-
 // An array of a callee at its start, which is a parameter where there is an argument.
 fn push_array(
     a: Option<&Argument>,
@@ -100,7 +88,7 @@ fn push_array(
         (option_copied a.entry) view.now) }
 {
     match a {
-        Some(a) if is_read(a.mode) => push_argument(a, outer, bytes, into),
+        Some(a) if a.mode.is_read() => push_argument(a, outer, bytes, into),
         _ => push_zeros(width(view.elem) * view.extents.elements() as usize, into),
     }
 }
@@ -123,15 +111,6 @@ pub fn enter(
         push_array(at(args, k), view, outer, bytes, &mut memory)?;
     }
     Ok(memory)
-}
-
-fn is_written(mode: Mode) -> bool
-    ensures { result ≡ is_written mode }
-{
-    match mode {
-        Mode::Output | Mode::Both => true,
-        Mode::Input => false,
-    }
 }
 
 // The block's values are those of the parameter.
@@ -166,7 +145,7 @@ fn put_written(
     requires fit { spec.ArgFits outer.now inner.now k a.now }
     ensures { bytes.new ≡ spec.put_written outer.now inner.now k a.now memory.now bytes.old }
 {
-    if !is_written(a.mode) {
+    if !a.mode.is_written() {
         return;
     }
     let Some(of) = at(outer, a.array as usize) else {

@@ -4,7 +4,8 @@ use Rattle.std.proofs.lemmas.Grind.{common_steps}
 use Rattle.std.proofs.lemmas.Bool.{cases_lt, eqb-true, eq-eqb, leb-true, ltb-true}
 use Rattle.std.proofs.lemmas.Option.{slice_get_within, slice_get-get_or}
 use Rattle.sq_forms.specs.declared.form.Use.{Use}
-use Rattle.sq_race.specs.Accesses.{counts, reduces, writes, shares, races, same_run, same_iteration, clash}
+use Rattle.sq_ast.specs.Modes.{is_written}
+use Rattle.sq_race.specs.Accesses.{counts, reduces, shares, races, same_run, same_iteration, clash}
 use Rattle.sq_race.specs.Order.{round}
 use Rattle.sq_race.specs.Pairs.{RaceAt}
 use Rattle.sq_race.specs.Least.{IsLeast, IsLeastPair}
@@ -87,7 +88,7 @@ race_from m a b e =
       iterations = λ alike_there. no_bool (same_iteration m a b) (alike_from (m.depth + 1) a.iterations b.iterations (rw add-one (take_further m.depth a.iterations b.iterations (same_numbers m.depth a.iterations b.iterations p.run) alike_there))) p.iteration;
       array = p.array;
       share = share_of a.rect b.rect p.share;
-      write = either_true (writes a.mode) (writes b.mode) p.write;
+      write = either_true (is_written a.mode) (is_written b.mode) p.write;
     }
 
 not_false : (b : Bool) → (b ≡ true → ⊥) → not b ≡ true
@@ -103,7 +104,7 @@ race_to m r a b race = five (counts m a) (counts m b) (same_run m a b) (not (sam
     (counts_from m r b race.other)
     (alike_from m.depth a.iterations b.iterations (race.one.round_is ∙ sym race.other.round_is))
     (not_false (same_iteration m a b) (λ e. race.iterations (number_alike m.depth a.iterations b.iterations (rw add-one at (same_numbers (m.depth + 1) a.iterations b.iterations e)))))
-    (all_three (eqb a.array b.array) (writes a.mode || writes b.mode) (shares a.rect b.rect) (eq-eqb a.array b.array race.array) (true_either (writes a.mode) (writes b.mode) race.write) (of_share a.rect b.rect race.share))
+    (all_three (eqb a.array b.array) (is_written a.mode || is_written b.mode) (shares a.rect b.rect) (eq-eqb a.array b.array race.array) (true_either (is_written a.mode) (is_written b.mode) race.write) (of_share a.rect b.rect race.share))
 
 -- a race of the form is one of its map's pairs
 pub pair_of : (maps : List Map) (uses : List Use) (m : Map) (s : List ℕ) (y : Found) → HoldsIn maps uses s y → slice_get maps y.map ≡ Some m → RaceAt m uses y.earlier y.later

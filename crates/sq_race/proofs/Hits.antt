@@ -9,8 +9,6 @@ use Rattle.sq_text.specs.Names.{Bytes}
 use Rattle.sq_ast.specs.declared.expr.ArgUse.{ArgUse}
 use Rattle.sq_ast.specs.declared.stmt.Call.{Call as CallStmt}
 use Rattle.sq_ast.specs.declared.stmt.MapKind.{MapKind}
-use Rattle.sq_ast.specs.declared.program.Mode.{Mode}
-use Rattle.sq_ast.specs.declared.program.Mode.TheVariants.{Input, Output, Both}
 use Rattle.sq_ast.specs.declared.program.Param.{Param}
 use Rattle.sq_blocks.specs.Names.{Numbers}
 use Rattle.sq_rect.specs.Blocks.{Share}
@@ -30,7 +28,6 @@ use Rattle.sq_work.specs.Work.{Work}
 use Rattle.sq_work.specs.Meaning.{has, covers, accesses, any_below}
 use Rattle.sq_work.specs.InTurn.{IsRaceFree}
 use Rattle.sq_race.specs.declared.map.Map.{Map}
-use Rattle.sq_race.specs.Accesses as accesses
 use Rattle.sq_race.specs.Race.{IsOf, IsRace}
 use Rattle.sq_race.proofs.Wholes.{both, equal, covered, share_flipped}
 
@@ -225,11 +222,6 @@ module _ (forms : Forms) (callee : ℕ → Found → Work) (arrays : List (List 
   AllQuiet [] = Unit {0}
   AllQuiet (m ∷ ms) = Quiet m × AllQuiet ms
 
-  writes_same : (m : Mode) → accesses.writes m ≡ is_written m
-  writes_same Input = refl
-  writes_same Output = refl
-  writes_same Both = refl
-
   at_seam : (xs : List ℕ) (t : ℕ) (rest : List ℕ) → slice_get (xs ++ t ∷ rest) (length xs) ≡ Some t
   at_seam [] t rest = refl
   at_seam (x ∷ xs) t rest = at_seam xs t rest
@@ -277,7 +269,7 @@ module _ (forms : Forms) (callee : ℕ → Found → Work) (arrays : List (List 
           let at_b = turn_of which n cs b y in
           let same_array : u.array ≡ v.array = x.array ∙ sym y.array in
           let share = blocks_share cs x.index y.index u v x.there y.there same_array x.block y.block in
-          let write : accesses.writes u.mode ≡ true = writes_same u.mode ∙ x.mode in
+          let write : is_written u.mode ≡ true = x.mode in
           let one = in_run is_written n cs a x kept_x in
           let two = in_run which n cs b y kept_y in
           let front : IsRace m site.iterations u v = record {

@@ -5,7 +5,8 @@ use Rattle.std.proofs.lemmas.Bool.{cases_eq, cases_lt, eq-eqb}
 use Rattle.std.proofs.lemmas.Option.{slice_get_within, slice_get-get_or}
 use Rattle.sq_text.specs.declared.place.Span.{Span}
 use Rattle.sq_forms.specs.declared.form.Use.{Use}
-use Rattle.sq_race.specs.Accesses.{counts, writes}
+use Rattle.sq_ast.specs.Modes.{is_written}
+use Rattle.sq_race.specs.Accesses.{counts}
 use Rattle.sq_race.specs.Order.{round}
 use Rattle.sq_race.specs.Pairs.{RaceAt}
 use Rattle.sq_race.specs.Least.{ComesFirst, IsLeast, IsLeastPair}
@@ -198,13 +199,13 @@ has_it false arrays x e = go (has arrays x) refl e where
   go true p q = p
   go false p q = absurd (no_bool true refl q)
 
-adds_it : (m : Map) (arrays : List ℕ) (u : Use) → counts m u ≡ true → writes u.mode ≡ true → not (has arrays u.array) ≡ adds_write m arrays u
+adds_it : (m : Map) (arrays : List ℕ) (u : Use) → counts m u ≡ true → is_written u.mode ≡ true → not (has arrays u.array) ≡ adds_write m arrays u
 adds_it m arrays u p q = grind (arith, common_steps)
 
-has_now : (m : Map) (arrays : List ℕ) (o : Option Use) (u : Use) → o ≡ Some u → counts m u ≡ true → writes u.mode ≡ true → has (with_write m arrays o) u.array ≡ true
+has_now : (m : Map) (arrays : List ℕ) (o : Option Use) (u : Use) → o ≡ Some u → counts m u ≡ true → is_written u.mode ≡ true → has (with_write m arrays o) u.array ≡ true
 has_now m arrays o u e p q = rw e (has_it (adds_write m arrays u) arrays u.array (adds_it m arrays u p q))
 
-has_at : (m : Map) (uses : List Use) (arrays ns : List ℕ) (n place : ℕ) (u : Use) → slice_get ns place ≡ Some n → slice_get uses n ≡ Some u → counts m u ≡ true → writes u.mode ≡ true → has (written m uses arrays ns) u.array ≡ true
+has_at : (m : Map) (uses : List Use) (arrays ns : List ℕ) (n place : ℕ) (u : Use) → slice_get ns place ≡ Some n → slice_get uses n ≡ Some u → counts m u ≡ true → is_written u.mode ≡ true → has (written m uses arrays ns) u.array ≡ true
 has_at m uses arrays [] n place u at_n at_u p q = absurd (cc)
 has_at m uses arrays (k ∷ ns) n zero u at_n at_u p q =
     let same : n ≡ k = cc in
@@ -310,7 +311,7 @@ least_there m uses ns (Some p) have is =
     subst (λ (n : ℕ). IsLeastPair m uses (record { later = get_or ns p.later 0; earlier = n })) (sym (number_is ns p.earlier e.n e.at_n))
     (subst (λ (n : ℕ). IsLeastPair m uses (record { later = n; earlier = e.n })) (sym (number_is ns p.later l.n l.at_n)) (least_pair_there m uses ns p have is e l))
 
-one_writes : (m : Map) (uses : List Use) (ns : List ℕ) (a b : Use) (i j : ℕ) (p : IsIn i ns) (q : IsIn j ns) (wa wb : Bool) → slice_get uses i ≡ Some a → slice_get uses j ≡ Some b → counts m a ≡ true → counts m b ≡ true → writes a.mode ≡ wa → writes b.mode ≡ wb → (wa || wb) ≡ true → a.array ≡ b.array → has (written m uses [] ns) a.array ≡ true
+one_writes : (m : Map) (uses : List Use) (ns : List ℕ) (a b : Use) (i j : ℕ) (p : IsIn i ns) (q : IsIn j ns) (wa wb : Bool) → slice_get uses i ≡ Some a → slice_get uses j ≡ Some b → counts m a ≡ true → counts m b ≡ true → is_written a.mode ≡ wa → is_written b.mode ≡ wb → (wa || wb) ≡ true → a.array ≡ b.array → has (written m uses [] ns) a.array ≡ true
 one_writes m uses ns a b i j p q true wb at_a at_b ca cb ea eb e same = has_at m uses [] ns i p.place a p.is at_a ca ea
 one_writes m uses ns a b i j p q false true at_a at_b ca cb ea eb e same = rw same (has_at m uses [] ns j q.place b q.is at_b cb eb)
 one_writes m uses ns a b i j p q false false at_a at_b ca cb ea eb e same = absurd (no_bool false e refl)
@@ -326,7 +327,7 @@ have_races m uses ns have = record {
       let p = parts m y.a y.b y.race in
       let in_a = have.all i y.a y.at_earlier p.one in
       let in_b = have.all j y.b y.at_later p.other in
-      let known = one_writes m uses ns y.a y.b i j in_a in_b (writes y.a.mode) (writes y.b.mode) y.at_earlier y.at_later p.one p.other refl refl p.write p.array in (
+      let known = one_writes m uses ns y.a y.b i j in_a in_b (is_written y.a.mode) (is_written y.b.mode) y.at_earlier y.at_later p.one p.other refl refl p.write p.array in (
         in_those (is_of m (written m uses [] ns)) uses i y.a ns in_a y.at_earlier (both_true (counts m y.a) (has (written m uses [] ns) y.a.array) p.one known),
         in_those (is_of m (written m uses [] ns)) uses j y.b ns in_b y.at_later (both_true (counts m y.b) (has (written m uses [] ns) y.b.array) p.other (rw (sym p.array) known)),
       );

@@ -6,7 +6,8 @@ use Rattle.sq_text.specs.declared.place.Span.{Span}
 use Rattle.sq_rect.specs.Blocks.{is_within}
 use Rattle.sq_forms.specs.declared.form.Use.{Use}
 use Rattle.sq_race.specs.Blocks.{span_overlaps, span_covers}
-use Rattle.sq_race.specs.Accesses.{counts, writes, races, same_run, same_iteration, shares, contains, stands_for, settles}
+use Rattle.sq_ast.specs.Modes.{is_written}
+use Rattle.sq_race.specs.Accesses.{counts, races, same_run, same_iteration, shares, contains, stands_for, settles}
 use Rattle.sq_race.specs.Pairs.{RaceAt, NoneYet, NoneAt}
 use Rattle.sq_race.specs.declared.map.Map.{Map}
 use Rattle.sq_race.proofs.Steps.{one_there, no_bool, both, parts, alike_self, alike_back, alike_on}
@@ -68,13 +69,13 @@ pub record Stands (m : Map) (x b : Use) : Type 0 where
   pub one : counts m x ≡ true
   pub run : same_run m x b ≡ true
   pub array : x.array ≡ b.array
-  pub write : (writes x.mode || not (writes b.mode)) ≡ true
+  pub write : (is_written x.mode || not (is_written b.mode)) ≡ true
   pub block : contains x.rect b.rect ≡ true
 
 stands : (m : Map) (x b : Use) → stands_for m x b ≡ true → Stands m x b
 stands m x b e =
-    let p = both (counts m x && same_run m x b && eqb x.array b.array && (writes x.mode || not (writes b.mode))) (contains x.rect b.rect) e in
-    let q = both (counts m x && same_run m x b && eqb x.array b.array) (writes x.mode || not (writes b.mode)) p.0 in
+    let p = both (counts m x && same_run m x b && eqb x.array b.array && (is_written x.mode || not (is_written b.mode))) (contains x.rect b.rect) e in
+    let q = both (counts m x && same_run m x b && eqb x.array b.array) (is_written x.mode || not (is_written b.mode)) p.0 in
     let r = both (counts m x && same_run m x b) (eqb x.array b.array) q.0 in
     let s = both (counts m x) (same_run m x b) r.0 in
     record { one = s.0; run = s.1; array = eqb-true x.array b.array r.1; write = q.1; block = p.1 }
@@ -88,9 +89,9 @@ write_on wa wb wx p q = grind (arith, common_steps)
 either_back : (x y : Bool) → (x || y) ≡ true → (y || x) ≡ true
 either_back x y p = grind (arith, common_steps)
 
-race_is : (m : Map) (a x : Use) → counts m a ≡ true → counts m x ≡ true → same_run m a x ≡ true → same_iteration m a x ≡ false → a.array ≡ x.array → (writes a.mode || writes x.mode) ≡ true → shares a.rect x.rect ≡ true → races m a x ≡ true
+race_is : (m : Map) (a x : Use) → counts m a ≡ true → counts m x ≡ true → same_run m a x ≡ true → same_iteration m a x ≡ false → a.array ≡ x.array → (is_written a.mode || is_written x.mode) ≡ true → shares a.rect x.rect ≡ true → races m a x ≡ true
 race_is m a x ca cx run apart array write share =
-    six (counts m a) (counts m x) (same_run m a x) (same_iteration m a x) (eqb a.array x.array && (writes a.mode || writes x.mode)) (shares a.rect x.rect) ca cx run apart (both_true (eqb a.array x.array) (writes a.mode || writes x.mode) (eq-eqb a.array x.array array) write) share
+    six (counts m a) (counts m x) (same_run m a x) (same_iteration m a x) (eqb a.array x.array && (is_written a.mode || is_written x.mode)) (shares a.rect x.rect) ca cx run apart (both_true (eqb a.array x.array) (is_written a.mode || is_written x.mode) (eq-eqb a.array x.array array) write) share
 
 apart_back : (m : Map) (a x : Use) → same_iteration m a x ≡ false → same_iteration m x a ≡ false
 apart_back m a x e = go (same_iteration m x a) refl where
@@ -104,13 +105,13 @@ race_instead m uses i k later x b none at_x below e y same apart =
     let p = parts m y.a b (subst (λ (u : Use). races m y.a u ≡ true) same y.race) in
     let s = stands m x b e in
     let run : same_run m y.a x ≡ true = alike_on m.depth y.a.iterations b.iterations x.iterations p.run (alike_back m.depth x.iterations b.iterations s.run) in
-    let write = write_on (writes y.a.mode) (writes b.mode) (writes x.mode) p.write s.write in
+    let write = write_on (is_written y.a.mode) (is_written b.mode) (is_written x.mode) p.write s.write in
     let share = shares_round y.a.rect b.rect x.rect p.share s.block in
     elim (cases_lt k i) [
       | inl less ↦ none.at k i below (record { a = y.a; b = x; at_earlier = y.at_earlier; at_later = at_x; before = less; race = race_is m y.a x p.one s.one run apart (p.array ∙ sym s.array) write share })
       | inr more ↦ elim (cases_eq k i) [
         | inl equal ↦ no_bool (same_iteration m y.a x) (rw (one_there uses k i y.a x equal y.at_earlier at_x) (alike_self (m.depth + 1) x.iterations)) apart
-        | inr other ↦ none.at i k y.before (record { a = x; b = y.a; at_earlier = at_x; at_later = y.at_earlier; before = omega arith; race = race_is m x y.a s.one p.one (alike_back m.depth y.a.iterations x.iterations run) (apart_back m y.a x apart) (s.array ∙ sym p.array) (either_back (writes y.a.mode) (writes x.mode) write) (shares_back y.a.rect x.rect share) })
+        | inr other ↦ none.at i k y.before (record { a = x; b = y.a; at_earlier = at_x; at_later = y.at_earlier; before = omega arith; race = race_is m x y.a s.one p.one (alike_back m.depth y.a.iterations x.iterations run) (apart_back m y.a x apart) (s.array ∙ sym p.array) (either_back (is_written y.a.mode) (is_written x.mode) write) (shares_back y.a.rect x.rect share) })
       ]
     ]
 

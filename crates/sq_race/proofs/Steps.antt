@@ -6,7 +6,8 @@ use Rattle.std.proofs.lemmas.Option.{slice_get-get_or, slice_get_within, slice_g
 use Rattle.std.proofs.lemmas.Slice.Eq.{bytes_eq-Decides}
 use Rattle.sq_race.specs.Blocks.{whole, covers, overlaps}
 use Rattle.sq_race.specs.Layers.{meets_any}
-use Rattle.sq_race.specs.Accesses.{counts, writes, block_of, races, same_run, same_iteration, alike, clash, shares}
+use Rattle.sq_ast.specs.Modes.{is_written}
+use Rattle.sq_race.specs.Accesses.{counts, block_of, races, same_run, same_iteration, alike, clash, shares}
 use Rattle.sq_race.specs.Pairs.{IsKept, IsMarked, AreMarked, marks_of, NoneWith, NoneYet, NoneAt, IsReady, RaceAt, IsEarliest, AreTogether, AreWithin, AreWithinTo, CountsAt, may_race}
 use Rattle.sq_race.specs.Marks.{touched}
 use Rattle.sq_race.specs.declared.marks.Marks.{Marks}
@@ -150,7 +151,7 @@ pub record Parts (m : Map) (a b : Use) : Type 0 where
   pub run : same_run m a b ≡ true
   pub iteration : same_iteration m a b ≡ false
   pub array : a.array ≡ b.array
-  pub write : (writes a.mode || writes b.mode) ≡ true
+  pub write : (is_written a.mode || is_written b.mode) ≡ true
   pub share : shares a.rect b.rect ≡ true
   pub place : overlaps (block_of a.rect) (block_of b.rect) ≡ true
 
@@ -160,12 +161,12 @@ parts m a b e =
     let q = both (counts m a && counts m b && same_run m a b) (not (same_iteration m a b)) p.0 in
     let r = both (counts m a && counts m b) (same_run m a b) q.0 in
     let s = both (counts m a) (counts m b) r.0 in
-    let t = both (eqb a.array b.array && (writes a.mode || writes b.mode)) (shares a.rect b.rect) p.1 in
-    let u = both (eqb a.array b.array) (writes a.mode || writes b.mode) t.0 in
+    let t = both (eqb a.array b.array && (is_written a.mode || is_written b.mode)) (shares a.rect b.rect) p.1 in
+    let u = both (eqb a.array b.array) (is_written a.mode || is_written b.mode) t.0 in
     record { one = s.0; other = s.1; run = r.1; iteration = not_true (same_iteration m a b) q.1; array = eqb-true a.array b.array u.0; write = u.1; share = t.1; place = blocks_overlap a.rect b.rect t.1 }
 
 -- an access that is marked is found by one that clashes with it
-found_by : (w v : Bool) (marks : List Marks) (a b : Use) → writes a.mode ≡ v → writes b.mode ≡ w → (v || w) ≡ true → IsKept a marks → a.array ≡ b.array → overlaps (block_of a.rect) (block_of b.rect) ≡ true → covers whole (block_of b.rect) ≡ true → meets_any (if w then touched (marks_of marks a.array) else (marks_of marks a.array).written) (block_of b.rect) ≡ true
+found_by : (w v : Bool) (marks : List Marks) (a b : Use) → is_written a.mode ≡ v → is_written b.mode ≡ w → (v || w) ≡ true → IsKept a marks → a.array ≡ b.array → overlaps (block_of a.rect) (block_of b.rect) ≡ true → covers whole (block_of b.rect) ≡ true → meets_any (if w then touched (marks_of marks a.array) else (marks_of marks a.array).written) (block_of b.rect) ≡ true
 found_by true v marks a b ea eb e kept array place bounded =
     let c = shared (block_of a.rect) (block_of b.rect) in
     let inside = shared_right (block_of a.rect) (block_of b.rect) place in
@@ -177,7 +178,7 @@ found_by false true marks a b ea eb e kept array place bounded =
 found_by false false marks a b ea eb e kept array place bounded = absurd (no_bool false e refl)
 
 found : (m : Map) (marks : List Marks) (a b : Use) → Parts m a b → IsKept a marks → covers whole (block_of b.rect) ≡ true → may_race marks b ≡ true
-found m marks a b p kept bounded = rw (sym p.array) (found_by (writes b.mode) (writes a.mode) marks a b refl refl p.write kept p.array p.place bounded)
+found m marks a b p kept bounded = rw (sym p.array) (found_by (is_written b.mode) (is_written a.mode) marks a b refl refl p.write kept p.array p.place bounded)
 
 -- where nothing is found there is no race
 none_apart : (m : Map) (uses : List Use) (later since : ℕ) (marks : List Marks) (f b : Use) → IsReady m uses (later + 1) since marks → slice_get uses since ≡ Some f → slice_get uses later ≡ Some b → may_race marks b ≡ false → covers whole (block_of b.rect) ≡ true → (i : ℕ) (a : Use) → i < later → slice_get uses i ≡ Some a → races m a b ≡ true → ⊥

@@ -2,17 +2,11 @@
 use Rattle.std.specs.Prelude.{ℕ, ◌+◌, Bool, true, false, not, ◌&&◌, ◌||◌, ◌==◌, nat_lt, nat_le, List, [], ◌∷◌, take, slice_get, Option, Some, None}
 use Rattle.std.specs.Str.{bytes_eq}
 use Rattle.sq_text.specs.declared.place.Span.{Span}
+use Rattle.sq_ast.specs.Modes.{is_written}
 use Rattle.sq_race.specs.Blocks.{whole_span, span_overlaps, span_covers}
 use Rattle.sq_race.specs.declared.block.Block.{Block}
 use Rattle.sq_forms.specs.declared.form.Use.{Use}
 use Rattle.sq_race.specs.declared.map.Map.{Map}
-use Rattle.sq_ast.specs.declared.program.Mode.{Mode}
-use Rattle.sq_ast.specs.declared.program.Mode.TheVariants.{Input, Output, Both}
-
-abbrev pub writes : Mode → Bool
-writes Input = false
-writes Output = true
-writes Both = true
 
 abbrev pub reduces : Option ℕ → ℕ → Bool
 reduces None arg = false
@@ -46,7 +40,7 @@ shares (s ∷ a) [] = false
 shares (s ∷ a) (t ∷ b) = span_overlaps s t && shares a b
 
 abbrev pub clash : Use → Use → Bool
-clash a b = a.array == b.array && (writes a.mode || writes b.mode) && shares a.rect b.rect
+clash a b = a.array == b.array && (is_written a.mode || is_written b.mode) && shares a.rect b.rect
 
 abbrev pub races : Map → Use → Use → Bool
 races m a b = counts m a && counts m b && same_run m a b && not (same_iteration m a b) && clash a b
@@ -61,7 +55,7 @@ contains (s ∷ a) (t ∷ b) = span_covers s t && contains a b
 -- the known access is of the run of this one, has its block, and writes if it does
 abbrev pub stands_for : Map → Use → Use → Bool
 stands_for m known this =
-    counts m known && same_run m known this && known.array == this.array && (writes known.mode || not (writes this.mode)) && contains known.rect this.rect
+    counts m known && same_run m known this && known.array == this.array && (is_written known.mode || not (is_written this.mode)) && contains known.rect this.rect
 
 -- what races with the last would race with one of the two
 abbrev pub settles : Map → Use → Use → Use → Bool

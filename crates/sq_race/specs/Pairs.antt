@@ -2,7 +2,8 @@
 use Rattle.std.specs.Prelude.{◌≡◌, ℕ, ◌-◌, ◌<◌, ◌≤◌, ◌⊎◌, Bool, true, false, List, length, slice_get, slice_index_or, Option, Some, None, if◌then◌else◌}
 use Rattle.sq_race.specs.Blocks.{Cell, lies, whole}
 use Rattle.sq_race.specs.Layers.{has_any, meets_any}
-use Rattle.sq_race.specs.Accesses.{counts, races, same_run, same_iteration, writes, block_of}
+use Rattle.sq_ast.specs.Modes.{is_written}
+use Rattle.sq_race.specs.Accesses.{counts, races, same_run, same_iteration, block_of}
 use Rattle.sq_race.specs.Marks.{blank, touched}
 use Rattle.sq_race.specs.declared.marks.Marks.{Marks}
 use Rattle.sq_forms.specs.declared.form.Use.{Use}
@@ -45,12 +46,12 @@ abbrev pub marks_of : List Marks → ℕ → Marks
 marks_of marks n = slice_index_or marks n blank
 
 abbrev pub may_race : List Marks → Use → Bool
-may_race marks b = meets_any (if writes b.mode then touched (marks_of marks b.array) else (marks_of marks b.array).written) (block_of b.rect)
+may_race marks b = meets_any (if is_written b.mode then touched (marks_of marks b.array) else (marks_of marks b.array).written) (block_of b.rect)
 
 -- the access is marked
 pub record IsKept (a : Use) (marks : List Marks) : Type 0 where
   pub touched : (c : Cell) → lies c (block_of a.rect) ≡ true → lies c whole ≡ true → has_any (touched (marks_of marks a.array)) c ≡ true
-  pub written : writes a.mode ≡ true → (c : Cell) → lies c (block_of a.rect) ≡ true → lies c whole ≡ true → has_any (marks_of marks a.array).written c ≡ true
+  pub written : is_written a.mode ≡ true → (c : Cell) → lies c (block_of a.rect) ≡ true → lies c whole ≡ true → has_any (marks_of marks a.array).written c ≡ true
 
 -- what was marked stays marked
 pub record Stay (old new : List Marks) : Type 0 where

@@ -12,7 +12,7 @@ use Rattle.sq_forms.specs.Tables.{variant_of, first_of_kind}
 use Rattle.sq_forms.specs.declared.form.Form.{Form}
 use Rattle.sq_forms.specs.declared.form.Use.{Use}
 use Rattle.sq_spec.specs.declared.resolved.Resolved.{Resolved}
-use Rattle.sq_race.specs.Accesses.{writes}
+use Rattle.sq_ast.specs.Modes.{is_written}
 use Rattle.sq_race.specs.Least.{IsLess}
 use Rattle.sq_race.specs.Table.{maps_in}
 use Rattle.sq_race.specs.declared.map.Map.{Map}
@@ -33,7 +33,7 @@ pub record IsRace (m : Map) (round : List ℕ) (a b : Use) : Type 0 where
   pub iterations : slice_get a.iterations m.depth ≡ slice_get b.iterations m.depth → ⊥
   pub array : a.array ≡ b.array
   pub share : Share a.rect b.rect
-  pub write : (writes a.mode ≡ true) ⊎ (writes b.mode ≡ true)
+  pub write : (is_written a.mode ≡ true) ⊎ (is_written b.mode ≡ true)
 
 -- These accesses race in this run of this map, the earlier one and the later one.
 pub record HoldsIn (maps : List Map) (uses : List Use) (round : List ℕ) (x : Found) : Type 0 where

@@ -3,7 +3,8 @@ use Rattle.std.specs.Prelude.{◌≡◌, ℕ, zero, suc, ◌<◌, ◌≤◌, Boo
 use Rattle.std.specs.List.{list_any}
 use Rattle.sq_text.specs.declared.place.Span.{Span}
 use Rattle.sq_forms.specs.declared.form.Use.{Use}
-use Rattle.sq_race.specs.Accesses.{counts, writes}
+use Rattle.sq_ast.specs.Modes.{is_written}
+use Rattle.sq_race.specs.Accesses.{counts}
 use Rattle.sq_race.specs.declared.map.Map.{Map}
 use Rattle.sq_race.specs.declared.pairs.Pair.{Pair}
 
@@ -34,7 +35,7 @@ has arrays array = list_any (λ known. known == array) arrays
 
 -- the map writes an array that isn't in the list
 abbrev pub adds_write : Map → List ℕ → Use → Bool
-adds_write m arrays u = counts m u && writes u.mode && not (has arrays u.array)
+adds_write m arrays u = counts m u && is_written u.mode && not (has arrays u.array)
 
 abbrev pub with_write : Map → List ℕ → Option Use → List ℕ
 with_write m arrays None = arrays

@@ -1,11 +1,11 @@
 //! A map's accesses, and which of them race.
 
 ghost use Rattle.std.specs.Prelude.{◌≡◌, take, true};
+ghost use Rattle.sq_ast.specs.Modes as modes;
 ghost use Rattle.sq_race.specs.Accesses as spec;
 ghost use Rattle.sq_race.specs.Blocks as blocks;
 
 use crate::block::Block;
-use sq_ast::Mode;
 use sq_forms::Use;
 use sq_rect::{Rect, inside, overlap};
 use sq_text::{Place, Span};
@@ -23,20 +23,11 @@ pub struct Map {
     pub reduced: Option<usize>,
 }
 
-fn writes(mode: Mode) -> bool
-    ensures { result ≡ spec.writes mode }
-{
-    match mode {
-        Mode::Input => false,
-        Mode::Output | Mode::Both => true,
-    }
-}
-
 /// Whether the access writes its array.
 pub fn is_write(access: &Use) -> bool
-    ensures { result ≡ spec.writes access.now.mode }
+    ensures { result ≡ modes.is_written access.now.mode }
 {
-    writes(access.mode)
+    access.mode.is_written()
 }
 
 impl Map {
