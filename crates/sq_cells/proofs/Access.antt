@@ -104,13 +104,6 @@ private_not_local Both e q = cc
 private_not_local Local e q = cc
 private_not_local (Reduced op) e q = cc
 
-pub reduced_not_local : (m : Mode) → is_reduced m ≡ true → m ≢ Local
-reduced_not_local Input e q = cc
-reduced_not_local Output e q = cc
-reduced_not_local Both e q = cc
-reduced_not_local Local e q = cc
-reduced_not_local (Reduced op) e q = cc
-
 pub private_true : (m : Mode) → (m ≡ Local) ⊎ (is_reduced m ≡ true) → is_private m ≡ true
 private_true m (inl e) = ap is_private e
 private_true m (inr e) = go m e

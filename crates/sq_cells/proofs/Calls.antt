@@ -583,10 +583,6 @@ module _ (form : Form) (n : ℕ) (lower : Bool) (arrays : ℕ → Array) (w : Wo
                   (gone_back after n (omega arith) (run body m2).mem b),
             )
 
-    -- a cell that a reduction gathers, after the call
-    abbrev mem_in : State → State
-    mem_in m = (run (beside n one_clear) (run (beside n one_in) m).mem).mem
-
     record Sums (op : Op) (i : ℕ) (after m3 : State) (j : ℕ) (m : State) : Type 0 where
       waits : (k : ℕ) → k < (arrays i).size → j ≤ i → m (at ((arrays i).block k)) ≡ m3 (at ((arrays i).block k))
       added : (k : ℕ) → k < (arrays i).size → i < j → m (at ((arrays i).block k))

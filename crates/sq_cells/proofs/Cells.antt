@@ -50,32 +50,6 @@ finds_none n c p h = go (find n c p) refl
     go None e = refl
     go (Some k) e = let f = found n c p k e in absurd (h k f.0 f.1)
 
--- a search through a layout
-pub find_along : (at : Spot → Spot) (n : ℕ) (c : ℕ → Spot) (l : Spot) → ((k : ℕ) → k < n → at (c k) ≡ at l → c k ≡ l)
-    → find n (λ k. at (c k)) (at l) ≡ find n c l
-find_along at zero c l h = refl
-find_along at (suc n) c l h = go (find_along at n c l (λ k lt e. h k (omega arith) e)) (same (c n) l)
-    (same (at (c n)) (at l)) refl refl
-  where
-    go : find n (λ k. at (c k)) (at l) ≡ find n c l → (a b : Bool) → same (c n) l ≡ a → same (at (c n)) (at l) ≡ b
-        → cond (same (at (c n)) (at l)) (Some n) (find n (λ k. at (c k)) (at l))
-        ≡ cond (same (c n) l) (Some n) (find n c l)
-    go rest true true e f = rw (e, f) refl
-    go rest false false e f = rw (e, f) rest
-    go rest true false e f = let z = ap at (same_true (c n) l e) in let y : same (at (c n)) (at l) ≡ true
-        = ap (λ x. same x (at l)) z ∙ same_refl (at l) in absurd (cc)
-    go rest false true e f = let z = h n (omega arith) (same_true (at (c n)) (at l) f) in let y : same (c n) l ≡ true
-        = ap (λ x. same x l) z ∙ same_refl l in absurd (cc)
-
-pub put_along : (at : Spot → Spot) (n : ℕ) (c : ℕ → Spot) (u v : ℕ → ℕ) (m s : State) (l : Spot)
-    → ((k : ℕ) → k < n → at (c k) ≡ at l → c k ≡ l) → ((k : ℕ) → k < n → c k ≡ l → u k ≡ v k) → m (at l) ≡ s l
-    → put n (λ k. at (c k)) u m (at l) ≡ put n c v s l
-put_along at n c u v m s l h val e = ap (λ o. put_at o u (m (at l))) (find_along at n c l h) ∙ go (find n c l) refl
-  where
-    go : (o : Option ℕ) → find n c l ≡ o → put_at (find n c l) u (m (at l)) ≡ put_at (find n c l) v (s l)
-    go None f = rw f e
-    go (Some k) f = let g = found n c l k f in rw f (val k g.0 g.1)
-
 pub put_out : (n : ℕ) (c : ℕ → Spot) (u : ℕ → ℕ) (m : State) (p : Spot) → ((k : ℕ) → k < n → c k ≡ p → ⊥)
     → put n c u m p ≡ m p
 put_out n c u m p h = rw (finds_none n c p h) refl

@@ -68,9 +68,6 @@ pub par_assoc : (a b c : cells.Tree) → EndAlike (cells.Par a (cells.Par b c)) 
 par_assoc a b c m = ap (λ t. record { mem = (run c (run b (run a m).mem).mem).mem; trap = t })
     (sym (least_assoc (run a m).trap (run b (run a m).mem).trap (run c (run b (run a m).mem).mem).trap))
 
-pub seq_empty_left : (a : cells.Tree) → EndAlike a (cells.Seq cells.Empty a)
-seq_empty_left a m = refl
-
 pub seq_empty_right : (a : cells.Tree) → EndAlike a (cells.Seq a cells.Empty)
 seq_empty_right a m = go (run a m)
   where
@@ -80,9 +77,6 @@ seq_empty_right a m = go (run a m)
         by : (o : Option (Trap Cause)) (x : State) → record { mem = x; trap = o } ≡ go_on o x (run cells.Empty)
         by None x = refl
         by (Some t) x = refl
-
-pub par_empty_left : (a : cells.Tree) → EndAlike a (cells.Par cells.Empty a)
-par_empty_left a m = refl
 
 pub par_empty_right : (a : cells.Tree) → EndAlike a (cells.Par a cells.Empty)
 par_empty_right a m = ap (λ t. record { mem = (run a m).mem; trap = t }) (sym (least-none (run a m).trap))

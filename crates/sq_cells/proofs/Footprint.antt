@@ -3,11 +3,11 @@ use Rattle.sq_cells.specs.Machine.{Form, Node}
 use Rattle.std.proofs.Common.{◌≡◌, ℕ, zero, suc, ◌<◌, Bool, true, false, refl, sym, ap, ◌∙◌, arith, ◌⊎◌, inl, inr}
 use Rattle.std.proofs.Common.{⊎_elim}
 use Rattle.sq_cells.specs.Cells.{Spot, spot}
-use Rattle.sq_cells.specs.Tree.{Tree, Empty, Writes}
+use Rattle.sq_cells.specs.Tree.{Tree, Writes}
 use Rattle.sq_cells.specs.Work.{Mode, Input, Output, Both, Local, Reduced, Place, Buffer, InPlace, Held, Array, Work}
 use Rattle.sq_cells.specs.Work.{Call, returned, reads, is_private, is_reduced}
 use Rattle.sq_cells.specs.Lowered.{Layout, node_of, own, pick, stays, in_place, held, layout, source, bring, clear}
-use Rattle.sq_cells.specs.Lowered.{give_back, take_one, leave_one, beside, turns, call_tree, IsIn, Scratch, Sets}
+use Rattle.sq_cells.specs.Lowered.{give_back, take_one, leave_one, beside, call_tree, IsIn, Scratch, Sets}
 use Rattle.sq_cells.specs.Lowered.{Gathers, CallFits}
 use Rattle.sq_cells.proofs.Access.{private_true, returned_from, place_cases}
 
@@ -15,16 +15,6 @@ pub beside_writes : (n : ℕ) (f : ℕ → Tree) (p : Spot) → Writes (beside n
 beside_writes zero f p h = absurd h
 beside_writes (suc n) f p h = ⊎_elim (λ a. let g = beside_writes n f p a in (g.0, omega (arith, g.1), g.2))
     (λ b. (n, omega arith, b)) h
-
-pub pick_writes : (b : Bool) (t : Tree) (p : Spot) → Writes (pick b t Empty) p → (b ≡ true) × Writes t p
-pick_writes true t p h = (refl, h)
-pick_writes false t p h = absurd h
-
-pub turns_writes : (q : ℕ → Bool) (n : ℕ) (f : ℕ → Tree) (p : Spot) → Writes (turns q n f) p → (t : ℕ) × (t < n)
-    × (q t ≡ true) × Writes (f t) p
-turns_writes q zero f p h = absurd h
-turns_writes q (suc n) f p h = ⊎_elim (λ a. let g = turns_writes q n f p a in (g.0, omega (arith, g.1), g.2, g.3))
-    (λ b. let g = pick_writes (q n) (f n) p b in (n, omega arith, g.0, g.1)) h
 
 -- a cell that a call may write: of a buffer, or of a returned array
 abbrev pub Brought : Mode → Bool → Type 0

@@ -73,10 +73,6 @@ module _ (path : List ℕ) (n : ℕ) (q : ℕ → Bool) (come work back : ℕ �
         go u true k = absurd (k refl)
         go u false k = refl
 
-    first_parts : (a b : Option Trap) → first_of a b ≡ None → (a ≡ None) × (b ≡ None)
-    first_parts None b e = (refl, e)
-    first_parts (Some x) b e = cc
-
     -- one stage beside the work of t
     module _ (p t u : ℕ) (fp : Comes q p t) (fu : Comes q t u) (lp : p < t) (lt : t < u) (lu : u < n) (m : State)
         (ran : Ran p m) (loaded : Loaded t m) (wait : Before u m) where

@@ -4,11 +4,10 @@ use Rattle.std.proofs.Common.{◌≡◌, ◌≢◌, ℕ, zero, suc, ◌<◌, ◌
 use Rattle.std.proofs.Common.{refl, sym, ap, ap₂, ◌∙◌, arith, List, lt-ltb, ltb-true, le-ltb, eqb-true}
 use Rattle.std.proofs.lemmas.Bool.Decides.{nat_tests}
 use Rattle.sq_cells.specs.Cells.{State}
-use Rattle.sq_ir.specs.Runs.{least}
 use Rattle.sq_cells.specs.Tree.{Trap, Tree, Empty, go_on, run, combined}
 use Rattle.sq_cells.specs.Work.{folded, always}
 use Rattle.sq_cells.specs.Lowered.{pick, beside, turns}
-use Rattle.sq_cells.proofs.Lanes.{only, leasts, turns_keep, beside_keep, lane_goes, first_of_none}
+use Rattle.sq_cells.proofs.Lanes.{only, turns_keep, beside_keep, lane_goes, first_of_none}
 
 folded_same : (op : Op) (q r : ℕ → Bool) (x : ℕ → List ℕ) (n : ℕ) (v : List ℕ) → ((t : ℕ) → t < n → q t ≡ r t)
     → folded op q x n v ≡ folded op r x n v
@@ -73,10 +72,6 @@ module _ (op : Op) (swap : (a x y : List ℕ) → combined op (combined op a x) 
       ≡ folded op always x n v
   all_folds n c lane v there = many_folds n lane c v
       ∙ folded_same op (λ t. ltb (lane t) c) always x n v (λ t lt. lt-ltb (lane t) c (there t lt))
-
-leasts_none : (path : List ℕ) (c : ℕ) (f : ℕ → Option Trap) → ((d : ℕ) → d < c → f d ≡ None) → leasts path c f ≡ None
-leasts_none path zero f h = refl
-leasts_none path (suc c) f h = ap₂ least (leasts_none path c f (λ d lt. h d (omega arith))) (h c (omega arith))
 
 -- the value of a gathered element, E being its bytes in a memory
 module _ (path : List ℕ) (n : ℕ) (g : ℕ → Tree) (trap : ℕ → Option Trap) (Before After' : ℕ → State → Type 0)

@@ -23,7 +23,7 @@ use Rattle.sq_cells.specs.Correct.{Meets, AnyOrder}
 use Rattle.sq_cells.proofs.Access.{private_true, reads_not_local, returned_not_local, reads_or_returned, place_cases}
 use Rattle.sq_cells.proofs.Footprint.{Brought, held_true, buffer_from, stays_public}
 use Rattle.sq_cells.proofs.Lanes.{turns_same}
-use Rattle.sq_cells.proofs.Calls.{to, src, to_src, to_own, src_at, sets_block, own_apart, blocks_alias, alias, back_at}
+use Rattle.sq_cells.proofs.Calls.{to, to_src, to_own, src_at, sets_block, own_apart, blocks_alias, alias, back_at}
 use Rattle.sq_cells.proofs.Calls.{one_in, one_clear, one_back, inner_meets, Inside}
 use Rattle.sq_cells.proofs.Holds.{Within, within_meets, one_take, one_leave}
 use Rattle.sq_cells.proofs.Stands.{beside_same, Has, has, first_next, last_two, last_next}
@@ -214,9 +214,6 @@ module _ (form : Form) (n : ℕ) (lower : Bool) (arrays : ℕ → Array) (w : Wo
     (meets : Meets R (Call form lower n arrays w) node kid at) where
   abbrev tos : Layout
   tos = to form n lower arrays w node kid at R fits placed meets
-
-  abbrev srcs : Layout
-  srcs = src form n lower arrays w node kid at R fits placed meets
 
   abbrev W : Work
   W = Call form lower n arrays w

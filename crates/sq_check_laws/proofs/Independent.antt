@@ -11,12 +11,12 @@ use Rattle.sq_num.specs.contracts.RedOp as op
 use Rattle.sq_num.specs.Elements.{width}
 use Rattle.sq_rect.specs.declared.view.View.{View}
 use Rattle.sq_ir.specs.Footprints.{Apart}
-use Rattle.sq_ir.specs.Events.{Spot, Event, Copy, Fill, Accumulate, Leaf, Leaves, in_row, place_in, places, is_among, in_view, in_views, chosen, written_views, reads, writes, footprint, ShareElements, ShareNothing, PathsDiffer, AreIndependent}
+use Rattle.sq_ir.specs.Events.{Spot, Event, Copy, Fill, Accumulate, Leaf, Leaves, in_row, is_among, in_view, in_views, chosen, reads, writes, footprint, ShareElements, ShareNothing, PathsDiffer, AreIndependent}
 use Rattle.sq_ir.specs.Events as events
 use Rattle.sq_ir.proofs.Local.{in_row-numbers, numbers-in_row}
 use Rattle.sq_areas.proofs.Among.{or_either, or_left, or_right, same_number, number_same, Some_of, range_in, in_range}
 use Rattle.sq_check_laws.specs.PlanLaws.{IndependentByTouches}
-use Rattle.sq_check_laws.specs.Touches.{Kind, Reads, Adds, Writes, Touch, row_touch, view_touch, view_touches, touches, touched, agree, share, meet, get_along, along_all, all_along, same_numbers, same_path, are_independent}
+use Rattle.sq_check_laws.specs.Touches.{Kind, Reads, Adds, Writes, Touch, row_touch, view_touches, touches, touched, agree, share, meet, get_along, along_all, all_along, same_numbers, same_path, are_independent}
 
 -- ---- Bools
 
@@ -138,10 +138,6 @@ touched_row s len k a h =
     numbers-in_row s.node s.at len a (same_number a.node s.node b.0) r.0 r.1
 
 -- ---- views
-
--- a leaf's views are touched byte by byte
-view_touched : (node : ℕ) (v : View) (w : Bool) (a : Spot) → in_view node v a ≡ true → touched (view_touch node v w) a ≡ true
-view_touched node v w a h = h
 
 views_touched : (node : ℕ) (ws : List Bool) (vs : List View) (a : Spot) → in_views node vs a ≡ true → Some_of (λ x. touched x a ≡ true) (view_touches node ws vs)
 views_touched node ws [] a h = cc

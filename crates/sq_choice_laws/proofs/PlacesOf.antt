@@ -58,10 +58,6 @@ rising_across (p ∷ ps) qs h = (each_right (λ q. is_before p q ≡ true) ps qs
 
 -- ---- equations
 
-pub places_call : (lower : Bool) (rows : List CallInstance) → places_in (b.Call lower rows) ≡ []
-places_call lower rows = ap places_in (sym (b.rolls-Call lower rows))
-    ∙ fold-roll-Statement (List Place) places_step (Statement-F.Call lower rows)
-
 pub places_map : (place : Place) (m : LoopKind) (counts starts : List ℕ) (xs : List Statement)
     → places_in (b.Map place m counts starts xs) ≡ place ∷ all_places (map places_in xs)
 places_map place m counts starts xs = ap places_in (sym (b.rolls-Map place m counts starts xs))

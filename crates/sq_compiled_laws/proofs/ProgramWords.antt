@@ -1,6 +1,5 @@
 -- The names in a program that a text stands for are words.
 use Rattle.std.proofs.Common.{ℕ, List, [], ◌∷◌, ◌++◌, map, sym, subst}
-use Rattle.std.specs.List.{Contains}
 use Rattle.sq_lexer.specs.declared.token.Token.{Token}
 use Rattle.sq_lexer.specs.Tokens.{AreTokens}
 use Rattle.sq_lexer.specs.Text.declared.word.Word as tree
@@ -18,7 +17,7 @@ use Rattle.sq_ast.proofs.Fronts as fronts
 use Rattle.sq_ast.proofs.Fronts.{AreFit, fit}
 use Rattle.sq_ast.proofs.TextWords.{text_words}
 use Rattle.sq_filed_laws.specs.LayoutLaws.Readable.{IsWord}
-use Rattle.sq_compiled_laws.proofs.Each.{Each, left, right, of_joined, every, there}
+use Rattle.sq_compiled_laws.proofs.Each.{Each, left, right, of_joined, every}
 
 -- a word of the tree whose bytes are a word's
 abbrev pub Named : tree.Word → Type 0
@@ -93,7 +92,3 @@ pub program_words : (most : ℕ) (text : List ℕ) (ts : List Token) (p : Progra
 program_words most text ts p read stands =
     every (λ v. Each Named (variant_words v)) HasWords has_words p.tasks
     (of_joined Named variant_words p.tasks (subst (Each Named) (sym (text_words most (symbols ts) p stands)) (symbol_words (symbols ts) (fit read))))
-
-pub task_words : (most : ℕ) (text : List ℕ) (ts : List Token) (p : Program) → AreTokens text ts → StandsFor most (symbols ts) p
-    → (v : Variant) → Contains p.tasks v → HasWords v
-task_words most text ts p read stands v c = there HasWords p.tasks v (program_words most text ts p read stands) c

@@ -224,19 +224,6 @@ with_event s asked P env bs a = asked env bs a × P (event_of s env a)
 abbrev pub with_both : AskedOfActions → AskedOfActions → AskedOfActions
 with_both first second env bs a = first env bs a × second env bs a
 
--- a term that is as asked, of whose tree each event is in P
-pub met_back : (s : Setting) (asked : AskedOfActions) (P : Event → Type 0) (x : Term) (env : Env) (bs : List ℕ)
-    → Meets s asked x env bs → AllEvents P (written s x env) → Meets s (with_event s asked P) x env bs
-met_back s asked P x env bs h g = joined s asked asked (with_event s asked P) P (λ env bs a h k g. (h, g)) x env bs h h
-    g
-
--- a term that is as asked twice
-pub meets_both : (s : Setting) (first second : AskedOfActions) (x : Term) (env : Env) (bs : List ℕ)
-    → Meets s first x env bs → Meets s second x env bs → Meets s (with_both first second) x env bs
-meets_both s first second x env bs h k =
-    joined s first second (with_both first second) (λ e. Unit {0}) (λ env bs a h k g. (h, k)) x env bs h k
-    (all_any (written s x env))
-
 -- less is asked
 pub meets_less : (s : Setting) (asked less : AskedOfActions)
     → ((env : Env) (bs : List ℕ) (a : Action) → asked env bs a → less env bs a) → (x : Term) (env : Env) (bs : List ℕ)

@@ -73,9 +73,6 @@ module _ (variants : List Variant) (instances : List Instance) where
     some_pair : (a c : Ended) → Some a ≡ Some c → a.1 ≡ c.1
     some_pair a c h = let e : a ≡ c = cc h in ap (λ (p : Ended). p.1) e
 
-    pub one_end : (k m n : ℕ) → EndIs k m → EndIs k n → m ≡ n
-    one_end k m n g h = some_pair (g.form, m) (h.form, n) (sym g.there ∙ h.there)
-
     pub end_is : (k n : ℕ) (f : Form) (e : Ended) → EndIs k n → slice_get (ends variants instances forms) k ≡ Some e
         → e.1 ≡ n
     end_is k n f e g h = some_pair e (g.form, n) (sym h ∙ g.there)

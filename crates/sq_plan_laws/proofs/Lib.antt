@@ -14,7 +14,6 @@ pub mod PlacedEntry
 pub mod Ordered
 pub mod Leaves
 pub mod Inside
-pub mod Free
 pub mod ExampleReady
 pub mod ExampleHeld
 pub mod Law

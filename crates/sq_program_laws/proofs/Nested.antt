@@ -473,9 +473,6 @@ module _ (leaves : Leaves Cause) (bodies : ℕ → FormBody) (homes : ℕ → Ho
     abbrev one_held : ℕ × Argument → PlacedArg
     one_held = as_held place counts starts c inside j
 
-    abbrev its_turn : ℕ → Placed
-    its_turn = turn place counts starts c inside j
-
     abbrev its_body : Placed
     its_body = loop_body place counts starts c inside j
 

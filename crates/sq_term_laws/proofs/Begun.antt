@@ -4,7 +4,6 @@ use Rattle.std.proofs.Common.{map, length, get_or, slice_get, Option, Some, None
 use Rattle.sq_num.specs.declared.Elem.{Elem}
 use Rattle.sq_text.specs.declared.place.Place.{Place}
 use Rattle.sq_text.specs.Names.{Bytes}
-use Rattle.sq_ast.specs.declared.stmt.Call.{Call as CallStmt}
 use Rattle.sq_ast.specs.declared.stmt.Range.{Range}
 use Rattle.sq_ast.specs.declared.stmt.MapKind.{MapKind}
 use Rattle.sq_ast.specs.declared.stmt.Stmt.{Stmt, roll-Stmt}
@@ -34,10 +33,6 @@ use Rattle.sq_term_laws.specs.Begun.{Nest, joined, nests_step, nests_of, times_b
 append_joins : {A : Type 0} (xs ys zs : List A) → (xs ++ ys) ++ zs ≡ xs ++ (ys ++ zs)
 append_joins [] ys zs = refl
 append_joins (x ∷ xs) ys zs = ap (λ l. x ∷ l) (append_joins xs ys zs)
-
-append_nil : {A : Type 0} (xs : List A) → xs ++ [] ≡ xs
-append_nil [] = refl
-append_nil (x ∷ xs) = ap (λ l. x ∷ l) (append_nil xs)
 
 length_map : {A B : Type 0} (f : A → B) (xs : List A) → length (map f xs) ≡ length xs
 length_map f [] = refl

@@ -19,13 +19,11 @@ use Rattle.sq_ir.specs.declared.term.LeafView.{LeafView}
 use Rattle.sq_ir.specs.declared.term.Action.{Action}
 use Rattle.sq_ir.specs.declared.term.Term.{Term}
 use Rattle.sq_ir.specs.declared.term.Term.TheVariants as term
-use Rattle.sq_placed.specs.declared.home.Home.{Home}
-use Rattle.sq_placed.specs.declared.home.Home.TheVariants.{InPlace, Own, Held, Twin}
 use Rattle.sq_term.specs.declared.context.Move.{Move}
 use Rattle.sq_placed.specs.Trees.{is_moved, is_held}
 use Rattle.sq_term.specs.Terms.{numbers, row_slot, lift_view, by_rows, copy_term, fill_term, add_term, copy_in_term}
 use Rattle.sq_term.specs.Terms.{copy_out_term, bring_term_by, bring_term, back_term_by, back_term, hold_in_term_by}
-use Rattle.sq_term.specs.Terms.{hold_in_term, hold_out_term_by, hold_out_term, buffer_view, own_view, with_table}
+use Rattle.sq_term.specs.Terms.{hold_in_term, hold_out_term_by, hold_out_term, buffer_view, with_table}
 use Rattle.sq_term.specs.Terms.{unless_zero, block_view, come_in_term, fill_held_term}
 use Rattle.sq_term.specs.Stands.{IsNumber}
 use Rattle.sq_term_laws.specs.Fits.{Has}
@@ -252,18 +250,3 @@ module _ (s : Setting) (sizes : HaveSizes s) (eight : IsValue Long (pos 8)) (env
         go Input = fine_skip s (RowsInside s) env bs
         go Output = back
         go Both = back
-
--- where the callee has its parameter
-pub own_roomy : (s : Setting) (sizes : HaveSizes s) (turns : List ℕ) (x : Shape) (tops : List ℕ) (h : Home)
-    (v : LeafView) → IsShaped x tops → AreDims tops → IsValue Long (pos (product x.extents))
-    → ((b : ℕ) → (h ≡ Own b) → width x.elem * product x.extents ≤ s.size b)
-    → ((b loops : ℕ) → (h ≡ Held b loops) → width x.elem * product x.extents ≤ s.size b)
-    → ((b c : ℕ) → (h ≡ Twin b c) → width x.elem * product x.extents ≤ s.size b) → IsRoomy s turns v x
-    → IsRoomy s turns (own_view x h v) x
-own_roomy s sizes turns x tops InPlace v shaped dims small own held twin g = g
-own_roomy s sizes turns x tops (Own b) v shaped dims small own held twin g
-    = roomy_buffer s sizes turns b x tops shaped dims (own b refl) small
-own_roomy s sizes turns x tops (Held b loops) v shaped dims small own held twin g
-    = roomy_buffer s sizes turns b x tops shaped dims (held b loops refl) small
-own_roomy s sizes turns x tops (Twin b c) v shaped dims small own held twin g
-    = roomy_buffer s sizes turns b x tops shaped dims (twin b c refl) small

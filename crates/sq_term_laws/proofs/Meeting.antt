@@ -73,14 +73,6 @@ use Rattle.sq_term_laws.proofs.CallLoops.{IsPipedCall, piped_call}
 
 -- ---- arms
 
-arm_number_le : (qs : List CallInstance) (r : CallInstance) → arm_number qs r ≤ length qs
-arm_number_le [] r = omega arith
-arm_number_le (q ∷ qs) r = go (is_same_arm r q) (arm_number_le qs r)
-  where
-    go : (a : Bool) → arm_number qs r ≤ length qs → (if a then 0 else suc (arm_number qs r)) ≤ suc (length qs)
-    go true l = omega arith
-    go false l = omega (arith, l)
-
 pub arm_below : (qs : List CallInstance) (r q : CallInstance) → slice_get qs (arm_number qs r) ≡ Some q
     → suc (arm_number qs r) ≤ length qs
 arm_below qs r q e = there qs (arm_number qs r) e
