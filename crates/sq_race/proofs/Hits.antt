@@ -20,6 +20,7 @@ use Rattle.sq_forms.specs.Steps.{Step, Part, Opens, Counts, Tests, Calls, Called
 use Rattle.sq_forms.specs.Args.{Names, use_step, argument, arguments, args_steps, with_value}
 use Rattle.sq_forms.specs.Worlds.{Frame, Callee}
 use Rattle.sq_forms.specs.Calls.{CallSite, uses_from, call_of, reached_steps}
+use Rattle.sq_ast.specs.declared.program.Mode.{Mode}
 use Rattle.sq_ast.specs.Modes.{is_written}
 use Rattle.sq_forms.specs.Stmts.{each, opens, within}
 use Rattle.sq_form_laws.specs.Reached.{AreExamined, form_number}

@@ -1,7 +1,7 @@
 //! The first race of a map, where its runs stand in order.
 ghost use Rattle.std.specs.Prelude.{◌≡◌, ◌+◌, ◌<◌, ◌≤◌, true, false, length, take, IfOk, OnOk, slice_get, Some};
 ghost use Rattle.std.specs.Prelude.{if◌then◌else◌};
-ghost use Rattle.sq_race.specs.Accesses.{counts, block_of as block, writes};
+ghost use Rattle.sq_race.specs.Accesses.{counts, block_of as block};
 ghost use Rattle.sq_race.specs.Blocks.{covers, whole};
 ghost use Rattle.sq_race.specs.Marks as spec;
 ghost use Rattle.sq_race.specs.Order.{AreInOrder};

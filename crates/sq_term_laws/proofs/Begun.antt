@@ -4,6 +4,7 @@ use Rattle.std.proofs.Common.{map, length, get_or, slice_get, Option, Some, None
 use Rattle.sq_num.specs.declared.Elem.{Elem}
 use Rattle.sq_text.specs.declared.place.Place.{Place}
 use Rattle.sq_text.specs.Names.{Bytes}
+use Rattle.sq_ast.specs.declared.stmt.Call.{Call as CallStmt}
 use Rattle.sq_ast.specs.declared.stmt.Range.{Range}
 use Rattle.sq_ast.specs.declared.stmt.MapKind.{MapKind}
 use Rattle.sq_ast.specs.declared.stmt.Stmt.{Stmt, roll-Stmt}
