@@ -4,6 +4,7 @@ pub mod CapacityPhase
 pub mod CheckEnds
 pub mod CompiledFiles
 pub mod CostPhase
+pub mod CutTraces
 pub mod DataPhase
 pub mod Datas
 pub mod DemoRow

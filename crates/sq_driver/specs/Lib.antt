@@ -3,6 +3,7 @@ pub mod Capacity
 pub mod Choosing
 pub mod Chosen
 pub mod CompiledFiles
+pub mod CutTraces
 pub mod Costing
 pub mod Data
 pub mod DemoRuns

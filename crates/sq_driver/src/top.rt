@@ -3,6 +3,7 @@ ghost use Rattle.std.specs.Prelude.{◌≡◌, ◌≢◌, ◌⊎◌, ◌≤◌, 
 ghost use Rattle.sq_port.specs.Ports.{Rose};
 ghost use Rattle.sq_words.specs.Words.{command_of, texts};
 ghost use Rattle.sq_driver.specs.CompiledFiles.{CompiledAreRead};
+ghost use Rattle.sq_driver.specs.CutTraces.{CutTracesBegin};
 ghost use Rattle.sq_driver.specs.Ends.{ending, FileCauses};
 ghost use Rattle.sq_driver.specs.Meaning.{Answer};
 ghost use Rattle.sq_driver.specs.Banks.{Writing};
@@ -18,6 +19,7 @@ use sq_compiled_laws::laws::compiled_files_are_read_again;
 use sq_demo_laws::laws::the_demo_is_accepted;
 use sq_port::{Failed, Files, Sink};
 use sq_tree::Bank;
+use sq_tree::laws::runs_under_orders_go_on;
 use sq_words::{Command, parse};
 use std::alloc::Global;
 
@@ -99,7 +101,11 @@ pub fn sq_top<F: Files, S: Sink, E: Sink, B: Bank>(
 
     // What `compile` writes `exec` accepts, and it runs as the program, but for the place of a trap.
     ensures compiled { CompiledAreRead }
+
+    // A trace that was cut begins the trace of a whole run of that plan, under the same order from the same data on.
+    ensures cut { CutTracesBegin }
 {
+    runs_under_orders_go_on();
     the_demo_is_accepted();
     plans_are_one();
     compiled_files_are_read_again();

@@ -1,6 +1,9 @@
 //! What is true of banks and of runs.
 
-ghost use Rattle.sq_tree.specs.UnderOrders.{RunsUnderAreRuns, FirstPicksZero};
+ghost use Rattle.sq_leaf.specs.declared.trap.Trap as trap;
+ghost use Rattle.sq_ir.specs.Events as events;
+ghost use Rattle.sq_ir.specs.Scopes as scopes;
+ghost use Rattle.sq_tree.specs.UnderOrders.{RunsUnderAreRuns, FirstPicksZero, RunsUnderGoOn};
 ghost use Rattle.sq_tree.specs.Totals.{AreSums, HaveThePlansSums};
 ghost use Rattle.sq_tree.specs.Prepared.{OpenedArePrepared, PutsKeepPrepared};
 
@@ -12,6 +15,11 @@ use sq_leaf::Trap;
 pub fn runs_under_orders_are_runs<Event, Scope, Address, Cause>()
     ensures runs { RunsUnderAreRuns Event Scope Address Cause }
     ensures first { FirstPicksZero Event Scope Address Cause }
+{}
+
+/// Each run of a plan under an order goes on under it until nothing is ready.
+pub fn runs_under_orders_go_on()
+    ensures { RunsUnderGoOn events.Event scopes.Scope events.Spot trap.Trap }
 {}
 
 /// What events carry over an edge and how many there are of each kind are sums over them, each stopped at the greatest

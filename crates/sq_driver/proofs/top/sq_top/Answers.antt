@@ -1,6 +1,7 @@
 use Rattle.std.proofs.Common.{refl, ⊎_elim}
 use Rattle.sq_driver.proofs.Answering.{answered_of}
 use Rattle.sq_driver.proofs.CompiledFiles.{compiled_are_read}
+use Rattle.sq_driver.proofs.CutTraces.{cut_traces_begin}
 use Rattle.sq_driver.proofs.DemoRow.{demo_row}
 use Rattle.sq_driver.proofs.OnePlan.{one_plan}
 use Rattle.sq_driver.proofs.Rows.{usage_row, no_command_row, absent_row, file_fault_row, sink_fault_row, no_sink_fault_row, later_row, undisturbed_row, no_memory_row, complete_row, only_row}
@@ -80,3 +81,6 @@ returns-clause-one_plan g c = one_plan c.plans_are_one.ensures
 
 pub returns-clause-compiled : goal.returns-clause-compiled
 returns-clause-compiled g c = compiled_are_read c.compiled_files_are_read_again.ensures
+
+pub returns-clause-cut : goal.returns-clause-cut
+returns-clause-cut g c = cut_traces_begin c.runs_under_orders_go_on.ensures
