@@ -12,7 +12,8 @@ use Rattle.sq_ir.specs.declared.term.Term.TheVariants as t
 use Rattle.sq_sched.specs.declared.env.Env.{Env}
 use Rattle.sq_sched.specs.declared.frames.Spread.{Spread}
 use Rattle.sq_sched.specs.Words as words
-use Rattle.sq_sched.specs.Words.{env_of, value, count, children_at, nat_part}
+use Rattle.sq_sched.specs.Words.{env_of, value, count, children_at}
+use Rattle.sq_sched.specs.Nums.Words.{nat_part}
 use Rattle.sq_sched.specs.Forms.{has_arm}
 use Rattle.sq_sched.specs.Children.{is_at}
 use Rattle.sq_sched.specs.Acts.{acts}

@@ -14,7 +14,8 @@ use Rattle.sq_text.specs.declared.spread.SpreadRule.{SpreadRule}
 use Rattle.sq_sched.specs.declared.frame.Frame.{Frame}
 use Rattle.sq_sched.specs.Ends.{SameCounts}
 use Rattle.sq_sched.specs.Shapes.{Shape, Run, Beside, Scoped, IsCounted, Fits, frame_in, IsKept, HasStepped, PartStands, written, rest_of, IsRight, part_rest, PartIsLive, live}
-use Rattle.sq_sched.specs.Words.{Env, value, nat_part, node_here, children_at, count, first}
+use Rattle.sq_sched.specs.Words.{Env, value, node_here, children_at, count, first}
+use Rattle.sq_term_nums.specs.Words.{nat_part}
 use Rattle.sq_sched.specs.Forms.{has_arm, inside, most_frames, stop, frames, frames_at, total, before, scope_form, made, sizes_of, items_of, turns_of, InPart, InItems}
 use Rattle.sq_sched.specs.Children as children
 use Rattle.sq_sched.proofs.Strands.{ready-live, strand-ready, strand-done, if-true}

@@ -3,5 +3,6 @@
 
 pub mod laws;
 mod value;
+pub mod words;
 
 pub use value::{Env, Turns, count_of, value_of};

@@ -18,7 +18,8 @@ use Rattle.sq_ir.specs.declared.term.Term.TheVariants as t
 use Rattle.sq_sched.specs.declared.env.Env.{Env}
 use Rattle.sq_sched.specs.declared.frames.Spread.{Spread}
 use Rattle.sq_sched.specs.Shapes.{Shape, Nothing, seq_of, par_of, written}
-use Rattle.sq_sched.specs.Words.{env_of, at_turn, value, count, children_at, nat_part, node_here, event}
+use Rattle.sq_sched.specs.Words.{env_of, at_turn, value, count, children_at, node_here, event}
+use Rattle.sq_sched.specs.Nums.Words.{nat_part}
 use Rattle.sq_sched.specs.Forms.{has_arm, inside, nothing, scope_form, made}
 use Rattle.sq_sched.specs.Children.{is_at}
 use Rattle.sq_sched.proofs.Strands.{if-true}
