@@ -8,11 +8,12 @@ use Rattle.sq_ir.specs.declared.term.Term.TheVariants as t
 use Rattle.sq_ir.specs.declared.plan.Plan.{Plan}
 use Rattle.sq_text.specs.declared.spread.SpreadRule.{SpreadRule}
 use Rattle.sq_sched.specs.declared.frame.Frame.{Frame}
+use Rattle.sq_sched.specs.declared.frame.Mark.{Mark}
 use Rattle.sq_sched.specs.declared.sizes.Sizes.{Sizes}
 use Rattle.sq_sched.specs.Ends.{SameCounts}
 use Rattle.sq_sched.specs.Shapes.{frame_in, IsKept, HasStepped, PartStands, rest_of, IsRight, part_rest, live}
 use Rattle.sq_sched.specs.Words.{Env, count, children_at, first}
-use Rattle.sq_sched.specs.Forms.{most_frames, stop, frames, frames_at, total, before, made, sizes_of, items_of, turns_of, tallied, InPart, InItems}
+use Rattle.sq_sched.specs.Forms.{most_frames, stop, frames, frames_at, total, before, made, sizes_of, items_of, turns_of, tallied, mark_at, InPart, InItems}
 use Rattle.sq_sched.specs.Children as children
 use Rattle.sq_sched.specs.Children.{Moves}
 use Rattle.sq_sched.proofs.Strands.{ready-live}
@@ -78,12 +79,13 @@ module _ (plan : Plan) (env : Env) (ts : List Term) (es fs : List Frame) (o k pa
   at_place = o + (1 + before (sizes_of plan env.fans ts) part)
 
   -- the part's counts are counted anew
-  pub par_moves : (was : Frame) → was ≡ frame_in es p
-      → HasStepped ((made plan (t.Par ts)).form env) (frame_in es) (frame_in (slice_set fs o (tallied fs o p was))) o k v
-  par_moves was is =
+  pub par_moves : (was : Frame) (mark : Mark) → was ≡ frame_in es p → mark ≡ mark_at o p k j part
+      → HasStepped ((made plan (t.Par ts)).form env) (frame_in es) (frame_in (slice_set fs o (tallied fs o p was mark))) o k v
+  par_moves was mark is at =
       let pl = x.place in
       let y = par_steps plan env ts es fs o k part j v lo x.small r x.found x.there (subst (λ z. HasStepped (items_of plan ts env part) (frame_in es) (frame_in fs) z j v) pl s) (subst (λ z. (frame_in fs z).turn ≡ (frame_in es z).turn) pl same_turn) (subst (λ z. IsKept es fs z (frames_at (sizes_of plan env.fans ts) part)) pl kept) in
-      let e : tallied fs o p was ≡ tallied fs o at_place (frame_in es at_place) = ap (λ z. tallied fs o z was) pl ∙ ap (tallied fs o at_place) (is ∙ ap (frame_in es) pl) in
+      let e : tallied fs o p was mark ≡ tallied fs o at_place (frame_in es at_place) (mark_at o at_place k j part) =
+      ap (λ z. tallied fs o z was mark) pl ∙ ap (λ z. tallied fs o at_place z mark) (is ∙ ap (frame_in es) pl) ∙ ap (tallied fs o at_place (frame_in es at_place)) (at ∙ ap (λ z. mark_at o z k j part) pl) in
       subst (λ f. HasStepped ((made plan (t.Par ts)).form env) (frame_in es) (frame_in (slice_set fs o f)) o k v) (sym e) y
 
   -- they are as they were
@@ -164,12 +166,13 @@ module _ (plan : Plan) (env : Env) (n : Num) (rule : SpreadRule) (b : Term) (es 
   child_few hs =
       subst (λ z. ChildStands hs z → (frame_in hs z).ready ≤ frames ((made plan b).sizes env.fans)) (sym x.place) (λ new. spread_few plan env n rule b (frame_in hs) o part _ x.small x.found.part new)
 
-  pub spread_moves : (hs : List Frame) → o < length hs → ChildStands hs p → IsKept es hs p (frames ((made plan b).sizes env.fans)) → (was : Frame)
-      → was ≡ frame_in es p → HasStepped ((made plan (t.Spread n rule b)).form env) (frame_in es) (frame_in (slice_set hs o (tallied hs o p was))) o k v
-  spread_moves hs lo new kept was is =
+  pub spread_moves : (hs : List Frame) → o < length hs → ChildStands hs p → IsKept es hs p (frames ((made plan b).sizes env.fans)) → (was : Frame) (mark : Mark)
+      → was ≡ frame_in es p → mark ≡ mark_at o p k j part → HasStepped ((made plan (t.Spread n rule b)).form env) (frame_in es) (frame_in (slice_set hs o (tallied hs o p was mark))) o k v
+  spread_moves hs lo new kept was mark is at =
       let pl = x.place in
       let y = spread_steps plan env n rule b es hs o k part j v lo x.small r x.found (subst (λ z. ChildStands hs z) pl new) (subst (λ z. IsKept es hs z (frames ((made plan b).sizes env.fans))) pl kept) in
-      let e : tallied hs o p was ≡ tallied hs o at_child (frame_in es at_child) = ap (λ z. tallied hs o z was) pl ∙ ap (tallied hs o at_child) (is ∙ ap (frame_in es) pl) in
+      let e : tallied hs o p was mark ≡ tallied hs o at_child (frame_in es at_child) (mark_at o at_child k j part) =
+      ap (λ z. tallied hs o z was mark) pl ∙ ap (λ z. tallied hs o at_child z mark) (is ∙ ap (frame_in es) pl) ∙ ap (tallied hs o at_child (frame_in es at_child)) (at ∙ ap (λ z. mark_at o z k j part) pl) in
       subst (λ f. HasStepped ((made plan (t.Spread n rule b)).form env) (frame_in es) (frame_in (slice_set hs o f)) o k v) (sym e) y
 
   pub spread_stays : (hs : List Frame) → o < length hs → ChildStands hs p → IsKept es hs p (frames ((made plan b).sizes env.fans))

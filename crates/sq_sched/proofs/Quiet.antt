@@ -1,6 +1,7 @@
 -- A part whose counts stay as they were: no frame of the whole has to be written.
-use Rattle.std.proofs.Common.{◌≡◌, ℕ, ◌+◌, ◌*◌, ◌-◌, ◌<◌, Bool, true, false, List, [], ◌∷◌, length, map, Option, refl, sym, ap, ◌∙◌, subst, arith, inl}
-use Rattle.std.specs.Prelude.{if◌then◌else◌, slice_set}
+use Rattle.std.proofs.Common.{◌≡◌, ℕ, ◌+◌, ◌*◌, ◌-◌, ◌<◌, ◌≢◌, Bool, true, false, List, [], ◌∷◌, length, map, Option, refl, sym, ap, ◌∙◌, subst, arith, inl}
+use Rattle.std.specs.Prelude.{if◌then◌else◌, slice_set, nat_eq}
+use Rattle.std.proofs.lemmas.Bool.{eqb-true, eqb-false}
 use Rattle.std.proofs.lemmas.List.{set-get_or}
 use Rattle.sq_ir.specs.Tree.{is_done, ready, rest_at, within}
 use Rattle.sq_ir.specs.Scopes.{Scope}
@@ -12,15 +13,16 @@ use Rattle.sq_ir.specs.declared.plan.Plan.{Plan}
 use Rattle.sq_ir.proofs.Normal.{ready-within, done-within, rest-within}
 use Rattle.sq_text.specs.declared.spread.SpreadRule.{SpreadRule}
 use Rattle.sq_sched.specs.declared.frame.Frame.{Frame}
+use Rattle.sq_sched.specs.declared.frame.Mark.{Mark}
 use Rattle.sq_sched.specs.Ends.{SameCounts}
-use Rattle.sq_sched.specs.Shapes.{Shape, Run, Beside, Scoped, IsCounted, Fits, frame_in, IsKept, HasStepped, PartStands, written, rest_of, IsRight, part_rest, PartIsLive, live}
+use Rattle.sq_sched.specs.Shapes.{Shape, Run, Beside, Scoped, IsCounted, Fits, frame_in, IsKept, HasStepped, PartStands, written, rest_of, IsRight, part_rest, PartIsLive, live, unmarked, IsMarked}
 use Rattle.sq_sched.specs.Words.{Env, value, node_here, children_at, count, first}
 use Rattle.sq_term_nums.specs.Words.{nat_part}
 use Rattle.sq_sched.specs.Forms.{has_arm, inside, most_frames, stop, frames, frames_at, total, before, scope_form, made, sizes_of, items_of, turns_of, InPart, InItems}
 use Rattle.sq_sched.specs.Children as children
 use Rattle.sq_sched.proofs.Strands.{ready-live, strand-ready, strand-done, if-true}
-use Rattle.sq_sched.proofs.Sames.{written-normal, rest-normal, right-counted}
-use Rattle.sq_sched.proofs.Steps.{frame, items_stay, part_in, beside_step, beside_into, run_into}
+use Rattle.sq_sched.proofs.Sames.{written-normal, rest-normal, right-counted, mark-same}
+use Rattle.sq_sched.proofs.Steps.{marked, items_stay, part_in, beside_step, others_kept, beside_into, run_into}
 use Rattle.sq_sched.proofs.Made.{made-Seq, made-Par, made-Loop, made-Spread, made-Case, made-Within, times-next}
 use Rattle.sq_sched.proofs.Begins.{par_fits, length_made, before_more}
 use Rattle.sq_sched.proofs.Performs.{beside_counts, here, place_of, spread_fits}
@@ -83,9 +85,10 @@ scope_quiet node (b ∷ bs) f es fs o k v r h s kept same = scoped_quiet (record
 
 -- ---- parts beside one another
 
-same_frame : (a u r : ℕ) (d : Bool) (f : Frame) → a ≡ f.at → u ≡ f.turn → r ≡ f.ready → d ≡ f.done → frame a u r d ≡ f
-same_frame a u r d f ea eu er ed =
-    ap (λ x. frame x u r d) ea ∙ ap (λ x. frame f.at x r d) eu ∙ ap (λ x. frame f.at f.turn x d) er ∙ ap (λ x. frame f.at f.turn f.ready x) ed
+same_frame : (a u r : ℕ) (d : Bool) (m : Mark) (f : Frame) → a ≡ f.at → u ≡ f.turn → r ≡ f.ready → d ≡ f.done → m ≡ f.mark → marked a u r d m ≡ f
+same_frame a u r d m f ea eu er ed em =
+    ap (λ x. marked x u r d m) ea ∙ ap (λ x. marked f.at x r d m) eu ∙ ap (λ x. marked f.at f.turn x d m) er ∙ ap (λ x. marked f.at f.turn f.ready x m) ed
+    ∙ ap (λ x. marked f.at f.turn f.ready f.done x) em
 
 pub beside_quiet : (n : ℕ) (place steps : ℕ → ℕ) (item : ℕ → ℕ → Shape Event Scope) (es fs : List Frame) (o w k c j : ℕ) (v : Bool) → o < length fs
     → Fits (Beside n place steps item) w → IsRight (Beside n place steps item) (frame_in es) o → k < ready (rest_of (Beside n place steps item) (frame_in es) o)
@@ -108,10 +111,18 @@ beside_quiet n place steps item es fs o w k c j v lo fit r h f kept new same =
     let sr = same.ready in
     let sl = ap live same.done in
     let g = frame_in es o in
-    let s = beside_step n place steps item es fs o w c j k g.at (frame_in fs o).turn g.ready v g.done lo fit f.part f.there f.passed r kept new (omega (arith, sr)) (omega (arith, sl)) (λ z. absurd (omega (arith, z, one, q2))) (λ z. all) in
-    let e : frame g.at (frame_in fs o).turn g.ready g.done ≡ frame_in fs o =
-    same_frame g.at (frame_in fs o).turn g.ready g.done (frame_in fs o) (ap (λ y. y.at) (sym whole)) refl (ap (λ y. y.ready) (sym whole)) (ap (λ y. y.done) (sym whole)) in
-    subst (λ gs. HasStepped form (frame_in es) (frame_in gs) o k v) (ap (slice_set fs o) e ∙ set-get_or fs o (record { at = 0; turn = 0; ready = 0; done = false })) s
+    let others = others_kept n place steps item es fs o w c fit f.part kept in
+    let readies : (i : ℕ) → i < n → (frame_in es (o + place i)).ready ≡ (frame_in fs (o + place i)).ready = λ i l. one_ready i l others (nat_eq i c) refl in
+    let mark = mark-same n place (frame_in es) (frame_in fs) o g.mark readies r.3 in
+    let s = beside_step n place steps item es fs o w c j k g.at (frame_in fs o).turn g.ready v g.done g.mark lo fit f.part f.there f.passed r kept new (omega (arith, sr)) (omega (arith, sl)) (λ z. absurd (omega (arith, z, one, q2))) (λ z. all) mark in
+    let e : marked g.at (frame_in fs o).turn g.ready g.done g.mark ≡ frame_in fs o =
+    same_frame g.at (frame_in fs o).turn g.ready g.done g.mark (frame_in fs o) (ap (λ y. y.at) (sym whole)) refl (ap (λ y. y.ready) (sym whole)) (ap (λ y. y.done) (sym whole)) (ap (λ y. y.mark) (sym whole)) in
+    subst (λ gs. HasStepped form (frame_in es) (frame_in gs) o k v) (ap (slice_set fs o) e ∙ set-get_or fs o (record { at = 0; turn = 0; ready = 0; done = false; mark = unmarked })) s
+  where
+    one_ready : (i : ℕ) → i < n → ((i : ℕ) → i < n → i ≢ c → frame_in es (o + place i) ≡ frame_in fs (o + place i)) → (v : Bool) → nat_eq i c ≡ v
+        → (frame_in es (o + place i)).ready ≡ (frame_in fs (o + place i)).ready
+    one_ready i l others true e = subst (λ i. (frame_in es (o + place i)).ready ≡ (frame_in fs (o + place i)).ready) (sym (eqb-true i c e)) (sym same.ready)
+    one_ready i l others false e = ap (λ g. g.ready) (others i l (eqb-false i c e))
 
 -- ---- the forms of terms
 
