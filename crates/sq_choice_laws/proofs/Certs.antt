@@ -15,9 +15,9 @@ use Rattle.sq_spec_laws.specs.TableRows.{Table, red_of, all_tables, tables_of}
 use Rattle.sq_spec_laws.proofs.TableRowsHold.{tables_call, tables_map}
 use Rattle.sq_draft_laws.specs.TermLaws.Orders.{EachOf}
 use Rattle.sq_draft_laws.proofs.ProgramLaws.Loops.{nothing_more, each_left, each_map, each_right}
-use Rattle.sq_pipe.specs.Homes.declared.choice.Choice.{Choice}
-use Rattle.sq_pipe.specs.Homes.Numbering.{left_by}
-use Rattle.sq_pipe.specs.Homes.Drafts.{choice_in}
+use Rattle.sq_draft_laws.specs.Homes.Chosen.declared.choice.Choice.{Choice}
+use Rattle.sq_draft_laws.specs.Homes.Chosen.Arrays.{left_by}
+use Rattle.sq_draft_laws.specs.Homes.Chosen.Forms.{choice_in}
 use Rattle.sq_pipe.specs.Hoist.Loops.{Nest, seen, sites_by, sites_in, all_sites}
 use Rattle.sq_pipe.specs.Hoist.Choices.{find_leaves, leaves_or}
 use Rattle.sq_pipe.proofs.Hoist.Opened.{nest_call, inner_call, inner_map}

@@ -17,9 +17,9 @@ use Rattle.sq_draft_laws.specs.Choosing.{Walked}
 use Rattle.sq_draft_laws.proofs.Hoisting.{no_item}
 use Rattle.sq_draft_laws.proofs.Programs.{bodies_are_tables}
 use Rattle.sq_draft_laws.proofs.ProgramLaws.Loops.{each_at, each_from}
-use Rattle.sq_pipe.specs.Homes.declared.choice.Choice.{Choice}
-use Rattle.sq_pipe.specs.Homes.Numbering.{left_by}
-use Rattle.sq_pipe.specs.Homes.Drafts.{bodies_of}
+use Rattle.sq_draft_laws.specs.Homes.Chosen.declared.choice.Choice.{Choice}
+use Rattle.sq_draft_laws.specs.Homes.Chosen.Arrays.{left_by}
+use Rattle.sq_draft_laws.specs.Homes.Chosen.Forms.{bodies_of}
 use Rattle.sq_pipe.specs.Hoist.Loops.{Nest, sites}
 use Rattle.sq_pipe.specs.Hoist.Choices.{sites_of, find_leaves, leaves_or}
 use Rattle.sq_pass_laws.proofs.Nests.{nest_of, Follows}

@@ -6,7 +6,7 @@ use Rattle.sq_ir.specs.declared.plan.Note.{Note}
 use Rattle.sq_ir.specs.declared.plan.Note.TheVariants.{Overlap}
 use Rattle.sq_spec.specs.declared.resolved.Resolved.{Resolved}
 use Rattle.sq_draft_laws.specs.TermLaws.Orders.{EachOf}
-use Rattle.sq_pipe.specs.Homes.Drafts.{instance_at, name_by}
+use Rattle.sq_draft_laws.specs.Homes.Chosen.Forms.{instance_at, name_by}
 use Rattle.sq_pipe.specs.Hoist.declared.sites.Site.{Site}
 use Rattle.sq_pipe.specs.Hoist.Notes.{no_place, site_notes}
 use Rattle.sq_pipe.specs.declared.candidate.Candidate.{Candidate}

@@ -17,8 +17,8 @@ use Rattle.sq_spec.specs.declared.resolved.Resolved.{Resolved}
 use Rattle.sq_placed.specs.Tables.{row_form}
 use Rattle.sq_draft_laws.specs.TermLaws.Orders.{EachOf}
 use Rattle.sq_draft_laws.proofs.ProgramLaws.Loops.{nothing_more, each_at, each_from}
-use Rattle.sq_pipe.specs.Homes.declared.choice.Choice.{Choice}
-use Rattle.sq_pipe.specs.Homes.Drafts.{choice_in, instance_at, name_by}
+use Rattle.sq_draft_laws.specs.Homes.Chosen.declared.choice.Choice.{Choice}
+use Rattle.sq_draft_laws.specs.Homes.Chosen.Forms.{choice_in, instance_at, name_by}
 use Rattle.sq_pipe.specs.Hoist.declared.sites.Site.{Site}
 use Rattle.sq_pipe.specs.Hoist.Loops.{Nest, seen, site_of, sites_by, sites_in, all_sites, looped}
 use Rattle.sq_pipe.specs.Hoist.Notes.{no_place, notes_out, param_at, site_notes}

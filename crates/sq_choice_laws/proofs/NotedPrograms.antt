@@ -16,9 +16,9 @@ use Rattle.sq_spec_laws.specs.TableRows.{Table, tables_in}
 use Rattle.sq_draft_laws.specs.TermLaws.Orders.{EachOf}
 use Rattle.sq_draft_laws.specs.Choosing.{Walked}
 use Rattle.sq_draft_laws.proofs.ProgramLaws.Loops.{each_at, each_both, each_from, each_map}
-use Rattle.sq_pipe.specs.Homes.declared.choice.Choice.{Choice}
-use Rattle.sq_pipe.specs.Homes.Numbering.{left_by}
-use Rattle.sq_pipe.specs.Homes.Drafts.{bodies_of, choice_in, no_choice}
+use Rattle.sq_draft_laws.specs.Homes.Chosen.declared.choice.Choice.{Choice}
+use Rattle.sq_draft_laws.specs.Homes.Chosen.Arrays.{left_by}
+use Rattle.sq_draft_laws.specs.Homes.Chosen.Forms.{bodies_of, choice_in, no_choice}
 use Rattle.sq_pipe.specs.Hoist.declared.sites.Site.{Site}
 use Rattle.sq_pipe.specs.Hoist.Choices.{sites_of, body_sites, sites_from, find_leaves, choices_from}
 use Rattle.sq_pipe.specs.declared.candidate.Candidate.{Candidate}

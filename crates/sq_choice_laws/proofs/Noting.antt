@@ -19,8 +19,8 @@ use Rattle.sq_spec.specs.declared.resolved.Resolved.{Resolved}
 use Rattle.sq_placed.specs.Tables.{Chain, chain_of, first_of, one_more, row_form}
 use Rattle.sq_draft_laws.specs.TermLaws.Orders.{EachOf}
 use Rattle.sq_draft_laws.proofs.ProgramLaws.Loops.{nothing_more}
-use Rattle.sq_pipe.specs.Homes.declared.choice.Choice.{Choice}
-use Rattle.sq_pipe.specs.Homes.Drafts.{choice_in, instance_at, name_by}
+use Rattle.sq_draft_laws.specs.Homes.Chosen.declared.choice.Choice.{Choice}
+use Rattle.sq_draft_laws.specs.Homes.Chosen.Forms.{choice_in, instance_at, name_by}
 use Rattle.sq_pipe.specs.Hoist.Loops.{Nest}
 use Rattle.sq_pipe.specs.Hoist.Notes.{no_place, notes_at, notes_out, param_at}
 use Rattle.sq_pipe.specs.Candidates.{call_in, only_call}

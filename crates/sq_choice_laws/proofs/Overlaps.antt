@@ -6,7 +6,7 @@ use Rattle.sq_spec.specs.declared.body.Body.{Body}
 use Rattle.sq_spec.specs.declared.body.Body.TheVariants as body
 use Rattle.sq_spec.specs.declared.body.FormBody.{FormBody}
 use Rattle.sq_spec.specs.declared.resolved.Resolved.{Resolved}
-use Rattle.sq_pipe.specs.Homes.Drafts.{bodies_of, choice_in}
+use Rattle.sq_draft_laws.specs.Homes.Chosen.Forms.{bodies_of, choice_in}
 use Rattle.sq_pipe.specs.Hoist.Choices.{hoisted}
 use Rattle.sq_pipe.specs.Runs.{marks_of, most_children}
 use Rattle.sq_pipe.specs.Greedy.{body_candidates, candidates_from}

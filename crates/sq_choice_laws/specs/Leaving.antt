@@ -25,8 +25,8 @@ use Rattle.sq_spec.specs.Bodies.{body_of}
 use Rattle.sq_draft_laws.specs.TermLaws.Orders.{EachOf}
 use Rattle.sq_draft_laws.specs.ProgramLaws.Held.{begun, Stays}
 use Rattle.sq_draft_laws.specs.Choosing.{Walked}
-use Rattle.sq_pipe.specs.Homes.Numbering.{left_by}
-use Rattle.sq_pipe.specs.Homes.Drafts.{choice_in}
+use Rattle.sq_draft_laws.specs.Homes.Chosen.Arrays.{left_by}
+use Rattle.sq_draft_laws.specs.Homes.Chosen.Forms.{choice_in}
 use Rattle.sq_pipe.specs.Hoist.Choices.{hoisted}
 
 -- ---- loops and calls

@@ -24,8 +24,8 @@ use Rattle.sq_spec.specs.declared.body.FormBody.{FormBody}
 use Rattle.sq_spec.specs.declared.resolved.Resolved.{Resolved}
 use Rattle.sq_draft_laws.specs.TermLaws.Orders.{EachOf}
 use Rattle.sq_draft_laws.specs.Choosing.{Walked}
-use Rattle.sq_pipe.specs.Homes.declared.choice.Choice.{Choice}
-use Rattle.sq_pipe.specs.Homes.Drafts.{bodies_of, choice_in, instance_at, name_by}
+use Rattle.sq_draft_laws.specs.Homes.Chosen.declared.choice.Choice.{Choice}
+use Rattle.sq_draft_laws.specs.Homes.Chosen.Forms.{bodies_of, choice_in, instance_at, name_by}
 use Rattle.sq_pipe.specs.Hoist.Choices.{hoisted}
 use Rattle.sq_pipe.specs.Hoist.Notes as hoist
 use Rattle.sq_pipe.specs.Greedy.{overlapped}

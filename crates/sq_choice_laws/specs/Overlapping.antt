@@ -35,7 +35,7 @@ use Rattle.sq_spec.specs.declared.resolved.Resolved.{Resolved}
 use Rattle.sq_spec.specs.Spreads.{any_of, is_spread}
 use Rattle.sq_placed.specs.Pipes.{CallLoop, call_loops_of}
 use Rattle.sq_draft_laws.specs.Choosing.{Walked}
-use Rattle.sq_pipe.specs.Homes.Drafts.{bodies_of}
+use Rattle.sq_draft_laws.specs.Homes.Chosen.Forms.{bodies_of}
 use Rattle.sq_pipe.specs.declared.candidate.Candidate.{Candidate}
 use Rattle.sq_pipe.specs.Runs.{is_marked, marks_of}
 use Rattle.sq_pipe.specs.Greedy.{candidates_of}

@@ -26,10 +26,15 @@ use Rattle.sq_spec.specs.declared.resolved.Resolved.{Resolved}
 use Rattle.sq_spec_laws.specs.Needs.{variant_for}
 use Rattle.sq_plan_good.specs.Term.Terms.{homes_in, buffer_or}
 use Rattle.sq_store.specs.Walk.{offsets_of}
-use Rattle.sq_plan_good.specs.Homes.declared.choice.Choice.{Choice}
+use Rattle.sq_plan_good.specs.Homes.Chosen.declared.choice.Choice.{Choice}
 use Rattle.sq_plan_good.specs.Homes.Placed.declared.home.Homes.{Homes}
-use Rattle.sq_plan_good.specs.Homes.Numbering.{standing, others, array_size, form_homes}
-use Rattle.sq_plan_good.specs.Homes.Drafts.{bodies_of, choice_in, instance_at, instance_by, level_by, rule_by, name_by, names_by, codes_in, homes_from, homes_of, buffer_at, buffers_from, buffers_of, leaves_in, leaves_from, leaves_of, extents_by, args_of, term_with, program_term, entry_of, IsDraftOf}
+use Rattle.sq_plan_good.specs.Homes.Chosen.Arrays.{standing, others, array_size}
+use Rattle.sq_plan_good.specs.Homes.Numbering.{form_homes}
+use Rattle.sq_plan_good.specs.Homes.Chosen.Forms.{bodies_of, choice_in, instance_at, instance_by, level_by, rule_by}
+use Rattle.sq_plan_good.specs.Homes.Chosen.Forms.{name_by}
+use Rattle.sq_plan_good.specs.Homes.Drafts.{names_by, codes_in, homes_from, homes_of, buffer_at, buffers_from}
+use Rattle.sq_plan_good.specs.Homes.Drafts.{buffers_of, leaves_in, leaves_from, leaves_of, extents_by, args_of}
+use Rattle.sq_plan_good.specs.Homes.Drafts.{term_with, program_term, entry_of, IsDraftOf}
 use Rattle.sq_pass_laws.specs.Hoist.declared.sites.Site.{Site}
 use Rattle.sq_pass_laws.specs.Hoist.Choices.{choices_from, find_leaves, sites_from, sites_of, hoisted}
 use Rattle.sq_pass_laws.specs.Hoist.Notes.{param_name, notes_in, site_notes}

@@ -10,7 +10,7 @@ use Rattle.sq_store.specs.declared.fitting.StoreFault.{StoreFault}
 use Rattle.sq_store.specs.declared.fitting.StoreFault.TheVariants.{Capacity, NoMemory}
 use Rattle.sq_store.specs.Place.{IsPlaced, IsRefusal, IsOver}
 use Rattle.sq_spec.specs.declared.resolved.Resolved.{Resolved}
-use Rattle.sq_plan_good.specs.Homes.declared.choice.Choice.{Choice}
+use Rattle.sq_plan_good.specs.Homes.Chosen.declared.choice.Choice.{Choice}
 use Rattle.sq_plan_good.specs.Homes.Drafts.{IsDraftOf, program_term, buffers_of, leaves_of, entry_of}
 use Rattle.sq_plan_good.specs.DraftLaws.Choosing.{AreMemories, Walked}
 use Rattle.sq_pass_laws.specs.Hoist.Choices.{hoisted}

@@ -5,10 +5,11 @@ use Rattle.std.specs.List.{range_with_len}
 use Rattle.sq_forms.specs.declared.form.Form.{Form}
 use Rattle.sq_spec.specs.declared.body.FormBody.{FormBody}
 use Rattle.sq_spec.specs.declared.resolved.Resolved.{Resolved}
-use Rattle.sq_plan_good.specs.Homes.declared.choice.Choice.{Choice}
-use Rattle.sq_plan_good.specs.Homes.Numbering.{deepest, left_by, params_where, hoisted_from, hoisted as left_first, others, again}
-use Rattle.sq_plan_good.specs.Homes.Numbering.{locals_count, standing, array_size}
-use Rattle.sq_plan_good.specs.Homes.Drafts.{no_choice}
+use Rattle.sq_plan_good.specs.Homes.Chosen.declared.choice.Choice.{Choice}
+use Rattle.sq_plan_good.specs.Homes.Chosen.Arrays.{deepest, left_by, params_where, hoisted_from, hoisted as left_first}
+use Rattle.sq_plan_good.specs.Homes.Chosen.Arrays.{others, again}
+use Rattle.sq_plan_good.specs.Homes.Chosen.Arrays.{locals_count, standing, array_size}
+use Rattle.sq_plan_good.specs.Homes.Chosen.Forms.{no_choice}
 use Rattle.sq_plan_good.specs.Room.{sizes_of}
 use Rattle.sq_pass_laws.specs.Pipe.declared.candidate.Candidate.{Candidate}
 use Rattle.sq_pass_laws.specs.Pipe.Runs.{Marks}

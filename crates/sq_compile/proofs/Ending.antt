@@ -10,9 +10,9 @@ use Rattle.sq_spec.specs.FormLaws.Reached.{FormsCallersFirst}
 use Rattle.sq_spec.specs.declared.body.FormBody.{FormBody}
 use Rattle.sq_spec.specs.declared.resolved.Resolved.{Resolved}
 use Rattle.sq_spec_laws.specs.Needs.{Ended, end_at, callers_end}
-use Rattle.sq_plan_good.specs.Homes.declared.choice.Choice.{Choice}
-use Rattle.sq_plan_good.specs.Homes.Numbering.{standing}
-use Rattle.sq_plan_good.specs.Homes.Drafts.{bodies_of, choice_in}
+use Rattle.sq_plan_good.specs.Homes.Chosen.declared.choice.Choice.{Choice}
+use Rattle.sq_plan_good.specs.Homes.Chosen.Arrays.{standing}
+use Rattle.sq_plan_good.specs.Homes.Chosen.Forms.{bodies_of, choice_in}
 use Rattle.sq_plan_good.specs.DraftLaws.Choosing.{Walked}
 use Rattle.sq_plan_good.proofs.DraftLaws.Hoisting.{at_index, bodies_many}
 use Rattle.sq_pass_laws.specs.Hoist.Choices.{hoisted}

@@ -11,11 +11,11 @@ use Rattle.sq_spec.specs.declared.statement.LoopKind.TheVariants as loop_kind
 use Rattle.sq_spec.specs.declared.statement.CallInstance.{CallInstance}
 use Rattle.sq_spec.specs.declared.body.FormBody.{FormBody}
 use Rattle.sq_spec.specs.declared.resolved.Resolved.{Resolved}
-use Rattle.sq_lower.specs.Placed.Pipes.{CallLoop, call_loops_of}
+use Rattle.sq_plan_good.specs.Homes.Placed.Pipes.{CallLoop, call_loops_of}
 use Rattle.sq_pass_laws.specs.Term.Terms.{body_in}
 use Rattle.sq_pass_laws.specs.TermLaws.Orders.{EachOf}
 use Rattle.sq_plan_good.proofs.ProgramLaws.Loops.{each_at, left_true, right_true}
-use Rattle.sq_plan_good.specs.Homes.Drafts.{bodies_of}
+use Rattle.sq_plan_good.specs.Homes.Chosen.Forms.{bodies_of}
 use Rattle.sq_plan_good.specs.DraftLaws.Choosing.{Walked}
 use Rattle.sq_plan_good.proofs.DraftLaws.Programs.{bodies_are_tables}
 use Rattle.sq_plan_good.specs.DraftLaws.Memories.{plan_node}

@@ -3,7 +3,7 @@ use Rattle.std.proofs.Common.{◌≡◌, ℕ, zero, suc, List, [], ◌∷◌, ge
 use Rattle.std.specs.Prelude.{slice_get}
 use Rattle.sq_forms.specs.declared.form.Form.{Form}
 use Rattle.sq_spec.specs.declared.resolved.Resolved.{Resolved}
-use Rattle.sq_plan_good.specs.Homes.Drafts.{no_choice}
+use Rattle.sq_plan_good.specs.Homes.Chosen.Forms.{no_choice}
 use Rattle.sq_plan_good.specs.DraftLaws.Choosing.{MayBeChosen, NoneOverlaps}
 use Rattle.sq_pass_laws.specs.Hoist.Choices.{choices_from, find_leaves, sites_of, hoisted}
 use Rattle.sq_plan_good.specs.Needed.{KeepInPlace}

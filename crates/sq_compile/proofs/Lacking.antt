@@ -12,7 +12,7 @@ use Rattle.sq_nests.specs.Stacks.{capped}
 use Rattle.sq_store.specs.Place.{need_at, capacity_at, level_at, excess_at, IsShort, IsOver}
 use Rattle.sq_spec.specs.declared.resolved.Resolved.{Resolved}
 use Rattle.sq_spec.proofs.Rows.{get_or_map}
-use Rattle.sq_plan_good.specs.Homes.declared.choice.Choice.{Choice}
+use Rattle.sq_plan_good.specs.Homes.Chosen.declared.choice.Choice.{Choice}
 use Rattle.sq_plan_good.specs.Homes.Drafts.{IsDraftOf}
 use Rattle.sq_plan_good.specs.DraftLaws.Choosing.{Walked}
 use Rattle.sq_plan_good.specs.DraftLaws.Memories.{plan_node}

@@ -21,7 +21,7 @@ use Rattle.sq_spec.specs.declared.resolved.Resolved.{Resolved}
 use Rattle.sq_spec_laws.specs.Needs.{Turn, Reached, child_for, IsCall, StandsAt, RunsAt, entry, beside}
 use Rattle.sq_spec_laws.specs.Needs.{below, AtLevel, FormsRunAtTheirLevel}
 use Rattle.sq_plan_good.specs.Homes.Begun.{Begun, calls_of, child_in}
-use Rattle.sq_plan_good.specs.Homes.Drafts.{instance_at, instance_by, level_by, rule_by}
+use Rattle.sq_plan_good.specs.Homes.Chosen.Forms.{instance_at, instance_by, level_by, rule_by}
 use Rattle.sq_plan_good.specs.DraftLaws.Choosing.{Walked}
 use Rattle.sq_plan_good.specs.DraftLaws.Programs.{BodiesAreTables}
 use Rattle.sq_pass_laws.specs.Hoist.Choices.{body_at}

@@ -5,14 +5,14 @@ use Rattle.sq_forms.specs.declared.form.Form.{Form}
 use Rattle.sq_spec.specs.declared.resolved.Resolved.{Resolved}
 use Rattle.sq_plan_good.specs.ProgramLaws.Held.{UnheldFits}
 use Rattle.sq_plan_good.specs.ProgramLaws.Piped.{UnpipedFits}
-use Rattle.sq_plan_good.specs.Homes.declared.choice.Choice.{Choice}
-use Rattle.sq_plan_good.specs.Homes.Numbering.{left_by}
-use Rattle.sq_plan_good.specs.Homes.Drafts.{homes_of, choice_in, no_choice}
+use Rattle.sq_plan_good.specs.Homes.Chosen.declared.choice.Choice.{Choice}
+use Rattle.sq_plan_good.specs.Homes.Chosen.Arrays.{left_by}
+use Rattle.sq_plan_good.specs.Homes.Chosen.Forms.{choice_in, no_choice}
+use Rattle.sq_plan_good.specs.Homes.Drafts.{homes_of}
 use Rattle.sq_plan_good.specs.DraftLaws.Choosing.{Walked, MayBeChosen}
 use Rattle.sq_plan_good.proofs.DraftLaws.Hoisting.{none_pipes}
 use Rattle.sq_plan_good.specs.DraftLaws.Opened.{WalkedIsThere}
-use Rattle.sq_lower.specs.Choices.{in_buffer, in_buffers, all_in_buffers}
-use Rattle.sq_elim.specs.Choices.{in_place, all_in_place}
+use Rattle.sq_passes.specs.Choices.{in_buffer, in_buffers, all_in_buffers, in_place, all_in_place}
 use Rattle.sq_pass_laws.specs.Hoist.Choices.{hoisted}
 use Rattle.sq_pass_laws.specs.HoistLaws.{ChoicesAreHoisted, HoistedOverlapNothing, ChoicesHold}
 use Rattle.sq_pass_laws.proofs.Kept.{AreStaying, may_be_chosen, may_leave, may_overlap}

@@ -10,10 +10,10 @@ use Rattle.sq_spec.proofs.Rows.{get_or_map}
 use Rattle.sq_spec_laws.specs.Needs.{FormsRunAtTheirLevel}
 use Rattle.sq_ir.specs.Plans.{node_at}
 use Rattle.sq_ir.specs.declared.plan.PlanNode.{PlanNode}
-use Rattle.sq_lower.specs.Placed.Tables.{row_form}
-use Rattle.sq_plan_good.specs.Homes.declared.choice.Choice.{Choice}
-use Rattle.sq_plan_good.specs.Homes.Numbering.{standing}
-use Rattle.sq_plan_good.specs.Homes.Drafts.{choice_in}
+use Rattle.sq_plan_good.specs.Homes.Placed.Tables.{row_form}
+use Rattle.sq_plan_good.specs.Homes.Chosen.declared.choice.Choice.{Choice}
+use Rattle.sq_plan_good.specs.Homes.Chosen.Arrays.{standing}
+use Rattle.sq_plan_good.specs.Homes.Chosen.Forms.{choice_in}
 use Rattle.sq_plan_good.specs.DraftLaws.Choosing.{Walked, MayBeChosen, NonePipes}
 use Rattle.sq_pass_laws.specs.Hoist.Choices.{hoisted}
 use Rattle.sq_pass_laws.specs.HoistLaws.{ChoicesAreHoisted, HoistedOverlapNothing}

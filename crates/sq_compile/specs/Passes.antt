@@ -4,11 +4,10 @@ use Rattle.sq_spec.specs.declared.resolved.Resolved.{Resolved}
 use Rattle.sq_ir.specs.declared.plan.Draft.{Draft}
 use Rattle.sq_ir.specs.declared.plan.Plan.{Plan}
 use Rattle.sq_ir.specs.declared.plan.PlanNode.{PlanNode}
-use Rattle.sq_plan_good.specs.Homes.declared.choice.Choice.{Choice}
+use Rattle.sq_plan_good.specs.Homes.Chosen.declared.choice.Choice.{Choice}
 use Rattle.sq_plan_good.specs.Homes.Drafts.{IsDraftOf}
 use Rattle.sq_plan_good.specs.DraftLaws.Choosing.{AreMemories}
-use Rattle.sq_lower.specs.Choices.{all_in_buffers}
-use Rattle.sq_elim.specs.Choices.{all_in_place}
+use Rattle.sq_passes.specs.Choices.{all_in_buffers, all_in_place}
 use Rattle.sq_pass_laws.specs.Hoist.Choices.{hoisted}
 use Rattle.sq_pass_laws.specs.Pipe.Greedy.{overlapped}
 use Rattle.sq_plan_good.specs.Good.{HasNoRace, IsPlanWithRoom, IsGoodFor}

@@ -5,7 +5,7 @@ use Rattle.sq_spec.specs.declared.resolved.Resolved.{Resolved}
 use Rattle.sq_spec_laws.specs.Needs.{RunsAt}
 use Rattle.sq_ir.specs.declared.plan.Draft.{Draft}
 use Rattle.sq_nests.specs.Drafts.{HasSpace}
-use Rattle.sq_plan_good.specs.Homes.declared.choice.Choice.{Choice}
+use Rattle.sq_plan_good.specs.Homes.Chosen.declared.choice.Choice.{Choice}
 use Rattle.sq_plan_good.specs.Homes.Drafts.{IsDraftOf}
 use Rattle.sq_plan_good.specs.DraftLaws.Choosing.{Walked}
 use Rattle.sq_pass_laws.specs.Hoist.Choices.{hoisted}

@@ -1,4 +1,4 @@
-//! Compiling: the passes one after another, and then the places of buffers.
+//! Compiling: what is chosen, the draft under it, and then the places of buffers.
 
 ghost use Rattle.std.specs.Prelude.{◌≡◌, IfOk, IfErr};
 ghost use Rattle.sq_machfile.specs.Machines.{WithinLimits};
@@ -13,13 +13,12 @@ ghost use Rattle.sq_compile.specs.Compiled.{IsPlanOf, IsRefusedFor};
 
 use crate::fitting::overlaps_have_room;
 use crate::memories::plan_nodes;
-use sq_elim::drop_copies;
 use sq_ir::{Draft, Plan, PlanNodes};
-use sq_lower::lower;
 use sq_pass_laws::{
-    choices_are_hoisted, hoist, hoisted_overlap_nothing, overlap_transfers, overlaps_fit,
-    overlaps_hold, overlaps_may_be_chosen,
+    choices_are_hoisted, hoisted_overlap_nothing, overlaps_fit, overlaps_hold,
+    overlaps_may_be_chosen,
 };
+use sq_passes::{draft_of, overlapped};
 use sq_plan_good::sq_draft_laws::laws::resolved_programs_were_walked;
 use sq_plan_good::{
     needs_are_small, needs_are_sums, placed_plans_are_good, placed_plans_stand_by_forms,
@@ -29,16 +28,14 @@ use sq_spec::Resolved;
 use sq_store::{StoreFault, place};
 use std::alloc::{AllocError, Global};
 
-// The draft after all passes.
+// The draft under what all passes choose: the one that is built.
 fn passed(alloc: Global, r: &Resolved<'_>) -> Result<Draft, AllocError>
     ensures its { IfOk result (λ d. IsDraftOf r.now (overlapped r.now) d) }
     ensures notes { IfOk result (λ d. d.notes ≡ notes_of r.now) }
 {
-    let lowered = lower(alloc, r)?;
-    let dropped = drop_copies(alloc, r, lowered)?;
-    let hoisted = hoist(alloc, r, dropped)?;
-    let overlapped = overlap_transfers(alloc, r, hoisted)?;
-    Ok(overlapped)
+    let chosen = overlapped(alloc, r)?;
+    let made = draft_of(alloc, r, chosen)?;
+    Ok(made)
 }
 
 // The memories of the program's machine.
@@ -83,11 +80,11 @@ fn placed(
     place(alloc, draft, nodes)
 }
 
-/// The plan of a program on its machine, after all passes: the draft of `overlap_transfers`, with its notes, in the
-/// machine's memories, its buffers stacked. Without a race it is good for the program: well formed, with unordered
-/// events independent, room for its live buffers in each state, a run under picks 0 that ends from every input as the
-/// program means, and one leaf call for each of the program's. Refused exactly where the forms that run at a node need
-/// more bytes there than it has.
+/// The plan of a program on its machine: the draft under what all passes choose, with its notes, in the machine's
+/// memories, its buffers stacked. Without a race it is good for the program: well formed, with unordered events
+/// independent, room for its live buffers in each state, a run under picks 0 that ends from every input as the program
+/// means, and one leaf call for each of the program's. Refused exactly where the forms that run at a node need more bytes
+/// there than it has.
 pub fn compile(alloc: Global, r: &Resolved<'_>) -> Result<Plan, StoreFault>
     ensures good { IfOk result (λ p. HasNoRace r.now → IsPlanOf r.now p) }
     ensures placed { IfOk result (λ p. IsPlacedFor r.now p) }

@@ -19,8 +19,9 @@ use Rattle.sq_spec.specs.declared.resolved.Resolved.{Resolved}
 use Rattle.sq_meant.specs.PlanGood.DraftLaws.Choosing.{Walked, MayBeChosen}
 use Rattle.sq_meant.specs.PlanGood.DraftLaws.Drafts.{limits}
 use Rattle.sq_meant.specs.PlanGood.DraftLaws.Given.{level_at}
-use Rattle.sq_meant.specs.PlanGood.Homes.declared.choice.Choice.{Choice}
-use Rattle.sq_meant.specs.PlanGood.Homes.Drafts.{bodies_of, homes_of, args_of, entry_of, IsDraftOf}
+use Rattle.sq_meant.specs.PlanGood.Homes.Chosen.declared.choice.Choice.{Choice}
+use Rattle.sq_meant.specs.PlanGood.Homes.Chosen.Forms.{bodies_of}
+use Rattle.sq_meant.specs.PlanGood.Homes.Drafts.{homes_of, args_of, entry_of, IsDraftOf}
 use Rattle.sq_meant.specs.PlanGood.Loops.{entry_stand}
 use Rattle.sq_meant.specs.PlanGood.Planned.{memories_of}
 use Rattle.sq_meant.specs.PlanGood.Term.Terms.{body_in, homes_in}

@@ -13,9 +13,10 @@ use Rattle.sq_spec.specs.declared.body.Body.TheVariants as body
 use Rattle.sq_spec.specs.declared.body.FormBody.{FormBody}
 use Rattle.sq_spec.specs.declared.resolved.Resolved.{Resolved}
 use Rattle.sq_meant.specs.PlanGood.DraftLaws.Choosing.{Walked}
-use Rattle.sq_meant.specs.PlanGood.Homes.declared.choice.Choice.{Choice}
-use Rattle.sq_meant.specs.PlanGood.Homes.Drafts.{bodies_of, buffers_from, buffers_of, buffer_at, choice_in, leaves_from, leaves_of, leaves_in, name_by, instance_at}
-use Rattle.sq_meant.specs.PlanGood.Homes.Numbering.{standing}
+use Rattle.sq_meant.specs.PlanGood.Homes.Chosen.declared.choice.Choice.{Choice}
+use Rattle.sq_meant.specs.PlanGood.Homes.Chosen.Forms.{bodies_of, choice_in, name_by, instance_at}
+use Rattle.sq_meant.specs.PlanGood.Homes.Drafts.{buffers_from, buffers_of, buffer_at, leaves_from, leaves_of, leaves_in}
+use Rattle.sq_meant.specs.PlanGood.Homes.Chosen.Arrays.{standing}
 use Rattle.sq_meant.proofs.PlanGood.DraftLaws.Forms.{resolving, many_forms}
 use Rattle.sq_meant.proofs.PlanGood.DraftLaws.Hoisting.{bodies_many}
 use Rattle.sq_meant.proofs.PlanGood.DraftLaws.Levels.{levels_are_there}

@@ -20,9 +20,11 @@ use Rattle.sq_spec.specs.declared.resolved.Resolved.{Resolved}
 use Rattle.sq_spec.specs.Works.{param_shapes, local_shapes}
 use Rattle.sq_spec_laws.specs.Needs.{variant_for}
 use Rattle.sq_meant.specs.PlanGood.DraftLaws.Choosing.{Walked, MayBeChosen}
-use Rattle.sq_meant.specs.PlanGood.Homes.declared.choice.Choice.{Choice}
-use Rattle.sq_meant.specs.PlanGood.Homes.Drafts.{bodies_of, buffers_from, buffers_of, buffer_at, choice_in, instance_by, instance_at, name_by, names_by}
-use Rattle.sq_meant.specs.PlanGood.Homes.Numbering.{params_where, hoisted_from, hoisted, others, again, locals_count, standing, is_moved, deepest}
+use Rattle.sq_meant.specs.PlanGood.Homes.Chosen.declared.choice.Choice.{Choice}
+use Rattle.sq_meant.specs.PlanGood.Homes.Chosen.Forms.{bodies_of, choice_in, instance_by, instance_at, name_by}
+use Rattle.sq_meant.specs.PlanGood.Homes.Drafts.{buffers_from, buffers_of, buffer_at, names_by}
+use Rattle.sq_meant.specs.PlanGood.Homes.Chosen.Arrays.{params_where, hoisted_from, hoisted, others, again}
+use Rattle.sq_meant.specs.PlanGood.Homes.Chosen.Arrays.{locals_count, standing, is_moved, deepest}
 use Rattle.sq_meant.proofs.PlanGood.DraftLaws.Fitting.{homes_fit}
 use Rattle.sq_meant.proofs.PlanGood.DraftLaws.Forms.{resolving, body_at, run_of, body_there, no_body_there}
 use Rattle.sq_meant.proofs.PlanGood.DraftLaws.Hoisted.{is_form, params_many}

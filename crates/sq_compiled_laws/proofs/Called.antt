@@ -22,7 +22,7 @@ use Rattle.sq_spec.specs.declared.resolved.Resolved.{Resolved}
 use Rattle.sq_spec_laws.specs.Needs.{Reached}
 use Rattle.sq_meant.specs.PlanGood.DraftLaws.Choosing.{Walked}
 use Rattle.sq_meant.specs.PlanGood.Homes.Begun.{Begun, calls_of}
-use Rattle.sq_meant.specs.PlanGood.Homes.Drafts.{bodies_of}
+use Rattle.sq_meant.specs.PlanGood.Homes.Chosen.Forms.{bodies_of}
 use Rattle.sq_meant.specs.PlanGood.Term.Terms.{body_in}
 use Rattle.sq_meant.proofs.PlanGood.DraftLaws.Forms.{bodies_are, many_forms}
 use Rattle.sq_meant.proofs.PlanGood.Linked.{Ones, none as none_left, more as one_left}

@@ -22,8 +22,9 @@ use Rattle.sq_meant.specs.PlanGood.DraftLaws.Choosing.{Walked, MayBeChosen}
 use Rattle.sq_meant.specs.PlanGood.DraftLaws.PlanLaws.Codes.{bytes_in}
 use Rattle.sq_meant.specs.PlanGood.DraftLaws.ProgramLaws.Entry.{entry_shapes}
 use Rattle.sq_meant.specs.PlanGood.DraftLaws.ProgramLaws.Homes.{params_at}
-use Rattle.sq_meant.specs.PlanGood.Homes.declared.choice.Choice.{Choice}
-use Rattle.sq_meant.specs.PlanGood.Homes.Drafts.{bodies_of, homes_of, buffers_of, args_of, IsDraftOf}
+use Rattle.sq_meant.specs.PlanGood.Homes.Chosen.declared.choice.Choice.{Choice}
+use Rattle.sq_meant.specs.PlanGood.Homes.Chosen.Forms.{bodies_of}
+use Rattle.sq_meant.specs.PlanGood.Homes.Drafts.{homes_of, buffers_of, args_of, IsDraftOf}
 use Rattle.sq_meant.specs.PlanGood.Term.Terms.{body_in, homes_in, buffer_or}
 use Rattle.sq_meant.proofs.PlanGood.DraftLaws.Entry.{entry, extents, form, params_many, args_many, entries_are_whole}
 use Rattle.sq_meant.proofs.PlanGood.DraftLaws.EntryOwned.{drafts_own}

@@ -11,7 +11,7 @@ use Rattle.sq_ir.specs.Machines.{AreNodes}
 use Rattle.sq_ir.specs.Plans.{IsBuffer, setting_of}
 use Rattle.sq_spec.specs.declared.resolved.Resolved.{Resolved}
 use Rattle.sq_meant.specs.PlanGood.DraftLaws.Choosing.{Walked, MayBeChosen}
-use Rattle.sq_meant.specs.PlanGood.Homes.declared.choice.Choice.{Choice}
+use Rattle.sq_meant.specs.PlanGood.Homes.Chosen.declared.choice.Choice.{Choice}
 use Rattle.sq_meant.specs.PlanGood.Homes.Drafts.{IsDraftOf}
 use Rattle.sq_meant.proofs.PlanGood.DraftLaws.Memories.{nodes_are_memories}
 use Rattle.sq_meant.proofs.PlanGood.DraftLaws.WalkedHolds.{walked_is_there}

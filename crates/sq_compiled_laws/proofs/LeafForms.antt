@@ -36,7 +36,8 @@ use Rattle.sq_spec.specs.declared.body.FormBody.{FormBody}
 use Rattle.sq_spec.specs.declared.resolved.Resolved.{Resolved}
 use Rattle.sq_spec.specs.Bodies.{body_of}
 use Rattle.sq_spec.specs.Works.{shapes_of}
-use Rattle.sq_meant.specs.PlanGood.Homes.Drafts.{leaves_of, leaves_from, leaves_in, name_by, instance_by, instance_at}
+use Rattle.sq_meant.specs.PlanGood.Homes.Chosen.Forms.{name_by, instance_by, instance_at}
+use Rattle.sq_meant.specs.PlanGood.Homes.Drafts.{leaves_of, leaves_from, leaves_in}
 use Rattle.sq_meant.specs.PlanGood.DraftLaws.Choosing.{Walked}
 use Rattle.sq_meant.proofs.PlanGood.DraftLaws.WalkedHolds.{walked_is_there}
 use Rattle.sq_meant.specs.PlanGood.ProgramLaws.Sizes.{IsSized}

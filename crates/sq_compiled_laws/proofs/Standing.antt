@@ -8,13 +8,14 @@ use Rattle.sq_blocks.specs.declared.argument.Argument.{Argument}
 use Rattle.sq_spec.specs.declared.body.FormBody.{FormBody}
 use Rattle.sq_spec.specs.declared.resolved.Resolved.{Resolved}
 use Rattle.sq_meant.specs.PlanGood.DraftLaws.Choosing.{Walked, MayBeChosen}
-use Rattle.sq_meant.specs.PlanGood.DraftLaws.Homes.{HasOwn}
+use Rattle.sq_meant.specs.PlanGood.DraftLaws.HomesFit.{HasOwn}
 use Rattle.sq_meant.specs.PlanGood.DraftLaws.TermLaws.Callers.{home_buffers, home_set}
 use Rattle.sq_meant.specs.PlanGood.DraftLaws.TermLaws.Orders.{EachOf, held_at, held_over}
 use Rattle.sq_meant.specs.PlanGood.DraftLaws.TermLaws.Overlapping.{IsSuited}
-use Rattle.sq_meant.specs.PlanGood.Homes.declared.choice.Choice.{Choice}
-use Rattle.sq_meant.specs.PlanGood.Homes.Drafts.{bodies_of, homes_of, buffers_from, buffers_of, buffer_at, choice_in}
-use Rattle.sq_meant.specs.PlanGood.Homes.Numbering.{deepest, hoisted, others, again, locals_count, standing}
+use Rattle.sq_meant.specs.PlanGood.Homes.Chosen.declared.choice.Choice.{Choice}
+use Rattle.sq_meant.specs.PlanGood.Homes.Chosen.Forms.{bodies_of, choice_in}
+use Rattle.sq_meant.specs.PlanGood.Homes.Drafts.{homes_of, buffers_from, buffers_of, buffer_at}
+use Rattle.sq_meant.specs.PlanGood.Homes.Chosen.Arrays.{deepest, hoisted, others, again, locals_count, standing}
 use Rattle.sq_meant.specs.PlanGood.Loops.{standing_from, brought_by}
 use Rattle.sq_meant.specs.PlanGood.Loops as loops
 use Rattle.sq_meant.specs.PlanGood.Term.Placed.declared.home.Home.{Home}

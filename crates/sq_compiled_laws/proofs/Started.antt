@@ -14,9 +14,10 @@ use Rattle.sq_spec_laws.specs.Needs.{RunsAt}
 use Rattle.sq_spec_laws.specs.Needs as needs
 use Rattle.sq_text.specs.declared.spread.SpreadRule.{SpreadRule}
 use Rattle.sq_meant.specs.PlanGood.DraftLaws.Choosing.{Walked, MayBeChosen}
-use Rattle.sq_meant.specs.PlanGood.Homes.declared.choice.Choice.{Choice}
-use Rattle.sq_meant.specs.PlanGood.Homes.Drafts.{bodies_of, homes_of, buffers_of, choice_in, entry_of, IsDraftOf}
-use Rattle.sq_meant.specs.PlanGood.Homes.Numbering.{standing}
+use Rattle.sq_meant.specs.PlanGood.Homes.Chosen.declared.choice.Choice.{Choice}
+use Rattle.sq_meant.specs.PlanGood.Homes.Chosen.Forms.{bodies_of, choice_in}
+use Rattle.sq_meant.specs.PlanGood.Homes.Drafts.{homes_of, buffers_of, entry_of, IsDraftOf}
+use Rattle.sq_meant.specs.PlanGood.Homes.Chosen.Arrays.{standing}
 use Rattle.sq_meant.specs.PlanGood.Loops.{Starts, starts_of, brought_by, starts_worth, stand_sum}
 use Rattle.sq_meant.specs.PlanGood.Planned.{memories_of}
 use Rattle.sq_meant.specs.PlanGood.Sums.{greatest, here}

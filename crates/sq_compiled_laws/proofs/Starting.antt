@@ -16,9 +16,10 @@ use Rattle.sq_spec.specs.declared.body.FormBody.{FormBody}
 use Rattle.sq_spec.specs.declared.resolved.Resolved.{Resolved}
 use Rattle.sq_spec_laws.specs.Needs.{turn_in, reached_from}
 use Rattle.sq_meant.specs.PlanGood.DraftLaws.Choosing.{Walked, MayBeChosen}
-use Rattle.sq_meant.specs.PlanGood.Homes.declared.choice.Choice.{Choice}
+use Rattle.sq_meant.specs.PlanGood.Homes.Chosen.declared.choice.Choice.{Choice}
 use Rattle.sq_meant.specs.PlanGood.Homes.Begun.{Begun, child_in}
-use Rattle.sq_meant.specs.PlanGood.Homes.Drafts.{bodies_of, homes_of, buffers_of}
+use Rattle.sq_meant.specs.PlanGood.Homes.Chosen.Forms.{bodies_of}
+use Rattle.sq_meant.specs.PlanGood.Homes.Drafts.{homes_of, buffers_of}
 use Rattle.sq_meant.specs.PlanGood.Listed.{IsListed}
 use Rattle.sq_meant.specs.PlanGood.Loops.{BegunLoop, Starts, Once, Lanes, brought_by, lane_worth, starts_worth}
 use Rattle.sq_meant.specs.PlanGood.Planned.{memories_of}

@@ -30,8 +30,9 @@ use Rattle.sq_meant.proofs.PlanGood.DraftLaws.WalkedHolds.{walked_is_there}
 use Rattle.sq_meant.specs.PlanGood.DraftLaws.Choosing.{Walked, MayBeChosen}
 use Rattle.sq_meant.specs.PlanGood.DraftLaws.ProgramLaws.Sizes.{IsSized}
 use Rattle.sq_meant.specs.PlanGood.Good.{shapes_in, IsWrittenOut}
-use Rattle.sq_meant.specs.PlanGood.Homes.declared.choice.Choice.{Choice}
-use Rattle.sq_meant.specs.PlanGood.Homes.Drafts.{bodies_of, homes_of, args_of}
+use Rattle.sq_meant.specs.PlanGood.Homes.Chosen.declared.choice.Choice.{Choice}
+use Rattle.sq_meant.specs.PlanGood.Homes.Chosen.Forms.{bodies_of}
+use Rattle.sq_meant.specs.PlanGood.Homes.Drafts.{homes_of, args_of}
 use Rattle.sq_meant.specs.PlanGood.Term.Placed.Tables.{entry_placed}
 use Rattle.sq_meant.specs.PlanGood.Term.Terms.{body_in, homes_in}
 use Rattle.sq_meant.proofs.PlanGood.DraftLaws.Back.{joined, meets_less, scoped_all}

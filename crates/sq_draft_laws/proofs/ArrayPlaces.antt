@@ -14,9 +14,10 @@ use Rattle.sq_placed.specs.Trees.{buffer_of, held_of, twin_of}
 use Rattle.sq_program_laws.specs.TermLaws.Orders.{held_at, held_over}
 use Rattle.sq_program_laws.specs.TermLaws.Callers.{home_buffers, home_set}
 use Rattle.sq_program_laws.specs.PlanLaws.Buffers.{home_buffer}
-use Rattle.sq_homes.specs.declared.choice.Choice.{Choice}
-use Rattle.sq_homes.specs.Numbering.{deepest, left_by, is_moved, params_where, hoisted_from, hoisted, others, again}
-use Rattle.sq_homes.specs.Numbering.{locals_count, standing, position, home_of, local_base}
+use Rattle.sq_homes.specs.Chosen.declared.choice.Choice.{Choice}
+use Rattle.sq_homes.specs.Chosen.Arrays.{deepest, left_by, is_moved, params_where, hoisted_from, hoisted, others, again}
+use Rattle.sq_homes.specs.Chosen.Arrays.{locals_count, standing}
+use Rattle.sq_homes.specs.Numbering.{position, home_of, local_base}
 use Rattle.sq_draft_laws.proofs.Standing.{get_left, get_right}
 use Rattle.sq_draft_laws.proofs.Numbered.{range_joined}
 use Rattle.sq_draft_laws.proofs.Lists.{Split, front, behind, split}

@@ -24,9 +24,11 @@ use Rattle.sq_program_laws.specs.PlanLaws.Codes.{bytes_in}
 use Rattle.sq_term.specs.Terms.{body_in, homes_in}
 use Rattle.sq_program_laws.specs.PlanLaws.Buffers.{home_buffer}
 use Rattle.sq_program_laws.proofs.Shapes.{at_mapped}
-use Rattle.sq_homes.specs.declared.choice.Choice.{Choice}
-use Rattle.sq_homes.specs.Numbering.{standing, array_size, shape_size, local_base, locals_count}
-use Rattle.sq_homes.specs.Drafts.{bodies_of, homes_of, buffers_of, choice_in, buffer_at}
+use Rattle.sq_homes.specs.Chosen.declared.choice.Choice.{Choice}
+use Rattle.sq_homes.specs.Chosen.Arrays.{standing, array_size, shape_size, locals_count}
+use Rattle.sq_homes.specs.Numbering.{local_base}
+use Rattle.sq_homes.specs.Chosen.Forms.{bodies_of, choice_in}
+use Rattle.sq_homes.specs.Drafts.{homes_of, buffers_of, buffer_at}
 use Rattle.sq_draft_laws.specs.Choosing.{Walked, MayBeChosen}
 use Rattle.sq_draft_laws.proofs.Forms.{past_or}
 use Rattle.sq_draft_laws.proofs.Numbers.{first_of, form_from}

@@ -14,9 +14,10 @@ use Rattle.sq_spec.specs.declared.resolved.Resolved.{Resolved}
 use Rattle.sq_placed.specs.Tables.{no_shape}
 use Rattle.sq_program_laws.specs.Sizes.{IsSized}
 use Rattle.sq_program_laws.proofs.Shapes.{mapped_at}
-use Rattle.sq_homes.specs.declared.choice.Choice.{Choice}
-use Rattle.sq_homes.specs.Drafts.{bodies_of, buffers_of, buffers_from, buffer_at, choice_in}
-use Rattle.sq_homes.specs.Numbering.{standing, array_size, shape_size}
+use Rattle.sq_homes.specs.Chosen.declared.choice.Choice.{Choice}
+use Rattle.sq_homes.specs.Chosen.Forms.{bodies_of, choice_in}
+use Rattle.sq_homes.specs.Drafts.{buffers_of, buffers_from, buffer_at}
+use Rattle.sq_homes.specs.Chosen.Arrays.{standing, array_size, shape_size}
 use Rattle.sq_draft_laws.specs.Choosing.{Walked}
 use Rattle.sq_draft_laws.proofs.Forms.{body_at, sized, past_or}
 use Rattle.sq_draft_laws.proofs.Sizes.{elements_small, size_small}

@@ -31,7 +31,7 @@ use Rattle.sq_homes.specs.SpecLaws.TableRows.{Table, tables_in, RowIsReached}
 use Rattle.sq_homes.proofs.SpecLaws.TableRowsHold.{rows_are_reached}
 use Rattle.sq_term.specs.Terms.{body_in}
 use Rattle.sq_program_laws.specs.TermLaws.Orders.{EachOf}
-use Rattle.sq_homes.specs.Drafts.{bodies_of}
+use Rattle.sq_homes.specs.Chosen.Forms.{bodies_of}
 use Rattle.sq_draft_laws.specs.Choosing.{Walked}
 use Rattle.sq_draft_laws.proofs.Programs.{bodies_are_tables}
 use Rattle.sq_draft_laws.proofs.Rounds.{each_of, BodySo}

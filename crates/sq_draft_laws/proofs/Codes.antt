@@ -9,9 +9,10 @@ use Rattle.sq_spec.specs.declared.body.Body.TheVariants as body
 use Rattle.sq_spec.specs.declared.body.FormBody.{FormBody}
 use Rattle.sq_spec.specs.declared.resolved.Resolved.{Resolved}
 use Rattle.sq_term.specs.Terms.{body_in, homes_in}
-use Rattle.sq_homes.specs.declared.choice.Choice.{Choice}
-use Rattle.sq_homes.specs.Numbering.{standing}
-use Rattle.sq_homes.specs.Drafts.{homes_from, leaves_from, leaves_in, codes_in, name_by, instance_at, choice_in}
+use Rattle.sq_homes.specs.Chosen.declared.choice.Choice.{Choice}
+use Rattle.sq_homes.specs.Chosen.Arrays.{standing}
+use Rattle.sq_homes.specs.Chosen.Forms.{name_by, instance_at, choice_in}
+use Rattle.sq_homes.specs.Drafts.{homes_from, leaves_from, leaves_in, codes_in}
 
 -- of the forms from the k-th on, before which so many are leaves
 pub record IsCoded (r : Resolved) (choices : List Choice) (k base code : ℕ) (bs : List FormBody) (i : ℕ)

@@ -48,7 +48,7 @@ use Rattle.sq_homes.specs.SpecLaws.TableRows.{Table, red_of, all_tables, tables_
 use Rattle.sq_homes.proofs.SpecLaws.TableRowsHold.{rows_are_reached}
 use Rattle.sq_term.specs.Stands.{calls_in_rows, all_calls, calls_in, calls_in_all, calls_of, AreLevel, below}
 use Rattle.sq_term.proofs.Opened.{calls_call, calls_map}
-use Rattle.sq_homes.specs.Drafts.{level_by}
+use Rattle.sq_homes.specs.Chosen.Forms.{level_by}
 use Rattle.sq_draft_laws.specs.Given.{level_at, CallsDescend}
 use Rattle.sq_draft_laws.proofs.Programs.{bodies_are_tables}
 use Rattle.sq_form_laws.specs.Reached.{AsManyForms}

@@ -46,8 +46,9 @@ use Rattle.sq_program_laws.proofs.PlanLaws.Live.{opens_has}
 use Rattle.sq_program_laws.proofs.PlanLaws.Openings.{contains_left, contains_right}
 use Rattle.sq_program_laws.proofs.Shapes.{at_mapped}
 use Rattle.sq_program_laws.proofs.Carried.{held_leaves, left_there}
-use Rattle.sq_homes.specs.declared.choice.Choice.{Choice}
-use Rattle.sq_homes.specs.Drafts.{bodies_of, homes_of, choice_in}
+use Rattle.sq_homes.specs.Chosen.declared.choice.Choice.{Choice}
+use Rattle.sq_homes.specs.Chosen.Forms.{bodies_of, choice_in}
+use Rattle.sq_homes.specs.Drafts.{homes_of}
 use Rattle.sq_draft_laws.specs.Choosing.{Walked, MayBeChosen, setting_of}
 use Rattle.sq_draft_laws.proofs.Hoisting.{at_index, overlaps_are, chosen_stand}
 use Rattle.sq_draft_laws.proofs.HeldInside.{homes_are_held_inside}

@@ -28,10 +28,11 @@ use Rattle.sq_program_laws.specs.TermLaws.Leaves.{loops_left}
 use Rattle.sq_program_laws.specs.Homes.{params_at, may_write, mays_of}
 use Rattle.sq_program_laws.proofs.RowsHold.{arrays_are, params_are, mays_are}
 use Rattle.sq_program_laws.proofs.Shapes.{param_shape}
-use Rattle.sq_homes.specs.declared.choice.Choice.{Choice}
-use Rattle.sq_homes.specs.Drafts.{bodies_of, homes_of, args_of, extents_by, choice_in}
+use Rattle.sq_homes.specs.Chosen.declared.choice.Choice.{Choice}
+use Rattle.sq_homes.specs.Chosen.Forms.{bodies_of, choice_in}
+use Rattle.sq_homes.specs.Drafts.{homes_of, args_of, extents_by}
 use Rattle.sq_draft_laws.specs.Choosing.{Walked, MayBeChosen}
-use Rattle.sq_draft_laws.specs.Homes.{EntriesAreWhole, HasOwn, EntriesHaveBuffers}
+use Rattle.sq_draft_laws.specs.HomesFit.{EntriesAreWhole, HasOwn, EntriesHaveBuffers}
 use Rattle.sq_draft_laws.proofs.Forms.{tasks, instances, resolving, body_at, run_of, sized, bodies_are}
 use Rattle.sq_draft_laws.proofs.Forms.{body_there}
 use Rattle.sq_draft_laws.proofs.Fitting.{homes_fit}

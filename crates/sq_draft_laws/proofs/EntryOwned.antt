@@ -18,8 +18,9 @@ use Rattle.sq_program_laws.specs.PlanLaws.Rooms.{EntryOwns}
 use Rattle.sq_program_laws.proofs.PlanLaws.Live.{opens_has}
 use Rattle.sq_program_laws.specs.Entry.{entry_shapes}
 use Rattle.sq_program_laws.proofs.Shapes.{mapped_at, at_mapped}
-use Rattle.sq_homes.specs.declared.choice.Choice.{Choice}
-use Rattle.sq_homes.specs.Drafts.{bodies_of, homes_of, args_of, entry_of, choice_in}
+use Rattle.sq_homes.specs.Chosen.declared.choice.Choice.{Choice}
+use Rattle.sq_homes.specs.Chosen.Forms.{bodies_of, choice_in}
+use Rattle.sq_homes.specs.Drafts.{homes_of, args_of, entry_of}
 use Rattle.sq_draft_laws.specs.Choosing.{Walked, MayBeChosen, setting_of}
 use Rattle.sq_draft_laws.proofs.Standing.{map_length}
 use Rattle.sq_draft_laws.specs.Owned.{draft_placed, DraftsOwn}

@@ -11,11 +11,13 @@ use Rattle.sq_placed.specs.declared.home.Home.TheVariants.{InPlace}
 use Rattle.sq_placed.specs.declared.home.Homes.{Homes}
 use Rattle.sq_term.specs.Terms.{homes_in}
 use Rattle.sq_program_laws.specs.Homes.{AreHomes}
-use Rattle.sq_homes.specs.declared.choice.Choice.{Choice}
-use Rattle.sq_homes.specs.Drafts.{homes_of, choice_in}
-use Rattle.sq_homes.specs.Numbering.{local_base, locals_count}
+use Rattle.sq_homes.specs.Chosen.declared.choice.Choice.{Choice}
+use Rattle.sq_homes.specs.Chosen.Forms.{choice_in}
+use Rattle.sq_homes.specs.Drafts.{homes_of}
+use Rattle.sq_homes.specs.Chosen.Arrays.{locals_count}
+use Rattle.sq_homes.specs.Numbering.{local_base}
 use Rattle.sq_draft_laws.specs.Choosing.{Walked, MayBeChosen}
-use Rattle.sq_draft_laws.specs.Homes.{HomesFitForms}
+use Rattle.sq_draft_laws.specs.HomesFit.{HomesFitForms}
 use Rattle.sq_draft_laws.proofs.Found.{found_plain}
 use Rattle.sq_draft_laws.proofs.Forms.{body_at, resolving, run_of, body_there, arrays_of_form}
 use Rattle.sq_draft_laws.proofs.Numbers.{first_of}

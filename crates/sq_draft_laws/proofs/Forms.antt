@@ -23,7 +23,7 @@ use Rattle.sq_program_laws.specs.Sizes.{IsSized}
 use Rattle.sq_program_laws.proofs.RowsHold.{arrays_are}
 use Rattle.sq_program_laws.proofs.Shapes.{dims_are}
 use Rattle.sq_program_laws.proofs.Whole.{arrays_are_sized}
-use Rattle.sq_homes.specs.Drafts.{bodies_of}
+use Rattle.sq_homes.specs.Chosen.Forms.{bodies_of}
 use Rattle.sq_draft_laws.specs.Choosing.{Walked}
 use Rattle.sq_draft_laws.proofs.Programs.{bodies_are_tables}
 use Rattle.sq_draft_laws.proofs.Standing.{map_length}

@@ -12,12 +12,13 @@ use Rattle.sq_term.specs.Terms.{body_in, homes_in}
 use Rattle.sq_program_laws.specs.TermLaws.Leaves.{loops_left}
 use Rattle.sq_program_laws.specs.TermLaws.Orders.{Round, rounds_of}
 use Rattle.sq_program_laws.specs.TermLaws.Held.{IsHeldRow, AreHeldRows}
-use Rattle.sq_homes.specs.declared.choice.Choice.{Choice}
-use Rattle.sq_homes.specs.Numbering.{left_by}
-use Rattle.sq_homes.specs.Drafts.{bodies_of, homes_of, choice_in}
+use Rattle.sq_homes.specs.Chosen.declared.choice.Choice.{Choice}
+use Rattle.sq_homes.specs.Chosen.Arrays.{left_by}
+use Rattle.sq_homes.specs.Chosen.Forms.{bodies_of, choice_in}
+use Rattle.sq_homes.specs.Drafts.{homes_of}
 use Rattle.sq_draft_laws.specs.Choosing.{left_in, MayBeChosen}
 use Rattle.sq_draft_laws.proofs.Hoisting.{no_homes_at}
-use Rattle.sq_draft_laws.specs.Homes.{HomesAreHeldInside}
+use Rattle.sq_draft_laws.specs.HomesFit.{HomesAreHeldInside}
 use Rattle.sq_draft_laws.proofs.Forms.{past_or}
 use Rattle.sq_draft_laws.proofs.Numbers.{first_of}
 use Rattle.sq_draft_laws.proofs.Rounds.{each_as}

@@ -12,9 +12,11 @@ use Rattle.sq_placed.specs.declared.home.Home.{Home}
 use Rattle.sq_placed.specs.declared.home.Home.TheVariants.{InPlace}
 use Rattle.sq_placed.specs.declared.home.Homes.{Homes}
 use Rattle.sq_term.specs.Terms.{no_homes, body_in, homes_in}
-use Rattle.sq_homes.specs.declared.choice.Choice.{Choice}
-use Rattle.sq_homes.specs.Numbering.{home_of, form_homes, local_base, locals_count}
-use Rattle.sq_homes.specs.Drafts.{bodies_of, homes_of, choice_in, instance_at, rule_by}
+use Rattle.sq_homes.specs.Chosen.declared.choice.Choice.{Choice}
+use Rattle.sq_homes.specs.Chosen.Arrays.{locals_count}
+use Rattle.sq_homes.specs.Numbering.{home_of, form_homes, local_base}
+use Rattle.sq_homes.specs.Chosen.Forms.{bodies_of, choice_in, instance_at, rule_by}
+use Rattle.sq_homes.specs.Drafts.{homes_of}
 use Rattle.sq_draft_laws.specs.Choosing.{IsChosenFor, MayBeChosen}
 use Rattle.sq_draft_laws.proofs.Standing.{map_length}
 use Rattle.sq_draft_laws.proofs.Hoisting.{no_item, at_index, bodies_many}

@@ -14,9 +14,11 @@ use Rattle.sq_program_laws.specs.TermLaws.Orders.{EachOf}
 use Rattle.sq_program_laws.specs.TermLaws.Overlapping.{IsSuited}
 use Rattle.sq_term.specs.Terms.{no_homes, homes_in}
 use Rattle.sq_program_laws.specs.TermLaws.Leaves.{loops_left}
-use Rattle.sq_homes.specs.declared.choice.Choice.{Choice}
-use Rattle.sq_homes.specs.Numbering.{left_by, home_of, hoisted, others, position, form_homes}
-use Rattle.sq_homes.specs.Drafts.{bodies_of, homes_of, homes_from, choice_in, instance_at, rule_by}
+use Rattle.sq_homes.specs.Chosen.declared.choice.Choice.{Choice}
+use Rattle.sq_homes.specs.Chosen.Arrays.{left_by, hoisted, others}
+use Rattle.sq_homes.specs.Numbering.{home_of, position, form_homes}
+use Rattle.sq_homes.specs.Chosen.Forms.{bodies_of, choice_in, instance_at, rule_by}
+use Rattle.sq_homes.specs.Drafts.{homes_of, homes_from}
 use Rattle.sq_draft_laws.specs.Choosing.{left_in, ChosenStand, NonePipes}
 use Rattle.sq_draft_laws.proofs.Standing.{map_length, forms_stand}
 

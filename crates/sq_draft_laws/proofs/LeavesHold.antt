@@ -44,6 +44,7 @@ use Rattle.sq_program_laws.specs.PlanLaws.LeafRuns.{IsCompiled, LinesCanRun, Are
 use Rattle.sq_program_laws.proofs.PlanLaws.Law.{leaves_stay_inside, leaves_are_coded}
 use Rattle.sq_program_laws.specs.PlanLaws.Seated.{HasDims}
 use Rattle.sq_term.specs.Terms.{homes_in}
+use Rattle.sq_homes.specs.Chosen.Forms as chosen
 use Rattle.sq_homes.specs.Drafts as drafts
 use Rattle.sq_homes.specs.Drafts.{homes_of}
 use Rattle.sq_program_laws.specs.Homes.{bodies_of, LeafStands}
@@ -251,7 +252,7 @@ is_leaf_of d number leaf at = record {
 pub leaves_of_drafts_stand : BodiesAreTables → VariantsCompile → LinesCanRun → LeavesOfDraftsStand
 leaves_of_drafts_stand tables compile lines r walked choices d draft k leaf h =
     let f = leaf_form r walked k leaf h in
-    let c = coded r choices 0 0 0 (drafts.bodies_of r) k leaf
+    let c = coded r choices 0 0 0 (chosen.bodies_of r) k leaf
     (ap (λ (b : FormBody). b.body) (tables r k) ∙ h) in
     let number : c.before ≡ (homes_in (homes_of r choices) k).code =
     sym (c.code_is ∙ (let z : 0 + c.before ≡ c.before = zero_plus c.before in z)) in

@@ -13,9 +13,11 @@ use Rattle.sq_placed.specs.declared.home.Home.TheVariants.{InPlace, Own, Held, T
 use Rattle.sq_placed.specs.declared.home.Homes.{Homes}
 use Rattle.sq_term.specs.Terms.{no_homes, homes_in}
 use Rattle.sq_term.specs.Stands.{IsOf, AreOf, LocalsOf}
-use Rattle.sq_homes.specs.declared.choice.Choice.{Choice}
-use Rattle.sq_homes.specs.Numbering.{standing, form_homes, home_of, local_base, locals_count, IsNumberIn, IsHomeIn}
-use Rattle.sq_homes.specs.Drafts.{homes_from, homes_of, buffers_of, bodies_of, choice_in, instance_at, rule_by}
+use Rattle.sq_homes.specs.Chosen.declared.choice.Choice.{Choice}
+use Rattle.sq_homes.specs.Chosen.Arrays.{standing, locals_count}
+use Rattle.sq_homes.specs.Numbering.{form_homes, home_of, local_base, IsNumberIn, IsHomeIn}
+use Rattle.sq_homes.specs.Chosen.Forms.{bodies_of, choice_in, instance_at, rule_by}
+use Rattle.sq_homes.specs.Drafts.{homes_from, homes_of, buffers_of}
 use Rattle.sq_homes.specs.Drafts.{buffer_at}
 use Rattle.sq_homes.proofs.Numbered.{homes_are_own, locals_are_own}
 use Rattle.sq_draft_laws.specs.Given.{FormStands, level_at, ProgramsDescend, HomesAreLeveled}

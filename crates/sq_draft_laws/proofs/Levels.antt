@@ -18,9 +18,11 @@ use Rattle.sq_spec.specs.declared.body.FormBody.{FormBody}
 use Rattle.sq_spec.specs.declared.resolved.Resolved.{Resolved}
 use Rattle.sq_placed.specs.declared.home.Home.{Home}
 use Rattle.sq_program_laws.specs.TermLaws.Programs.{HaveLevels}
-use Rattle.sq_homes.specs.declared.choice.Choice.{Choice}
-use Rattle.sq_homes.specs.Drafts.{bodies_of, buffers_from, buffer_at, choice_in, level_by}
-use Rattle.sq_homes.specs.Numbering.{left_by, standing, IsHomeIn}
+use Rattle.sq_homes.specs.Chosen.declared.choice.Choice.{Choice}
+use Rattle.sq_homes.specs.Chosen.Forms.{bodies_of, choice_in, level_by}
+use Rattle.sq_homes.specs.Drafts.{buffers_from, buffer_at}
+use Rattle.sq_homes.specs.Chosen.Arrays.{left_by, standing}
+use Rattle.sq_homes.specs.Numbering.{IsHomeIn}
 use Rattle.sq_homes.proofs.Numbered.{homes_are_own}
 use Rattle.sq_draft_laws.specs.Given.{level_at}
 use Rattle.sq_draft_laws.specs.Choosing.{Walked, MayBeChosen}

@@ -31,8 +31,9 @@ use Rattle.sq_program_laws.proofs.TermLaws.Programs.{programs_are_tabled}
 use Rattle.sq_program_laws.specs.TermLaws.Lowers.{statements}
 use Rattle.sq_program_laws.specs.TermLaws.Orders.{EachOf}
 use Rattle.sq_program_laws.specs.PlanLaws.Buffers.{HaveLanes}
-use Rattle.sq_homes.specs.declared.choice.Choice.{Choice}
-use Rattle.sq_homes.specs.Drafts.{bodies_of, homes_of, buffers_of}
+use Rattle.sq_homes.specs.Chosen.declared.choice.Choice.{Choice}
+use Rattle.sq_homes.specs.Chosen.Forms.{bodies_of}
+use Rattle.sq_homes.specs.Drafts.{homes_of, buffers_of}
 use Rattle.sq_draft_laws.specs.Given.{level_at}
 use Rattle.sq_draft_laws.specs.Choosing.{Walked, MayBeChosen, AreMemories, setting_of}
 use Rattle.sq_draft_laws.proofs.Descending.{calls_descend}

@@ -5,10 +5,13 @@ use Rattle.std.specs.Prelude.{nat_lt}
 use Rattle.std.proofs.lemmas.Bool.{lt-ltb, le-ltb}
 use Rattle.sq_spec.specs.declared.body.FormBody.{FormBody}
 use Rattle.sq_spec.specs.declared.resolved.Resolved.{Resolved}
-use Rattle.sq_homes.specs.declared.choice.Choice.{Choice}
-use Rattle.sq_homes.specs.Numbering.{standing, form_homes}
-use Rattle.sq_homes.specs.Drafts.{homes_from, buffers_from, codes_in, choice_in, instance_at, rule_by, buffer_at}
-use Rattle.sq_homes.specs.Drafts.{bodies_of, homes_of, buffers_of}
+use Rattle.sq_homes.specs.Chosen.declared.choice.Choice.{Choice}
+use Rattle.sq_homes.specs.Chosen.Arrays.{standing}
+use Rattle.sq_homes.specs.Numbering.{form_homes}
+use Rattle.sq_homes.specs.Chosen.Forms.{choice_in, instance_at, rule_by}
+use Rattle.sq_homes.specs.Drafts.{homes_from, buffers_from, codes_in, buffer_at}
+use Rattle.sq_homes.specs.Chosen.Forms.{bodies_of}
+use Rattle.sq_homes.specs.Drafts.{homes_of, buffers_of}
 use Rattle.sq_draft_laws.proofs.Standing.{get_left, get_right, map_length}
 
 module _ (choices : List Choice) where

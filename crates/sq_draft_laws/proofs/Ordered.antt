@@ -23,9 +23,11 @@ use Rattle.sq_term.specs.Terms.{body_in, homes_in}
 use Rattle.sq_program_laws.specs.TermLaws.Leaves.{loops_left}
 use Rattle.sq_program_laws.specs.TermLaws.Orders.{EachOf, Round, rounds_of, held_at, held_over, params_of, round_held}
 use Rattle.sq_program_laws.specs.TermLaws.Callers.{home_buffers, home_set, Numbering, own, IsRowOf, AreRowsOf, AreNumbered}
-use Rattle.sq_homes.specs.declared.choice.Choice.{Choice}
-use Rattle.sq_homes.specs.Numbering.{deepest, hoisted, others, again, locals_count, local_base}
-use Rattle.sq_homes.specs.Drafts.{bodies_of, homes_of, buffers_of, choice_in}
+use Rattle.sq_homes.specs.Chosen.declared.choice.Choice.{Choice}
+use Rattle.sq_homes.specs.Chosen.Arrays.{deepest, hoisted, others, again, locals_count}
+use Rattle.sq_homes.specs.Numbering.{local_base}
+use Rattle.sq_homes.specs.Chosen.Forms.{bodies_of, choice_in}
+use Rattle.sq_homes.specs.Drafts.{homes_of, buffers_of}
 use Rattle.sq_draft_laws.specs.Choosing.{Walked, left_in, MayBeChosen}
 use Rattle.sq_draft_laws.proofs.Hoisting.{at_index, bodies_many, no_homes_at, left_within}
 use Rattle.sq_draft_laws.specs.Numbers.{BuffersAreNumbered}

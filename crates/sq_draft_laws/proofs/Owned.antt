@@ -31,8 +31,9 @@ use Rattle.sq_program_laws.specs.Sizes.{IsSized}
 use Rattle.sq_program_laws.proofs.Shapes.{mapped_at, at_mapped}
 use Rattle.sq_program_laws.proofs.Whole.{arrays_are_sized}
 use Rattle.sq_program_laws.proofs.Carried.{leaves_by, left_at}
-use Rattle.sq_homes.specs.declared.choice.Choice.{Choice}
-use Rattle.sq_homes.specs.Drafts.{bodies_of, homes_of, choice_in}
+use Rattle.sq_homes.specs.Chosen.declared.choice.Choice.{Choice}
+use Rattle.sq_homes.specs.Chosen.Forms.{bodies_of, choice_in}
+use Rattle.sq_homes.specs.Drafts.{homes_of}
 use Rattle.sq_draft_laws.specs.Choosing.{Walked, MayBeChosen, setting_of}
 use Rattle.sq_draft_laws.proofs.Hoisting.{at_index, bodies_many}
 use Rattle.sq_draft_laws.proofs.Programs.{bodies_are_tables}

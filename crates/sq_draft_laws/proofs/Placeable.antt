@@ -24,8 +24,9 @@ use Rattle.sq_nests.specs.Drafts.{Nothing, IsPlaceable}
 use Rattle.sq_program_laws.specs.TermLaws.Callers.{home_buffers, Numbering, AreNumbered}
 use Rattle.sq_program_laws.specs.TermLaws.Lowered.{IsLowered, HasNumbers}
 use Rattle.sq_program_laws.proofs.TermLaws.Lowered.{are_stacked, lowered_is_placeable}
-use Rattle.sq_homes.specs.declared.choice.Choice.{Choice}
-use Rattle.sq_homes.specs.Drafts.{bodies_of, homes_of, args_of, IsDraftOf}
+use Rattle.sq_homes.specs.Chosen.declared.choice.Choice.{Choice}
+use Rattle.sq_homes.specs.Chosen.Forms.{bodies_of}
+use Rattle.sq_homes.specs.Drafts.{homes_of, args_of, IsDraftOf}
 use Rattle.sq_draft_laws.specs.Given.{level_at}
 use Rattle.sq_draft_laws.specs.Choosing.{Walked, MayBeChosen, AreMemories}
 use Rattle.sq_draft_laws.proofs.Descending.{calls_descend}
@@ -37,7 +38,7 @@ use Rattle.sq_draft_laws.specs.Levels.{BeginsAtRoot}
 use Rattle.sq_draft_laws.proofs.Levels.{levels_are_there, drafts_begin_at_root}
 use Rattle.sq_draft_laws.proofs.Tabled.{drafts_are_tabled}
 use Rattle.sq_draft_laws.specs.Placeable.{DraftsArePlaceable, IsStackedByForms, DraftsAreStackedByForms}
-use Rattle.sq_draft_laws.specs.Homes.{HasOwn}
+use Rattle.sq_draft_laws.specs.HomesFit.{HasOwn}
 use Rattle.sq_draft_laws.proofs.Entry.{entries_have_buffers}
 use Rattle.sq_draft_laws.proofs.Ordered.{numbering, are_numbered}
 use Rattle.sq_draft_laws.proofs.Machines.{machines_are_machines}

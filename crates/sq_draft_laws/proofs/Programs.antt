@@ -25,7 +25,8 @@ use Rattle.sq_placed.specs.Placed.{plain}
 use Rattle.sq_placed.specs.Tables.{entry_placed}
 use Rattle.sq_placed.specs.SameWorks.{IsSameWork}
 use Rattle.sq_placed.specs.Laws.{PlacedIsWork}
-use Rattle.sq_homes.specs.Drafts.{bodies_of, args_of, extents_by, term_with}
+use Rattle.sq_homes.specs.Chosen.Forms.{bodies_of}
+use Rattle.sq_homes.specs.Drafts.{args_of, extents_by, term_with}
 use Rattle.sq_draft_laws.specs.Programs.{BodiesAreTables, PlacedIsProgram, TermIsEntrys}
 use Rattle.sq_draft_laws.proofs.Standing.{map_length}
 

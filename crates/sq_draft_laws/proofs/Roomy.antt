@@ -44,13 +44,15 @@ use Rattle.sq_program_laws.specs.TermLaws.Leaves.{BodyLeaves, arrays_in, TakeSam
 use Rattle.sq_program_laws.specs.Homes.{AreHomes}
 use Rattle.sq_program_laws.proofs.RowsHold.{body_is, arg_facts, many_args}
 use Rattle.sq_program_laws.specs.PlanLaws.Buffers.{home_buffer}
-use Rattle.sq_homes.specs.declared.choice.Choice.{Choice}
-use Rattle.sq_homes.specs.Drafts.{homes_of, buffers_of, buffer_at, args_of, choice_in}
-use Rattle.sq_homes.specs.Numbering.{standing, local_base, locals_count, shape_size}
+use Rattle.sq_homes.specs.Chosen.declared.choice.Choice.{Choice}
+use Rattle.sq_homes.specs.Chosen.Forms.{choice_in}
+use Rattle.sq_homes.specs.Drafts.{homes_of, buffers_of, buffer_at, args_of}
+use Rattle.sq_homes.specs.Chosen.Arrays.{standing, locals_count, shape_size}
+use Rattle.sq_homes.specs.Numbering.{local_base}
 use Rattle.sq_draft_laws.specs.Choosing.{Walked, left_in, MayBeChosen, setting_of}
 use Rattle.sq_draft_laws.proofs.Hoisting.{no_homes_at}
 use Rattle.sq_draft_laws.specs.Drafts.{DraftsAreRoomy}
-use Rattle.sq_draft_laws.specs.Homes.{HasOwn}
+use Rattle.sq_draft_laws.specs.HomesFit.{HasOwn}
 use Rattle.sq_draft_laws.proofs.Args.{fit_by_facts, fit_whole, all_fit}
 use Rattle.sq_draft_laws.proofs.Buffers.{all_small}
 use Rattle.sq_draft_laws.proofs.Entry.{entry, form, args_many, whole_at, entries_have_buffers}

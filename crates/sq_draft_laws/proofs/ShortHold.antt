@@ -48,7 +48,7 @@ use Rattle.sq_homes.proofs.SpecLaws.Sorted.{both, three, four}
 use Rattle.sq_homes.proofs.SpecLaws.TableRowsHold.{rows_are_reached}
 use Rattle.sq_program_laws.specs.PlanLaws.LeafLaws.{event_shape}
 use Rattle.sq_term.specs.Terms.{body_in}
-use Rattle.sq_homes.specs.Drafts as drafts
+use Rattle.sq_homes.specs.Chosen.Forms as chosen
 use Rattle.sq_draft_laws.specs.Paths.{Nested, nested_of, PathsFit, LeavesAreSmall}
 use Rattle.sq_program_laws.specs.Homes.{bodies_of}
 use Rattle.sq_program_laws.proofs.RowsHold.{body_is}
@@ -288,7 +288,7 @@ module _ (r : Resolved) (walked : Walked r) where
 
 pub leaves_are_short : BodiesAreTables → LeavesAreShort
 leaves_are_short are r walked =
-    let same : bodies_of r.typed.now r.mapping.now r.found.entries ≡ body_in (drafts.bodies_of r)
+    let same : bodies_of r.typed.now r.mapping.now r.found.entries ≡ body_in (chosen.bodies_of r)
     = sym (fun_ext (are r)) in
     record {
       paths = subst (λ (b : ℕ → FormBody). PathsFit b (round_of r)) same

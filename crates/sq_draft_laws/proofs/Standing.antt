@@ -3,9 +3,11 @@ use Rattle.std.proofs.Common.{◌≡◌, ℕ, zero, suc, ◌+◌, ◌<◌, List,
 use Rattle.std.proofs.Common.{refl, sym, ap, subst, ◌∙◌, arith}
 use Rattle.sq_spec.specs.declared.body.FormBody.{FormBody}
 use Rattle.sq_spec.specs.declared.resolved.Resolved.{Resolved}
-use Rattle.sq_homes.specs.declared.choice.Choice.{Choice}
-use Rattle.sq_homes.specs.Numbering.{standing, form_homes}
-use Rattle.sq_homes.specs.Drafts.{homes_from, buffers_from, choice_in, instance_at, rule_by, buffer_at, bodies_of}
+use Rattle.sq_homes.specs.Chosen.declared.choice.Choice.{Choice}
+use Rattle.sq_homes.specs.Chosen.Arrays.{standing}
+use Rattle.sq_homes.specs.Numbering.{form_homes}
+use Rattle.sq_homes.specs.Chosen.Forms.{choice_in, instance_at, rule_by, bodies_of}
+use Rattle.sq_homes.specs.Drafts.{homes_from, buffers_from, buffer_at}
 use Rattle.sq_draft_laws.specs.Given.{FormStands, FormsStand}
 
 -- ---- lists

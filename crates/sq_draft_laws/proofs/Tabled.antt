@@ -14,9 +14,11 @@ use Rattle.sq_placed.specs.declared.home.Homes.{Homes}
 use Rattle.sq_term.specs.Terms.{homes_in}
 use Rattle.sq_program_laws.specs.TermLaws.Fits.{TabledBody, IsThere, AreThere, LocalsThere, HaveRows}
 use Rattle.sq_program_laws.proofs.TermLaws.Programs.{programs_are_tabled}
-use Rattle.sq_homes.specs.declared.choice.Choice.{Choice}
-use Rattle.sq_homes.specs.Drafts.{bodies_of, homes_of, buffers_of, buffer_at, choice_in}
-use Rattle.sq_homes.specs.Numbering.{standing, home_of, local_base, locals_count, IsHomeIn, IsNumberIn}
+use Rattle.sq_homes.specs.Chosen.declared.choice.Choice.{Choice}
+use Rattle.sq_homes.specs.Chosen.Forms.{bodies_of, choice_in}
+use Rattle.sq_homes.specs.Drafts.{homes_of, buffers_of, buffer_at}
+use Rattle.sq_homes.specs.Chosen.Arrays.{standing, locals_count}
+use Rattle.sq_homes.specs.Numbering.{home_of, local_base, IsHomeIn, IsNumberIn}
 use Rattle.sq_homes.proofs.Numbered.{homes_are_own, locals_are_own}
 use Rattle.sq_draft_laws.specs.Given.{level_at}
 use Rattle.sq_draft_laws.specs.Choosing.{Walked, MayBeChosen, setting_of}

@@ -13,9 +13,10 @@ use Rattle.sq_placed.specs.Pipes.{NonePiped, PipesStand}
 use Rattle.sq_term.specs.Terms.{body_in, homes_in}
 use Rattle.sq_program_laws.specs.TermLaws.Leaves.{Left, left_of, BodyLeaves}
 use Rattle.sq_program_laws.specs.TermLaws.Overlapping.{BodyOverlaps, OverlapsStand}
-use Rattle.sq_homes.specs.declared.choice.Choice.{Choice}
-use Rattle.sq_homes.specs.Numbering.{left_by}
-use Rattle.sq_homes.specs.Drafts.{bodies_of, homes_of, buffers_of, choice_in}
+use Rattle.sq_homes.specs.Chosen.declared.choice.Choice.{Choice}
+use Rattle.sq_homes.specs.Chosen.Arrays.{left_by}
+use Rattle.sq_homes.specs.Chosen.Forms.{bodies_of, choice_in}
+use Rattle.sq_homes.specs.Drafts.{homes_of, buffers_of}
 
 -- what is known of the forms of a program that was resolved
 abbrev pub Walked : Resolved → Type 0

@@ -7,8 +7,9 @@ use Rattle.sq_spec.specs.declared.resolved.Resolved.{Resolved}
 use Rattle.sq_term.specs.Terms.{body_in, homes_in, entry_row}
 use Rattle.sq_program_laws.specs.TermLaws.Fits.{Bounds, AreTabled}
 use Rattle.sq_program_laws.specs.TermLaws.Roomy.{AreRoomy, EntryFits, RowFits}
-use Rattle.sq_homes.specs.declared.choice.Choice.{Choice}
-use Rattle.sq_homes.specs.Drafts.{bodies_of, homes_of, args_of}
+use Rattle.sq_homes.specs.Chosen.declared.choice.Choice.{Choice}
+use Rattle.sq_homes.specs.Chosen.Forms.{bodies_of}
+use Rattle.sq_homes.specs.Drafts.{homes_of, args_of}
 use Rattle.sq_draft_laws.specs.Given.{level_at}
 use Rattle.sq_draft_laws.specs.Choosing.{Walked, MayBeChosen, setting_of}
 

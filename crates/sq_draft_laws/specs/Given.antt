@@ -6,9 +6,11 @@ use Rattle.sq_spec.specs.declared.body.FormBody.{FormBody}
 use Rattle.sq_spec.specs.declared.resolved.Resolved.{Resolved}
 use Rattle.sq_term.specs.Terms.{body_in, homes_in}
 use Rattle.sq_term.specs.Stands.{AreLevel, AreLeveled, calls_of}
-use Rattle.sq_homes.specs.declared.choice.Choice.{Choice}
-use Rattle.sq_homes.specs.Numbering.{standing, form_homes}
-use Rattle.sq_homes.specs.Drafts.{bodies_of, homes_of, buffers_of, choice_in, instance_at, rule_by, level_by, buffer_at}
+use Rattle.sq_homes.specs.Chosen.declared.choice.Choice.{Choice}
+use Rattle.sq_homes.specs.Chosen.Arrays.{standing}
+use Rattle.sq_homes.specs.Numbering.{form_homes}
+use Rattle.sq_homes.specs.Chosen.Forms.{bodies_of, choice_in, instance_at, rule_by, level_by}
+use Rattle.sq_homes.specs.Drafts.{homes_of, buffers_of, buffer_at}
 
 -- Of a form with this body: its homes are numbered from its first buffer on, and there in the list of buffers stand
 -- those of its arrays, in their order.

@@ -8,7 +8,7 @@ use Rattle.sq_ir.specs.declared.plan.PlanNode.{PlanNode}
 use Rattle.sq_spec.specs.declared.resolved.Resolved.{Resolved}
 use Rattle.sq_program_laws.specs.TermLaws.Fits.{AreBounds, IsMachine, NodeAt}
 use Rattle.sq_program_laws.specs.PlanLaws.Buffers.{HaveLanes}
-use Rattle.sq_homes.specs.declared.choice.Choice.{Choice}
+use Rattle.sq_homes.specs.Chosen.declared.choice.Choice.{Choice}
 use Rattle.sq_draft_laws.specs.Choosing.{Walked, MayBeChosen, AreMemories, setting_of}
 use Rattle.sq_draft_laws.specs.Drafts.{limits}
 use Rattle.sq_draft_laws.specs.Owned.{draft_placed}

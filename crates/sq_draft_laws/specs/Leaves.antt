@@ -4,7 +4,7 @@ use Rattle.sq_ir.specs.declared.plan.Draft.{Draft}
 use Rattle.sq_ir.specs.DraftLeaves.{leaves_of}
 use Rattle.sq_spec.specs.declared.resolved.Resolved.{Resolved}
 use Rattle.sq_term.specs.Terms.{homes_in}
-use Rattle.sq_homes.specs.declared.choice.Choice.{Choice}
+use Rattle.sq_homes.specs.Chosen.declared.choice.Choice.{Choice}
 use Rattle.sq_homes.specs.Drafts.{IsDraftOf, homes_of}
 use Rattle.sq_program_laws.specs.Homes.{LeavesStand}
 use Rattle.sq_draft_laws.specs.Choosing.{Walked}

@@ -2,7 +2,7 @@
 use Rattle.std.specs.Prelude.{◌≡◌, ℕ, ◌<◌, List, length}
 use Rattle.sq_ir.specs.Plans.{of_buffer}
 use Rattle.sq_spec.specs.declared.resolved.Resolved.{Resolved}
-use Rattle.sq_homes.specs.declared.choice.Choice.{Choice}
+use Rattle.sq_homes.specs.Chosen.declared.choice.Choice.{Choice}
 use Rattle.sq_homes.specs.Drafts.{buffers_of}
 use Rattle.sq_draft_laws.specs.Given.{level_at}
 use Rattle.sq_draft_laws.specs.Choosing.{Walked, MayBeChosen}

@@ -1,7 +1,7 @@
 pub mod Given
 pub mod Choosing
 pub mod Programs
-pub mod Homes
+pub mod HomesFit
 pub mod Levels
 pub mod Drafts
 pub mod Numbers
@@ -17,6 +17,7 @@ pub mod Paths
 pub mod Laws
 pub mod AtLevels
 -- Definitions of crates below, passed on.
+pub use Rattle.sq_homes.specs as Homes
 pub use Rattle.sq_program_laws.specs.PlanLaws
 pub use Rattle.sq_program_laws.specs as ProgramLaws
 pub use Rattle.sq_term.specs as Term

@@ -3,8 +3,9 @@ use Rattle.std.specs.Prelude.{List}
 use Rattle.sq_spec.specs.declared.resolved.Resolved.{Resolved}
 use Rattle.sq_term.specs.Terms.{body_in, homes_in}
 use Rattle.sq_program_laws.specs.TermLaws.Callers.{Numbering, AreNumbered}
-use Rattle.sq_homes.specs.declared.choice.Choice.{Choice}
-use Rattle.sq_homes.specs.Drafts.{bodies_of, homes_of, buffers_of}
+use Rattle.sq_homes.specs.Chosen.declared.choice.Choice.{Choice}
+use Rattle.sq_homes.specs.Chosen.Forms.{bodies_of}
+use Rattle.sq_homes.specs.Drafts.{homes_of, buffers_of}
 use Rattle.sq_draft_laws.specs.Choosing.{Walked, MayBeChosen}
 
 -- of each buffer its form and its place there, of each form but the entry the one that calls it

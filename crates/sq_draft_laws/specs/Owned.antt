@@ -9,8 +9,9 @@ use Rattle.sq_term.specs.Terms.{body_in, homes_in}
 use Rattle.sq_program_laws.specs.PlanLaws.Buffers.{Owns}
 use Rattle.sq_program_laws.specs.PlanLaws.Rooms.{EntryOwns}
 use Rattle.sq_program_laws.specs.Entry.{entry_shapes}
-use Rattle.sq_homes.specs.declared.choice.Choice.{Choice}
-use Rattle.sq_homes.specs.Drafts.{bodies_of, homes_of, args_of, entry_of}
+use Rattle.sq_homes.specs.Chosen.declared.choice.Choice.{Choice}
+use Rattle.sq_homes.specs.Chosen.Forms.{bodies_of}
+use Rattle.sq_homes.specs.Drafts.{homes_of, args_of, entry_of}
 use Rattle.sq_draft_laws.specs.Choosing.{Walked, MayBeChosen, setting_of}
 
 -- what is placed for a draft: its entry, called with whole arrays

@@ -8,8 +8,9 @@ use Rattle.sq_nests.specs.Nests.{named_in}
 use Rattle.sq_nests.specs.Stacks.{of_level, HaveBefore}
 use Rattle.sq_nests.specs.Drafts.{whole, IsPlaceable}
 use Rattle.sq_program_laws.specs.TermLaws.Callers.{before}
-use Rattle.sq_homes.specs.declared.choice.Choice.{Choice}
-use Rattle.sq_homes.specs.Drafts.{bodies_of, homes_of, IsDraftOf}
+use Rattle.sq_homes.specs.Chosen.declared.choice.Choice.{Choice}
+use Rattle.sq_homes.specs.Chosen.Forms.{bodies_of}
+use Rattle.sq_homes.specs.Drafts.{homes_of, IsDraftOf}
 use Rattle.sq_draft_laws.specs.Choosing.{Walked, MayBeChosen, AreMemories}
 use Rattle.sq_draft_laws.specs.Numbers.{HaveNumbers}
 

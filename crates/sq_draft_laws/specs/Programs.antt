@@ -11,7 +11,8 @@ use Rattle.sq_placed.specs.Tables.{entry_placed}
 use Rattle.sq_placed.specs.Pipes.{PipesStand}
 use Rattle.sq_placed.specs.SameWorks.{IsSameWork}
 use Rattle.sq_term.specs.Terms.{entry_term, body_in, homes_in}
-use Rattle.sq_homes.specs.Drafts.{bodies_of, args_of, term_with}
+use Rattle.sq_homes.specs.Chosen.Forms.{bodies_of}
+use Rattle.sq_homes.specs.Drafts.{args_of, term_with}
 
 -- The bodies by a draft's list are those of the program's forms.
 abbrev pub BodiesAreTables : Type 0

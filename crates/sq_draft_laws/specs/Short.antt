@@ -4,7 +4,7 @@ use Rattle.sq_forms.specs.declared.form.Found.{Found}
 use Rattle.sq_forms.specs.Steps.{Key}
 use Rattle.sq_spec.specs.declared.resolved.Resolved.{Resolved}
 use Rattle.sq_term.specs.Terms.{body_in}
-use Rattle.sq_homes.specs.Drafts.{bodies_of}
+use Rattle.sq_homes.specs.Chosen.Forms.{bodies_of}
 use Rattle.sq_draft_laws.specs.Choosing.{Walked}
 use Rattle.sq_draft_laws.specs.Paths.{PathsFit, LeavesAreSmall}
 

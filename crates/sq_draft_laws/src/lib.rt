@@ -6,7 +6,7 @@
 
 ghost use Rattle.sq_draft_laws.specs.AtLevels.{LeavesAreAtLevels};
 ghost use Rattle.sq_draft_laws.specs.Drafts.{DraftsAreTabled, DraftsAreRoomy};
-ghost use Rattle.sq_draft_laws.specs.Homes.{HomesFitForms, HomesAreHeldInside, EntriesAreWhole, EntriesHaveBuffers};
+ghost use Rattle.sq_draft_laws.specs.HomesFit.{HomesFitForms, HomesAreHeldInside, EntriesAreWhole, EntriesHaveBuffers};
 ghost use Rattle.sq_draft_laws.specs.Lanes.{MachinesAreMachines, LanesAreThere};
 ghost use Rattle.sq_draft_laws.specs.Laws.{SlotsAreInScope, FormsAreNear, PathsAreShort, PlansAreWellFormed};
 ghost use Rattle.sq_draft_laws.specs.Levels.{LevelsAreThere, DraftsBeginAtRoot};

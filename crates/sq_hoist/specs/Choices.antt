@@ -7,8 +7,8 @@ use Rattle.sq_spec.specs.declared.body.Body.TheVariants as body
 use Rattle.sq_spec.specs.declared.body.FormBody.{FormBody}
 use Rattle.sq_spec.specs.declared.resolved.Resolved.{Resolved}
 use Rattle.sq_spec.specs.Bodies.{body_of}
-use Rattle.sq_homes.specs.declared.choice.Choice.{Choice}
-use Rattle.sq_homes.specs.Drafts.{bodies_of}
+use Rattle.sq_chosen.specs.declared.choice.Choice.{Choice}
+use Rattle.sq_chosen.specs.Forms.{bodies_of}
 use Rattle.sq_hoist.specs.declared.sites.Site.{Site}
 use Rattle.sq_hoist.specs.Loops.{sites}
 

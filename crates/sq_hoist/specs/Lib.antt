@@ -3,7 +3,5 @@ pub mod Counts
 pub mod Choices
 pub mod Notes
 -- Definitions of crates below, passed on.
-pub use Rattle.sq_homes.specs as Homes
-pub use Rattle.sq_homes.specs.Placed
-pub use Rattle.sq_homes.specs.SpecLaws
-pub use Rattle.sq_homes.specs.Tables
+pub use Rattle.sq_chosen.specs as Chosen
+pub use Rattle.sq_chosen.specs.SpecLaws

@@ -9,7 +9,7 @@ use Rattle.sq_ir.specs.declared.plan.Note.{Note}
 use Rattle.sq_ir.specs.declared.plan.Note.TheVariants.{Hoist}
 use Rattle.sq_spec.specs.Forms.Resolving.{entry_params}
 use Rattle.sq_spec.specs.declared.resolved.Resolved.{Resolved}
-use Rattle.sq_homes.specs.Drafts.{instance_at, name_by}
+use Rattle.sq_chosen.specs.Forms.{instance_at, name_by}
 use Rattle.sq_hoist.specs.declared.sites.Site.{Site}
 use Rattle.sq_hoist.specs.Choices.{sites_of}
 

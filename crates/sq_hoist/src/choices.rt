@@ -7,7 +7,7 @@ ghost use Rattle.sq_hoist.specs.Choices as spec;
 
 use crate::sites::Site;
 use indexmap::IndexMap;
-use sq_homes::Choice;
+use sq_chosen::Choice;
 use sq_spec::Form;
 use sqlite_items::Items;
 use std::alloc::{AllocError, Global};
@@ -87,7 +87,7 @@ fn choices_by(
 }
 
 /// What is chosen for these forms, by the calls that stand in plain loops.
-#[tactic(auto, using(crate::proofs::Chosen::chosen_by))]
+#[tactic(auto, using(crate::proofs::Entered::chosen_by))]
 pub fn choices_of(
     alloc: Global,
     forms: &[Form],

@@ -1,15 +1,13 @@
-//! Hoisting.
+//! What leaves loops, of a whole program.
 
 ghost use Rattle.std.specs.Prelude.{◌≡◌, ◌++◌, IfOk, OnOk};
-ghost use Rattle.sq_homes.specs.Drafts.{IsDraftOf};
 ghost use Rattle.sq_hoist.specs.Choices as spec;
 ghost use Rattle.sq_hoist.specs.Notes as notes;
 
 use crate::choices::choices_of;
 use crate::notes::notes_of;
 use crate::sites::{Site, push_sites};
-use sq_homes::{Choice, draft_of, drop_body, drop_draft, form_number};
-use sq_ir::{Draft, Notes};
+use sq_chosen::{Chosen, drop_body, form_number};
 use sq_spec::{Body, Resolved};
 use sqlite_items::Items;
 use std::alloc::{AllocError, Global};
@@ -45,8 +43,7 @@ fn push_form_sites(
     pushed
 }
 
-/// The calls in plain loops of all forms, by the number of the form in which they stand. The tables of one form are
-/// there
+/// The calls in plain loops of all forms, by the number of the form in which they stand. The tables of one form are there
 /// at a time.
 pub fn sites_of(alloc: Global, r: &Resolved<'_>) -> Result<Items<Site>, AllocError>
     ensures { IfOk result (λ ss. ss ≡ spec.sites_of r.now) }
@@ -58,14 +55,10 @@ pub fn sites_of(alloc: Global, r: &Resolved<'_>) -> Result<Items<Site>, AllocErr
     Ok(out)
 }
 
-/// What is chosen, and what is told of it.
-#[derive(Drop)]
-struct Chosen {
-    choices: Items<Choice>,
-    notes: Notes,
-}
-
-fn chosen_of(alloc: Global, r: &Resolved<'_>) -> Result<Chosen, AllocError>
+/// What hoisting chooses: each argument of a lower call leaves the outermost of the plain loops round its call in which
+/// its block stays the same, apart from the other arguments; what is in place stays there, and no loop overlaps its
+/// transfers. There is a note for each argument that leaves a loop.
+pub fn hoisted(alloc: Global, r: &Resolved<'_>) -> Result<Chosen, AllocError>
     ensures choices { IfOk result (λ c. c.choices ≡ spec.hoisted r.now) }
     ensures notes { IfOk result (λ c. c.notes ≡ notes.notes_of r.now) }
 {
@@ -73,29 +66,4 @@ fn chosen_of(alloc: Global, r: &Resolved<'_>) -> Result<Chosen, AllocError>
     let notes = notes_of(alloc, r, sites.as_slice())?;
     let choices = choices_of(alloc, r.forms(), sites.as_slice())?;
     Ok(Chosen { choices, notes })
-}
-
-fn with_notes(mut draft: Draft, notes: Notes) -> Draft
-    ensures term { result.term ≡ draft.term }
-    ensures buffers { result.buffers ≡ draft.buffers }
-    ensures leaves { result.leaves ≡ draft.leaves }
-    ensures entry { result.entry ≡ draft.entry }
-    ensures notes { result.notes ≡ notes }
-{
-    draft.notes = notes;
-    draft
-}
-
-/// The draft of a program in which each argument of a lower call leaves the outermost of the plain loops round its
-/// call in which its block stays the same, apart from the other arguments; what is in place stands there as without
-/// hoisting. It has a note for each argument that leaves a loop. The draft that is handed in is that of `drop_copies`
-/// for the same program; its memory is given back before the new one takes any.
-pub fn hoist(alloc: Global, r: &Resolved<'_>, draft: Draft) -> Result<Draft, AllocError>
-    ensures draft { IfOk result (λ d. IsDraftOf r.now (spec.hoisted r.now) d) }
-    ensures notes { IfOk result (λ d. d.notes ≡ notes.notes_of r.now) }
-{
-    drop_draft(draft);
-    let chosen = chosen_of(alloc, r)?;
-    let made = draft_of(alloc, r, chosen.choices.as_slice())?;
-    Ok(with_notes(made, chosen.notes))
 }

@@ -3,12 +3,12 @@
 ghost use Rattle.std.specs.Prelude.{◌≡◌, IfOk};
 ghost use Rattle.std.specs.Option.{option_copied};
 ghost use Rattle.sq_spec.specs.Forms.Resolving.{entry_params};
-ghost use Rattle.sq_homes.specs.Drafts as drafts;
+ghost use Rattle.sq_chosen.specs.Forms as forms;
 ghost use Rattle.sq_spec.specs.Forms.Tables as tables;
 ghost use Rattle.sq_hoist.specs.Notes as spec;
 
 use sq_ast::{Param, Variant};
-use sq_homes::instance_at;
+use sq_chosen::instance_at;
 use sq_spec::{Instance, Resolved};
 use sq_text::Name;
 use sqlite_items::at;
@@ -24,7 +24,7 @@ fn variant_of<'a>(r: &Resolved<'a>, x: &Instance) -> Option<&'a Variant>
 }
 
 fn params_of<'a>(r: &Resolved<'a>, form: usize) -> &'a [Param]
-    ensures { result.now ≡ entry_params r.now.typed.now.tasks (drafts.instance_at r.now form) }
+    ensures { result.now ≡ entry_params r.now.typed.now.tasks (forms.instance_at r.now form) }
 {
     let Some(x) = instance_at(r, form) else {
         return &[];

@@ -2,12 +2,12 @@
 
 ghost use Rattle.std.specs.Prelude.{◌≡◌, ◌++◌, get_or, IfOk, OnOk};
 ghost use Rattle.sq_ir.specs.declared.plan.Note.TheVariants as note;
-ghost use Rattle.sq_homes.specs.Drafts as drafts;
+ghost use Rattle.sq_chosen.specs.Forms as forms;
 ghost use Rattle.sq_hoist.specs.Notes as spec;
 
 use crate::names::param_at;
 use crate::sites::Site;
-use sq_homes::name_at;
+use sq_chosen::name_at;
 use sq_ir::{Note, Notes};
 use sq_spec::Resolved;
 use sq_text::Place;
@@ -31,7 +31,7 @@ fn note_of(
     i: usize,
 ) -> Result<Note, AllocError>
     ensures { IfOk result (λ n. n ≡ note.Hoist place
-        (drafts.name_by (drafts.instance_at r.now site.now.caller)) (spec.param_at r.now site.now.form i)) }
+        (forms.name_by (forms.instance_at r.now site.now.caller)) (spec.param_at r.now site.now.form i)) }
 {
     let instance = name_at(alloc, r, site.caller)?;
     let param = param_at(alloc, r, site.form, i)?;
@@ -52,7 +52,7 @@ fn push_at(
     loops: u32,
 ) -> Result<(), AllocError>
     ensures { OnOk result (out.new ≡ out.old ++ spec.notes_at
-        (drafts.name_by (drafts.instance_at r.now site.now.caller)) (spec.param_at r.now site.now.form) place loops 0
+        (forms.name_by (forms.instance_at r.now site.now.caller)) (spec.param_at r.now site.now.form) place loops 0
         site.now.leaves) }
 {
     for (i, left) in site.leaves.as_slice().iter().enumerate() {
@@ -72,7 +72,7 @@ fn push_out(
     loops: u32,
 ) -> Result<(), AllocError>
     ensures { OnOk result (out.new ≡ out.old ++ spec.notes_out
-        (drafts.name_by (drafts.instance_at r.now site.now.caller)) (spec.param_at r.now site.now.form)
+        (forms.name_by (forms.instance_at r.now site.now.caller)) (spec.param_at r.now site.now.form)
         site.now.loops site.now.leaves loops) }
 {
     if loops == 0 {

@@ -4,12 +4,13 @@ use Rattle.std.proofs.Common.{get_or, refl, ap, subst, arith, if◌then◌else�
 use Rattle.std.proofs.lemmas.Bool.Decides.{nat_tests}
 use Rattle.std.proofs.lemmas.List.FromFn.{length-range_with_len}
 use Rattle.std.specs.List.{filter, range_with_len}
-use Rattle.sq_spec_laws.specs.Spec.declared.body.FormBody.{FormBody}
+use Rattle.sq_chosen.specs.SpecLaws.Spec.declared.body.FormBody.{FormBody}
 use Rattle.sq_draft.specs.Placed.declared.home.Home.TheVariants.{Own, Twin}
-use Rattle.sq_homes.specs.declared.choice.Choice.{Choice}
+use Rattle.sq_chosen.specs.declared.choice.Choice.{Choice}
 use Rattle.sq_homes.specs.Laws.{HomesAreOwn, LocalsAreOwn}
-use Rattle.sq_homes.specs.Numbering.{deepest, left_by, is_moved, params_where, hoisted_from, hoisted, others, again}
-use Rattle.sq_homes.specs.Numbering.{locals_count, standing, position, moved_home, home_of, local_base, IsNumberIn}
+use Rattle.sq_chosen.specs.Arrays.{deepest, left_by, is_moved, params_where, hoisted_from, hoisted, others, again}
+use Rattle.sq_chosen.specs.Arrays.{locals_count, standing}
+use Rattle.sq_homes.specs.Numbering.{position, moved_home, home_of, local_base, IsNumberIn}
 use Rattle.sq_homes.specs.Numbering.{IsHomeIn}
 
 -- ---- lists

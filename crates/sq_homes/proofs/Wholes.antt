@@ -3,7 +3,7 @@ use Rattle.std.proofs.Common.{◌≡◌, ℕ, nat_lt, Bool, true, false, List, [
 use Rattle.std.proofs.Common.{if◌then◌else◌}
 use Rattle.sq_text.specs.declared.place.Span.{Span}
 use Rattle.sq_ir.specs.Blocks.Spans.{with_front, wholes}
-use Rattle.sq_spec_laws.specs.Spec.Works.{whole}
+use Rattle.sq_chosen.specs.SpecLaws.Spec.Works.{whole}
 
 same_some : {A : Type 0} (x y : A) → Some x ≡ Some y → x ≡ y
 same_some x y h = cc

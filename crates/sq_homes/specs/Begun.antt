@@ -4,14 +4,14 @@ use Rattle.std.specs.Prelude.{Option, Some, None, is_some}
 use Rattle.std.specs.List.{flat_map, range_with_len}
 use Rattle.sq_text.specs.declared.spread.SpreadRule.{SpreadRule}
 use Rattle.sq_text.specs.Spreading.{child_of}
-use Rattle.sq_spec_laws.specs.Spec.declared.statement.CallInstance.{CallInstance}
-use Rattle.sq_spec_laws.specs.Spec.declared.statement.Statement.{Statement}
-use Rattle.sq_spec_laws.specs.Spec.declared.statement.Statement.TheOpen.{Statement-F}
-use Rattle.sq_spec_laws.specs.Spec.declared.statement.Statement.TheFolds.{fold-Statement}
-use Rattle.sq_spec_laws.specs.Spec.declared.body.Body.{Body}
-use Rattle.sq_spec_laws.specs.Spec.declared.body.Body.TheVariants as body
-use Rattle.sq_spec_laws.specs.Spec.Spreads.{is_spread}
-use Rattle.sq_spec_laws.specs.Needs.{Turn, turn_in}
+use Rattle.sq_chosen.specs.SpecLaws.Spec.declared.statement.CallInstance.{CallInstance}
+use Rattle.sq_chosen.specs.SpecLaws.Spec.declared.statement.Statement.{Statement}
+use Rattle.sq_chosen.specs.SpecLaws.Spec.declared.statement.Statement.TheOpen.{Statement-F}
+use Rattle.sq_chosen.specs.SpecLaws.Spec.declared.statement.Statement.TheFolds.{fold-Statement}
+use Rattle.sq_chosen.specs.SpecLaws.Spec.declared.body.Body.{Body}
+use Rattle.sq_chosen.specs.SpecLaws.Spec.declared.body.Body.TheVariants as body
+use Rattle.sq_chosen.specs.SpecLaws.Spec.Spreads.{is_spread}
+use Rattle.sq_chosen.specs.SpecLaws.Needs.{Turn, turn_in}
 
 -- A call: its row, whether it is a lower one, and the iteration of the spread map round it.
 pub record Begun : Type 0 where

@@ -1,68 +1,27 @@
 -- The draft of a program under what is chosen for its forms.
-use Rattle.std.specs.Prelude.{◌≡◌, ℕ, suc, ◌+◌, false, List, [], ◌∷◌, ◌++◌, map, get_or, slice_get, length, Option}
-use Rattle.std.specs.Prelude.{Some, None}
-use Rattle.std.specs.List.{range_with_len}
+use Rattle.std.specs.Prelude.{◌≡◌, ℕ, suc, ◌+◌, List, [], ◌∷◌, ◌++◌, map, get_or, slice_get, length, Option, Some, None}
 use Rattle.sq_text.specs.Names.{Bytes}
-use Rattle.sq_text.specs.declared.spread.SpreadRule.{SpreadRule}
-use Rattle.sq_text.specs.declared.spread.SpreadRule.TheVariants.{Cyclic}
 use Rattle.sq_ast.specs.declared.program.Variant.{Variant}
-use Rattle.sq_spec_laws.specs.Mappings.declared.mapping.Instance.{Instance}
 use Rattle.sq_ir.specs.Leaf.Leaf.{arrays_of}
 use Rattle.sq_ir.specs.declared.term.Term.{Term}
 use Rattle.sq_ir.specs.declared.plan.Buffer.{Buffer}
 use Rattle.sq_ir.specs.declared.plan.Leaf.{Leaf}
 use Rattle.sq_ir.specs.declared.plan.Draft.{Draft}
 use Rattle.sq_ir.specs.Blocks.declared.argument.Argument.{Argument}
-use Rattle.sq_spec_laws.specs.Forms.declared.form.Form.{Form}
-use Rattle.sq_spec_laws.specs.Forms.Resolving.{entry_params}
-use Rattle.sq_spec_laws.specs.Spec.declared.body.Body.{Body}
-use Rattle.sq_spec_laws.specs.Spec.declared.body.Body.TheVariants as body
-use Rattle.sq_spec_laws.specs.Spec.declared.body.FormBody.{FormBody}
-use Rattle.sq_spec_laws.specs.Spec.declared.resolved.Resolved.{Resolved}
-use Rattle.sq_spec_laws.specs.Spec.Bodies.{body_of}
-use Rattle.sq_spec_laws.specs.Spec.Works.{entry_arguments}
-use Rattle.sq_spec_laws.specs.Needs.{variant_for}
+use Rattle.sq_chosen.specs.SpecLaws.Forms.declared.form.Form.{Form}
+use Rattle.sq_chosen.specs.SpecLaws.Forms.Resolving.{entry_params}
+use Rattle.sq_chosen.specs.SpecLaws.Spec.declared.body.Body.{Body}
+use Rattle.sq_chosen.specs.SpecLaws.Spec.declared.body.Body.TheVariants as body
+use Rattle.sq_chosen.specs.SpecLaws.Spec.declared.body.FormBody.{FormBody}
+use Rattle.sq_chosen.specs.SpecLaws.Spec.declared.resolved.Resolved.{Resolved}
+use Rattle.sq_chosen.specs.SpecLaws.Spec.Works.{entry_arguments}
+use Rattle.sq_chosen.specs.SpecLaws.Needs.{variant_for}
 use Rattle.sq_draft.specs.Placed.declared.home.Homes.{Homes}
 use Rattle.sq_draft.specs.Term.Terms.{entry_term, body_in, homes_in, buffer_or}
-use Rattle.sq_homes.specs.declared.choice.Choice.{Choice}
-use Rattle.sq_homes.specs.Numbering.{standing, array_size, form_homes}
-
--- what the forms do, by their numbers
-abbrev pub bodies_of : Resolved → List FormBody
-bodies_of r =
-    map (body_of r.typed.now.tasks r.mapping.now.instances r.found.entries) (range_with_len 0 (length r.forms))
-
--- ---- what is known of a form by its number
-
-abbrev pub no_choice : Choice
-no_choice = record { in_place = []; leaves = []; overlaps = false }
-
-abbrev pub choice_in : List Choice → ℕ → Choice
-choice_in choices k = get_or choices k no_choice
-
-abbrev pub instance_by : List Instance → Option Form → Option Instance
-instance_by instances None = None
-instance_by instances (Some f) = slice_get instances f.instance
-
-abbrev pub instance_at : Resolved → ℕ → Option Instance
-instance_at r k = instance_by r.mapping.now.instances (slice_get r.forms k)
-
-abbrev pub level_by : Option Form → ℕ
-level_by None = 0
-level_by (Some f) = f.level
-
-abbrev pub rule_by : Option Instance → SpreadRule
-rule_by None = Cyclic
-rule_by (Some x) = x.spread
-
-abbrev pub name_by : Option Instance → Bytes
-name_by None = []
-name_by (Some x) = x.name
-
--- the names of a variant's parameters and locals
-abbrev pub names_by : Option Variant → List Bytes
-names_by None = []
-names_by (Some v) = arrays_of v
+use Rattle.sq_chosen.specs.declared.choice.Choice.{Choice}
+use Rattle.sq_chosen.specs.Arrays.{standing, array_size}
+use Rattle.sq_chosen.specs.Forms.{bodies_of, choice_in, instance_at, level_by, rule_by, name_by}
+use Rattle.sq_homes.specs.Numbering.{form_homes}
 
 -- ---- the homes of all arrays
 
@@ -81,6 +40,11 @@ abbrev pub homes_of : Resolved → List Choice → List Homes
 homes_of r choices = homes_from r choices 0 0 0 (bodies_of r)
 
 -- ---- buffers
+
+-- the names of a variant's parameters and locals
+abbrev pub names_by : Option Variant → List Bytes
+names_by None = []
+names_by (Some v) = arrays_of v
 
 abbrev pub buffer_at : Resolved → (k : ℕ) → FormBody → (array : ℕ) → Buffer
 buffer_at r k b i = record {

@@ -1,8 +1,9 @@
 -- What is true of the numbers of buffers.
 use Rattle.std.specs.Prelude.{ℕ, ◌+◌, ◌<◌, length}
-use Rattle.sq_spec_laws.specs.Spec.declared.body.FormBody.{FormBody}
-use Rattle.sq_homes.specs.declared.choice.Choice.{Choice}
-use Rattle.sq_homes.specs.Numbering.{standing, home_of, locals_count, local_base, IsHomeIn, IsNumberIn}
+use Rattle.sq_chosen.specs.SpecLaws.Spec.declared.body.FormBody.{FormBody}
+use Rattle.sq_chosen.specs.declared.choice.Choice.{Choice}
+use Rattle.sq_chosen.specs.Arrays.{standing, locals_count}
+use Rattle.sq_homes.specs.Numbering.{home_of, local_base, IsHomeIn, IsNumberIn}
 
 -- The buffers of a form's parameters are its own: those from its base on, as many as it has.
 abbrev pub HomesAreOwn : Type 0

@@ -1,21 +1,20 @@
 //! The draft of a program.
 
-ghost use Rattle.std.specs.Prelude.{◌≡◌, ◌++◌, suc, [], map, IfOk, OnOk};
+ghost use Rattle.std.specs.Prelude.{◌≡◌, ◌++◌, suc, map, IfOk, OnOk};
 ghost use Rattle.sq_draft.specs.Term.Terms as terms;
+ghost use Rattle.sq_chosen.specs.Forms as forms;
 ghost use Rattle.sq_homes.specs.Drafts as spec;
 
 use crate::buffers::{buffers_of, homes_of};
-use crate::choice::Choice;
 use crate::entry::args_of;
-use crate::names::{form_number, name_at};
+use sq_chosen::{Body, Choice, Chosen, FormBody, Resolved, form_number, name_at};
 use sq_draft::{Home, Homes, draft_term};
-use sq_ir::{Argument, BufferIds, Buffers, Draft, Leaf, Leaves, Term};
-use sq_spec_laws::{Body, FormBody, Resolved};
+use sq_ir::{Argument, BufferIds, Buffers, Draft, Leaf, Leaves, Notes, Term};
 use sqlite_items::{Boxed as Box, Items, at};
 use std::alloc::{AllocError, Global};
 
 fn bodies_of(alloc: Global, r: &Resolved<'_>) -> Result<Vec<FormBody>, AllocError>
-    ensures { IfOk result (λ bs. bs.items ≡ spec.bodies_of r.now) }
+    ensures { IfOk result (λ bs. bs.items ≡ forms.bodies_of r.now) }
 {
     let mut out = Vec::new(alloc);
     for (form, _) in r.forms().iter().enumerate() {
@@ -32,7 +31,7 @@ fn push_leaf(
     form: usize,
     body: Body,
 ) -> Result<(), AllocError>
-    ensures { OnOk result (out.new ≡ out.old ++ spec.leaves_in (spec.name_by (spec.instance_at r.now form)) body) }
+    ensures { OnOk result (out.new ≡ out.old ++ spec.leaves_in (forms.name_by (forms.instance_at r.now form)) body) }
 {
     match body {
         Body::Inner(_) => Ok(()),
@@ -169,7 +168,7 @@ fn parts_of(
     choices: &[Choice],
     bodies: &[FormBody],
 ) -> Result<Parts, AllocError>
-    requires { bodies.now ≡ spec.bodies_of r.now }
+    requires { bodies.now ≡ forms.bodies_of r.now }
     ensures term { IfOk result (λ p. p.term ≡ spec.program_term r.now choices.now) }
     ensures buffers { IfOk result (λ p. p.buffers ≡ spec.buffers_of r.now choices.now) }
     ensures entry { IfOk result (λ p. p.entry ≡ spec.entry_of r.now choices.now) }
@@ -179,10 +178,9 @@ fn parts_of(
     Ok(parts)
 }
 
-/// The draft of a program in which these are the choices, with no note.
-pub fn draft_of(alloc: Global, r: &Resolved<'_>, choices: &[Choice]) -> Result<Draft, AllocError>
-    ensures draft { IfOk result (λ d. spec.IsDraftOf r.now choices.now d) }
-    ensures notes { IfOk result (λ d. d.notes ≡ []) }
+// The draft of a program in which these are the choices, with no note.
+fn unnoted(alloc: Global, r: &Resolved<'_>, choices: &[Choice]) -> Result<Draft, AllocError>
+    ensures { IfOk result (λ d. spec.IsDraftOf r.now choices.now d) }
 {
     let bodies = bodies_of(alloc, r)?;
     let parts = parts_of(alloc, r, choices, bodies.as_slice())?;
@@ -196,12 +194,27 @@ pub fn draft_of(alloc: Global, r: &Resolved<'_>, choices: &[Choice]) -> Result<D
     })
 }
 
+fn with_notes(mut draft: Draft, notes: Notes) -> Draft
+    ensures term { result.term ≡ draft.term }
+    ensures buffers { result.buffers ≡ draft.buffers }
+    ensures leaves { result.leaves ≡ draft.leaves }
+    ensures entry { result.entry ≡ draft.entry }
+    ensures notes { result.notes ≡ notes }
+{
+    draft.notes = notes;
+    draft
+}
+
+/// The draft of a program in which this is chosen, with what is told of it as its notes.
+pub fn draft_of(alloc: Global, r: &Resolved<'_>, chosen: Chosen) -> Result<Draft, AllocError>
+    ensures draft { IfOk result (λ d. spec.IsDraftOf r.now chosen.choices d) }
+    ensures notes { IfOk result (λ d. d.notes ≡ chosen.notes) }
+{
+    let made = unnoted(alloc, r, chosen.choices.as_slice())?;
+    Ok(with_notes(made, chosen.notes))
+}
+
 /// Lets a draft go. Whoever calls this owes no proof of his own that all of its trees can be let go.
 pub fn drop_draft(draft: Draft) {
     drop(draft);
-}
-
-/// Lets go what a form does.
-pub fn drop_body(body: FormBody) {
-    drop(body);
 }

@@ -1,12 +1,12 @@
 //! The arguments of the entry: all of its arrays.
 
 ghost use Rattle.std.specs.Prelude.{◌≡◌, false, IfOk};
-ghost use Rattle.sq_spec_laws.specs.Spec.Works.{entry_arguments, whole as all_of};
+ghost use Rattle.sq_chosen.specs.SpecLaws.Spec.Works.{entry_arguments, whole as all_of};
 ghost use Rattle.sq_homes.specs.Drafts as spec;
 
 use sq_ast::Param;
+use sq_chosen::Resolved;
 use sq_ir::{Argument, Dims, whole};
-use sq_spec_laws::Resolved;
 use sqlite_items::{Items, at};
 use std::alloc::{AllocError, Global};
 

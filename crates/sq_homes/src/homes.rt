@@ -2,12 +2,12 @@
 
 ghost use Rattle.std.specs.Prelude.{◌≡◌, ◌+◌, ◌++◌, length, map, IfOk, OnOk};
 ghost use Rattle.std.specs.List.{range_with_len};
+ghost use Rattle.sq_chosen.specs.Arrays as arrays;
 ghost use Rattle.sq_homes.specs.Numbering as spec;
 
-use crate::choice::Choice;
-use crate::order::{BufferedParams, flag_at, locals_count, number_at};
+use crate::order::{BufferedParams, locals_count};
+use sq_chosen::{Choice, FormBody, flag_at, number_at};
 use sq_draft::{Home, Homes};
-use sq_spec_laws::FormBody;
 use sq_text::SpreadRule;
 use sqlite_items::Items;
 use std::alloc::{AllocError, Global};
@@ -38,8 +38,8 @@ pub fn behind(base: u32, n: usize) -> Result<u32, AllocError>
 }
 
 fn moved_home(base: u32, c: &Choice, params: &BufferedParams, i: usize) -> Result<Home, AllocError>
-    requires hoisted { params.now.hoisted ≡ spec.hoisted c.now }
-    requires others { params.now.others ≡ spec.others c.now }
+    requires hoisted { params.now.hoisted ≡ arrays.hoisted c.now }
+    requires others { params.now.others ≡ arrays.others c.now }
     ensures { IfOk result (λ h. h ≡ spec.moved_home base c.now i) }
 {
     let start = behind(base, params.hoisted.len())?;
@@ -53,8 +53,8 @@ fn moved_home(base: u32, c: &Choice, params: &BufferedParams, i: usize) -> Resul
 }
 
 fn home_of(base: u32, c: &Choice, params: &BufferedParams, i: usize) -> Result<Home, AllocError>
-    requires hoisted { params.now.hoisted ≡ spec.hoisted c.now }
-    requires others { params.now.others ≡ spec.others c.now }
+    requires hoisted { params.now.hoisted ≡ arrays.hoisted c.now }
+    requires others { params.now.others ≡ arrays.others c.now }
     ensures { IfOk result (λ h. h ≡ spec.home_of base c.now i) }
 {
     if flag_at(c.in_place.as_slice(), i) {
@@ -78,8 +78,8 @@ fn push_homes(
     i: usize,
     n: usize,
 ) -> Result<(), AllocError>
-    requires hoisted { params.now.hoisted ≡ spec.hoisted c.now }
-    requires others { params.now.others ≡ spec.others c.now }
+    requires hoisted { params.now.hoisted ≡ arrays.hoisted c.now }
+    requires others { params.now.others ≡ arrays.others c.now }
     ensures { OnOk result (out.new ≡ out.old ++ map (spec.home_of base c.now) (range_with_len i n)) }
 {
     if n == 0 {
@@ -107,8 +107,8 @@ fn push_numbers(out: &mut Items<u32>, first: u32, n: usize) -> Result<(), AllocE
 
 // How many buffers stand before the locals, of those that have this many before them.
 fn local_base(base: u32, c: &Choice, params: &BufferedParams) -> Result<u32, AllocError>
-    requires hoisted { params.now.hoisted ≡ spec.hoisted c.now }
-    requires others { params.now.others ≡ spec.others c.now }
+    requires hoisted { params.now.hoisted ≡ arrays.hoisted c.now }
+    requires others { params.now.others ≡ arrays.others c.now }
     ensures { IfOk result (λ n. n ≡ spec.local_base base c.now) }
 {
     let start = behind(base, params.hoisted.len())?;
@@ -130,8 +130,8 @@ pub fn form_homes(
     c: &Choice,
     params: &BufferedParams,
 ) -> Result<Homes, AllocError>
-    requires hoisted { params.now.hoisted ≡ spec.hoisted c.now }
-    requires others { params.now.others ≡ spec.others c.now }
+    requires hoisted { params.now.hoisted ≡ arrays.hoisted c.now }
+    requires others { params.now.others ≡ arrays.others c.now }
     ensures { IfOk result (λ h. h ≡ spec.form_homes base rule code body.now c.now) }
 {
     let mut homes = Items::new(alloc);

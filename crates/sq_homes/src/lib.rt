@@ -2,7 +2,6 @@
 #![tactic(auto)]
 
 mod buffers;
-mod choice;
 mod draft;
 mod entry;
 mod homes;
@@ -10,9 +9,5 @@ pub mod laws;
 mod names;
 mod order;
 
-pub use buffers::{array_size, choice_at};
-pub use choice::Choice;
-pub use draft::{draft_of, drop_body, drop_draft};
-pub use names::{form_number, instance_at, level_at, name_at, rule_at};
-pub use order::{flag_at, is_moved, number_at};
-pub use sq_draft::{any_lower, any_same};
+pub use draft::{draft_of, drop_draft};
+pub use sq_chosen::{Choice, Chosen};

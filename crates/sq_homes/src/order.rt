@@ -1,33 +1,13 @@
 //! The arrays of a form in the order of their buffers.
 
-ghost use Rattle.std.specs.Prelude.{◌≡◌, ◌+◌, ◌-◌, ◌==◌, ◌++◌, length, map, get_or, false, IfOk, OnOk};
+ghost use Rattle.std.specs.Prelude.{◌≡◌, ◌-◌, ◌==◌, ◌++◌, length, IfOk, OnOk};
 ghost use Rattle.std.specs.List.{filter, range_with_len};
-ghost use Rattle.sq_homes.specs.Numbering as spec;
+ghost use Rattle.sq_chosen.specs.Arrays as spec;
 
-use crate::choice::Choice;
+use sq_chosen::{Choice, is_moved, number_at};
 use sq_ir::Shape;
 use sqlite_items::Items;
 use std::alloc::{AllocError, Global};
-
-/// Whether a parameter is in place.
-pub fn flag_at(flags: &[bool], i: usize) -> bool
-    ensures { result ≡ get_or flags.now i false }
-{
-    match flags.get(i) {
-        Some(flag) => *flag,
-        None => false,
-    }
-}
-
-/// How many loops a parameter leaves.
-pub fn number_at(numbers: &[u32], i: usize) -> u32
-    ensures { result ≡ get_or numbers.now i 0 }
-{
-    match numbers.get(i) {
-        Some(n) => *n,
-        None => 0,
-    }
-}
 
 fn deepest(numbers: &[u32]) -> u32
     ensures { result ≡ spec.deepest numbers.now }
@@ -37,13 +17,6 @@ fn deepest(numbers: &[u32]) -> u32
     };
     let m = deepest(rest);
     if *n < m { m } else { *n }
-}
-
-/// Whether a parameter is neither in place nor leaves a loop.
-pub fn is_moved(c: &Choice, i: usize) -> bool
-    ensures { result ≡ spec.is_moved c.now i }
-{
-    !flag_at(c.in_place.as_slice(), i) && number_at(c.leaves.as_slice(), i) == 0
 }
 
 // Of so many parameters from the i-th on those that are neither in place nor leave a loop.

@@ -21,11 +21,12 @@ use Rattle.sq_tree.specs.Runs.{TellsFirst}
 use Rattle.sq_root.specs.Places.{Fits}
 use Rattle.sq_plan_laws.specs.Codes as codes
 use Rattle.sq_plan_laws.specs.Entry.{EndsSo}
-use Rattle.sq_plan_good.specs.Homes.Drafts.{args_of, bodies_of, buffers_of, entry_of, IsDraftOf}
+use Rattle.sq_plan_good.specs.Homes.Chosen.Forms.{bodies_of}
+use Rattle.sq_plan_good.specs.Homes.Drafts.{args_of, buffers_of, entry_of, IsDraftOf}
 use Rattle.sq_plan_good.specs.Term.Terms.{body_in}
-use Rattle.sq_plan_good.specs.Homes.declared.choice.Choice.{Choice}
+use Rattle.sq_plan_good.specs.Homes.Chosen.declared.choice.Choice.{Choice}
 use Rattle.sq_plan_good.specs.DraftLaws.Choosing.{MayBeChosen}
-use Rattle.sq_plan_good.specs.DraftLaws.Homes.{EntriesAreWhole}
+use Rattle.sq_plan_good.specs.DraftLaws.HomesFit.{EntriesAreWhole}
 use Rattle.sq_plan_good.specs.DraftLaws.Owned.{DraftsOwn}
 use Rattle.sq_plan_good.specs.DraftLaws.Opened.{WalkedIsThere}
 use Rattle.sq_plan_good.specs.Good.{shapes_in, IsInput}

@@ -29,7 +29,8 @@ use Rattle.sq_pass_laws.specs.Pipe.Greedy.{overlapped}
 use Rattle.sq_pass_laws.proofs.PipePrograms.{overlaps_may_be_chosen}
 use Rattle.sq_plan_good.specs.DraftLaws.Choosing.{Walked, MayBeChosen}
 use Rattle.sq_plan_good.specs.Homes.Begun.{Begun, calls_of, child_in}
-use Rattle.sq_plan_good.specs.Homes.Drafts.{bodies_of, homes_of, entry_of, choice_in}
+use Rattle.sq_plan_good.specs.Homes.Chosen.Forms.{bodies_of, choice_in}
+use Rattle.sq_plan_good.specs.Homes.Drafts.{homes_of, entry_of}
 use Rattle.sq_plan_good.specs.Listed.{IsListed}
 use Rattle.sq_plan_good.specs.Loops.{stand_sum, starts_of}
 use Rattle.sq_plan_good.specs.Room.{machine_setting}

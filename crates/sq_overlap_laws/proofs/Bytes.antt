@@ -31,9 +31,11 @@ use Rattle.sq_placed.specs.Trees.{local_buffers}
 use Rattle.sq_pass_laws.specs.Term.Terms.{buffer_or, body_in, homes_in}
 use Rattle.sq_plan_good.specs.DraftLaws.PlanLaws.Buffers.{home_buffer}
 use Rattle.sq_plan_good.specs.DraftLaws.Choosing.{Walked, MayBeChosen}
-use Rattle.sq_plan_good.specs.Homes.declared.choice.Choice.{Choice}
-use Rattle.sq_plan_good.specs.Homes.Numbering.{left_by, array_size, home_of, local_base, locals_count}
-use Rattle.sq_plan_good.specs.Homes.Drafts.{bodies_of, homes_of, entry_of, choice_in}
+use Rattle.sq_plan_good.specs.Homes.Chosen.declared.choice.Choice.{Choice}
+use Rattle.sq_plan_good.specs.Homes.Chosen.Arrays.{left_by, array_size, locals_count}
+use Rattle.sq_plan_good.specs.Homes.Numbering.{home_of, local_base}
+use Rattle.sq_plan_good.specs.Homes.Chosen.Forms.{bodies_of, choice_in}
+use Rattle.sq_plan_good.specs.Homes.Drafts.{homes_of, entry_of}
 use Rattle.sq_plan_good.specs.Sums.{either_buffer, params_from, brought}
 use Rattle.sq_plan_good.proofs.DraftLaws.Entry.{entries_have_buffers}
 use Rattle.sq_plan_good.proofs.DraftLaws.Forms.{body_at, body_there, resolving, run_of}

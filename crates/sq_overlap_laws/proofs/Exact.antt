@@ -23,8 +23,8 @@ use Rattle.sq_pass_laws.specs.Term.Stands as stands
 use Rattle.sq_pass_laws.specs.Term.Terms.{body_in}
 use Rattle.sq_plan_good.specs.DraftLaws.Choosing.{Walked}
 use Rattle.sq_plan_good.specs.Homes.Begun.{Begun, calls_of, child_in}
-use Rattle.sq_plan_good.specs.Homes.Drafts.{instance_at, instance_by, level_by, rule_by}
-use Rattle.sq_plan_good.specs.Homes.Drafts.{bodies_of}
+use Rattle.sq_plan_good.specs.Homes.Chosen.Forms.{instance_at, instance_by, level_by, rule_by}
+use Rattle.sq_plan_good.specs.Homes.Chosen.Forms.{bodies_of}
 use Rattle.sq_plan_good.specs.Listed.{IsListed}
 use Rattle.sq_plan_good.proofs.DraftLaws.Forms.{resolving}
 use Rattle.sq_plan_good.proofs.DraftLaws.Programs.{bodies_are_tables}

@@ -20,7 +20,7 @@ use Rattle.sq_pass_laws.specs.Pipe.Runs.{Marks, is_marked, mark_below, unmarked,
 use Rattle.sq_pass_laws.specs.Pipe.Runs.{marks_called, marks_by, marks_of}
 use Rattle.sq_plan_good.specs.DraftLaws.Choosing.{Walked}
 use Rattle.sq_plan_good.specs.Homes.Begun.{calls_of, child_in}
-use Rattle.sq_plan_good.specs.Homes.Drafts.{instance_at, instance_by, level_by, rule_by}
+use Rattle.sq_plan_good.specs.Homes.Chosen.Forms.{instance_at, instance_by, level_by, rule_by}
 use Rattle.sq_plan_good.specs.Listed.{IsListed}
 use Rattle.sq_plan_good.proofs.DraftLaws.Forms.{resolving}
 use Rattle.sq_plan_good.proofs.DraftLaws.Programs.{bodies_are_tables}

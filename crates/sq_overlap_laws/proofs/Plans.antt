@@ -21,9 +21,10 @@ use Rattle.sq_pass_laws.specs.Pipe.Greedy.{sizes_of as bytes_in}
 use Rattle.sq_pass_laws.proofs.PipePrograms.{overlaps_may_be_chosen}
 use Rattle.sq_plan_good.specs.DraftLaws.Choosing.{Walked, MayBeChosen}
 use Rattle.sq_plan_good.specs.DraftLaws.Memories.{plan_node}
-use Rattle.sq_plan_good.specs.Homes.declared.choice.Choice.{Choice}
-use Rattle.sq_plan_good.specs.Homes.Numbering.{left_by, array_size, others, standing}
-use Rattle.sq_plan_good.specs.Homes.Drafts.{IsDraftOf, buffers_of, buffer_at, choice_in, no_choice}
+use Rattle.sq_plan_good.specs.Homes.Chosen.declared.choice.Choice.{Choice}
+use Rattle.sq_plan_good.specs.Homes.Chosen.Arrays.{left_by, array_size, others, standing}
+use Rattle.sq_plan_good.specs.Homes.Chosen.Forms.{choice_in, no_choice}
+use Rattle.sq_plan_good.specs.Homes.Drafts.{IsDraftOf, buffers_of, buffer_at}
 use Rattle.sq_plan_good.specs.Room.{machine_setting, sizes_of, callers_top, level_top, FormsEnd}
 use Rattle.sq_plan_good.proofs.DraftLaws.Forms.{body_at, body_there, resolving}
 use Rattle.sq_plan_good.proofs.DraftLaws.Hoisted.{IsForm, is_form}

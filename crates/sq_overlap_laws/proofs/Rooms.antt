@@ -12,8 +12,8 @@ use Rattle.sq_spec.proofs.FormLaws.AnswerHold.{forms_are_found, forms_callers_fi
 use Rattle.sq_spec.specs.declared.body.FormBody.{FormBody}
 use Rattle.sq_spec.specs.declared.resolved.Resolved.{Resolved}
 use Rattle.sq_spec_laws.specs.Needs.{Ended, end_at, callers_end}
-use Rattle.sq_plan_good.specs.Homes.declared.choice.Choice.{Choice}
-use Rattle.sq_plan_good.specs.Homes.Drafts.{choice_in, bodies_of}
+use Rattle.sq_plan_good.specs.Homes.Chosen.declared.choice.Choice.{Choice}
+use Rattle.sq_plan_good.specs.Homes.Chosen.Forms.{choice_in, bodies_of}
 use Rattle.sq_plan_good.specs.DraftLaws.Choosing.{Walked}
 use Rattle.sq_plan_good.proofs.DraftLaws.Forms.{body_at, body_there, resolving}
 use Rattle.sq_plan_good.proofs.DraftLaws.Hoisting.{bodies_many}

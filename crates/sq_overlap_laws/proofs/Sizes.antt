@@ -23,9 +23,9 @@ use Rattle.sq_spec.specs.declared.body.FormBody.{FormBody}
 use Rattle.sq_spec.specs.declared.resolved.Resolved.{Resolved}
 use Rattle.sq_spec.specs.Works.{param_shapes, local_shapes, shapes_of}
 use Rattle.sq_spec_laws.specs.Needs.{size_of, params_size, locals_size, variant_for, form_params, own_size}
-use Rattle.sq_plan_good.specs.Homes.declared.choice.Choice.{Choice}
-use Rattle.sq_plan_good.specs.Homes.Numbering.{left_by, is_moved, others, standing, array_size, shape_size}
-use Rattle.sq_plan_good.specs.Homes.Drafts.{choice_in, no_choice}
+use Rattle.sq_plan_good.specs.Homes.Chosen.declared.choice.Choice.{Choice}
+use Rattle.sq_plan_good.specs.Homes.Chosen.Arrays.{left_by, is_moved, others, standing, array_size, shape_size}
+use Rattle.sq_plan_good.specs.Homes.Chosen.Forms.{choice_in, no_choice}
 use Rattle.sq_plan_good.specs.DraftLaws.Choosing.{Walked}
 use Rattle.sq_plan_good.proofs.DraftLaws.Forms.{body_at, resolving, run_of}
 use Rattle.sq_plan_good.proofs.DraftLaws.Found.{found_plain}

@@ -16,8 +16,8 @@ use Rattle.sq_forms.specs.declared.form.Form.{Form}
 use Rattle.sq_spec.specs.declared.resolved.Resolved.{Resolved}
 use Rattle.sq_spec_laws.specs.Needs.{size_of, form_params, own_size}
 use Rattle.sq_ir.specs.StateLaws.{AreOne}
-use Rattle.sq_plan_good.specs.Homes.Numbering.{left_by}
-use Rattle.sq_plan_good.specs.Homes.Drafts.{choice_in}
+use Rattle.sq_plan_good.specs.Homes.Chosen.Arrays.{left_by}
+use Rattle.sq_plan_good.specs.Homes.Chosen.Forms.{choice_in}
 use Rattle.sq_plan_good.specs.DraftLaws.Choosing.{Walked}
 use Rattle.sq_pass_laws.specs.Hoist.Choices.{hoisted}
 use Rattle.sq_pass_laws.specs.Pipe.declared.candidate.Candidate.{Candidate}

@@ -15,9 +15,11 @@ use Rattle.sq_cells.specs.Work.{Buffer}
 use Rattle.sq_draft_laws.specs.PlanLaws.Calling.{place_of}
 use Rattle.sq_draft_laws.specs.Term.Terms.{no_homes, homes_in}
 use Rattle.sq_draft_laws.specs.ProgramLaws.Piped.{IsDoubled}
-use Rattle.sq_pipe.specs.Homes.declared.choice.Choice.{Choice}
-use Rattle.sq_pipe.specs.Homes.Numbering.{left_by, home_of, hoisted as left_first, others, position, form_homes}
-use Rattle.sq_pipe.specs.Homes.Drafts.{bodies_of, homes_of, choice_in, no_choice, instance_at, rule_by}
+use Rattle.sq_draft_laws.specs.Homes.Chosen.declared.choice.Choice.{Choice}
+use Rattle.sq_draft_laws.specs.Homes.Chosen.Arrays.{left_by, hoisted as left_first, others}
+use Rattle.sq_draft_laws.specs.Homes.Numbering.{home_of, position, form_homes}
+use Rattle.sq_draft_laws.specs.Homes.Chosen.Forms.{bodies_of, choice_in, no_choice, instance_at, rule_by}
+use Rattle.sq_draft_laws.specs.Homes.Drafts.{homes_of}
 use Rattle.sq_draft_laws.proofs.Hoisting.{no_homes_at, overlaps_are}
 use Rattle.sq_draft_laws.proofs.Standing.{forms_stand}
 use Rattle.sq_pipe.specs.Hoist.Choices.{hoisted}

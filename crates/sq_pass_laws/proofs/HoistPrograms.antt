@@ -28,9 +28,11 @@ use Rattle.sq_draft_laws.specs.TermLaws.Held.{AreHeldRows}
 use Rattle.sq_draft_laws.specs.TermLaws.Overlapping.{IsSuited, OverlapsStand}
 use Rattle.sq_draft_laws.proofs.TermLaws.Overlaps.{none_overlap}
 use Rattle.sq_draft_laws.specs.ProgramLaws.Held.{loops_of, LoopHolds, HoldsFit}
-use Rattle.sq_pipe.specs.Homes.declared.choice.Choice.{Choice}
-use Rattle.sq_pipe.specs.Homes.Numbering.{left_by, home_of, hoisted as left_first, others, position, form_homes}
-use Rattle.sq_pipe.specs.Homes.Drafts.{bodies_of, homes_of, choice_in, no_choice, instance_at, rule_by}
+use Rattle.sq_draft_laws.specs.Homes.Chosen.declared.choice.Choice.{Choice}
+use Rattle.sq_draft_laws.specs.Homes.Chosen.Arrays.{left_by, hoisted as left_first, others}
+use Rattle.sq_draft_laws.specs.Homes.Numbering.{home_of, position, form_homes}
+use Rattle.sq_draft_laws.specs.Homes.Chosen.Forms.{bodies_of, choice_in, no_choice, instance_at, rule_by}
+use Rattle.sq_draft_laws.specs.Homes.Drafts.{homes_of}
 use Rattle.sq_draft_laws.specs.Choosing.{Walked, IsChosenFor, left_in, MayBeChosen, NoneOverlaps}
 use Rattle.sq_draft_laws.proofs.Hoisting.{no_item, no_homes_at, left_within, none_pipes}
 use Rattle.sq_draft_laws.proofs.Programs.{bodies_are_tables}

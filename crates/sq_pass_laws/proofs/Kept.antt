@@ -23,9 +23,10 @@ use Rattle.sq_draft_laws.specs.TermLaws.Overlapping.{OverlapsStand}
 use Rattle.sq_draft_laws.proofs.TermLaws.Overlaps.{none_overlap}
 use Rattle.sq_draft_laws.specs.ProgramLaws.Held.{HoldsFit, UnheldFits}
 use Rattle.sq_draft_laws.specs.ProgramLaws.Piped.{PipesFit, UnpipedFits}
-use Rattle.sq_pipe.specs.Homes.declared.choice.Choice.{Choice}
-use Rattle.sq_pipe.specs.Homes.Numbering.{left_by}
-use Rattle.sq_pipe.specs.Homes.Drafts.{bodies_of, homes_of, choice_in}
+use Rattle.sq_draft_laws.specs.Homes.Chosen.declared.choice.Choice.{Choice}
+use Rattle.sq_draft_laws.specs.Homes.Chosen.Arrays.{left_by}
+use Rattle.sq_draft_laws.specs.Homes.Chosen.Forms.{bodies_of, choice_in}
+use Rattle.sq_draft_laws.specs.Homes.Drafts.{homes_of}
 use Rattle.sq_draft_laws.specs.Choosing.{left_in, MayBeChosen, NoneOverlaps}
 use Rattle.sq_draft_laws.proofs.Hoisting.{no_homes_at, left_within, none_pipes}
 use Rattle.sq_pass_laws.proofs.HoistPrograms.{held_chosen, params_suited}

@@ -20,8 +20,8 @@ use Rattle.sq_draft_laws.specs.ProgramLaws.Held.{HoldsFit}
 use Rattle.sq_draft_laws.specs.ProgramLaws.Piped.{IsDoubled, MayOverlap, PipesFit}
 use Rattle.sq_draft_laws.proofs.ProgramLaws.Loops.{each_both, each_from, each_map}
 use Rattle.sq_draft_laws.proofs.ProgramLaws.Unpiped.{pipes_fit_stand}
-use Rattle.sq_pipe.specs.Homes.declared.choice.Choice.{Choice}
-use Rattle.sq_pipe.specs.Homes.Drafts.{bodies_of, choice_in}
+use Rattle.sq_draft_laws.specs.Homes.Chosen.declared.choice.Choice.{Choice}
+use Rattle.sq_draft_laws.specs.Homes.Chosen.Forms.{bodies_of, choice_in}
 use Rattle.sq_draft_laws.specs.Choosing.{Walked, IsChosenFor, MayBeChosen}
 use Rattle.sq_draft_laws.proofs.Hoisting.{at_index, bodies_many, no_item}
 use Rattle.sq_draft_laws.proofs.Programs.{bodies_are_tables}

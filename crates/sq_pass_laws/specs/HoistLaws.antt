@@ -3,7 +3,7 @@ use Rattle.sq_spec.specs.declared.resolved.Resolved.{Resolved}
 use Rattle.sq_spec.specs.Bodies.{body_of}
 use Rattle.sq_draft_laws.specs.Term.Terms.{homes_in}
 use Rattle.sq_draft_laws.specs.ProgramLaws.Held.{HoldsFit}
-use Rattle.sq_pipe.specs.Homes.Drafts.{homes_of}
+use Rattle.sq_draft_laws.specs.Homes.Drafts.{homes_of}
 use Rattle.sq_draft_laws.specs.Choosing.{Walked, MayBeChosen, NoneOverlaps}
 use Rattle.sq_pipe.specs.Hoist.Choices.{hoisted}
 use Rattle.sq_pass_laws.specs.Times.{BodyIsBegun}

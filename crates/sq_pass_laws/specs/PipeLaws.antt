@@ -4,7 +4,7 @@ use Rattle.sq_spec.specs.Bodies.{body_of}
 use Rattle.sq_draft_laws.specs.Term.Terms.{homes_in}
 use Rattle.sq_draft_laws.specs.ProgramLaws.Held.{HoldsFit}
 use Rattle.sq_draft_laws.specs.ProgramLaws.Piped.{PipesFit}
-use Rattle.sq_pipe.specs.Homes.Drafts.{homes_of}
+use Rattle.sq_draft_laws.specs.Homes.Drafts.{homes_of}
 use Rattle.sq_draft_laws.specs.Choosing.{Walked, MayBeChosen}
 use Rattle.sq_pipe.specs.Greedy.{overlapped}
 

@@ -5,8 +5,6 @@
 ghost use Rattle.sq_pass_laws.specs.HoistLaws.{TablesHaveTimes, ChoicesAreHoisted, HoistedOverlapNothing, ChoicesHold};
 ghost use Rattle.sq_pass_laws.specs.PipeLaws.{OverlapsMayBeChosen, OverlapsHold, OverlapsFit};
 
-pub use sq_pipe::{hoist, overlap_transfers};
-
 /// The tables of a program's forms have a row for each time that a statement is begun.
 pub fn tables_have_times()
     ensures { TablesHaveTimes }

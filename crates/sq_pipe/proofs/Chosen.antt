@@ -1,7 +1,7 @@
 -- What is chosen for a form that is there, and for one that isn't.
 use Rattle.std.proofs.Common.{◌≡◌, ℕ, zero, suc, List, [], ◌∷◌, Some, None, slice_get, refl}
-use Rattle.sq_hoist.specs.Homes.declared.choice.Choice.{Choice}
-use Rattle.sq_hoist.specs.Homes.Drafts.{no_choice, choice_in}
+use Rattle.sq_hoist.specs.Chosen.declared.choice.Choice.{Choice}
+use Rattle.sq_hoist.specs.Chosen.Forms.{no_choice, choice_in}
 
 pub none_chosen : (choices : List Choice) (k : ℕ) → slice_get choices k ≡ None → choice_in choices k ≡ no_choice
 none_chosen [] k e = refl

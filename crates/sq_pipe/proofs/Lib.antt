@@ -7,4 +7,3 @@ pub mod Ends
 pub mod Gets
 -- Lemmas of crates below, passed on.
 pub use Rattle.sq_hoist.proofs as Hoist
-pub use Rattle.sq_hoist.proofs.Tables

@@ -5,9 +5,9 @@ use Rattle.std.proofs.lemmas.Bool.Decides.{nat_tests}
 use Rattle.std.proofs.lemmas.List.{get_or_past}
 use Rattle.std.specs.List.{filter, range_with_len}
 use Rattle.sq_spec.specs.declared.body.FormBody.{FormBody}
-use Rattle.sq_hoist.specs.Homes.declared.choice.Choice.{Choice}
-use Rattle.sq_hoist.specs.Homes.Numbering.{deepest, left_by, is_moved, params_where, hoisted_from, hoisted, others, again}
-use Rattle.sq_hoist.specs.Homes.Numbering.{locals_count, standing, array_size}
+use Rattle.sq_hoist.specs.Chosen.declared.choice.Choice.{Choice}
+use Rattle.sq_hoist.specs.Chosen.Arrays.{deepest, left_by, is_moved, params_where, hoisted_from, hoisted, others, again}
+use Rattle.sq_hoist.specs.Chosen.Arrays.{locals_count, standing, array_size}
 use Rattle.sq_pipe.specs.Greedy.{sizes_of}
 use Rattle.sq_pipe.specs.Sums.{has_buffer, single_bytes}
 

@@ -12,9 +12,9 @@ use Rattle.sq_spec.specs.declared.body.Body.TheVariants as body
 use Rattle.sq_spec.specs.declared.body.FormBody.{FormBody}
 use Rattle.sq_spec.specs.declared.resolved.Resolved.{Resolved}
 use Rattle.sq_hoist.specs.SpecLaws.Needs.{Ended, callers_end}
-use Rattle.sq_hoist.specs.Homes.declared.choice.Choice.{Choice}
-use Rattle.sq_hoist.specs.Homes.Numbering.{standing, others, array_size}
-use Rattle.sq_hoist.specs.Homes.Drafts.{bodies_of, choice_in}
+use Rattle.sq_hoist.specs.Chosen.declared.choice.Choice.{Choice}
+use Rattle.sq_hoist.specs.Chosen.Arrays.{standing, others, array_size}
+use Rattle.sq_hoist.specs.Chosen.Forms.{bodies_of, choice_in}
 use Rattle.sq_hoist.specs.Choices.{hoisted}
 use Rattle.sq_pipe.specs.declared.candidate.Candidate.{Candidate}
 use Rattle.sq_pipe.specs.declared.room.Room.{Room}

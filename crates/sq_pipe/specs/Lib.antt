@@ -5,5 +5,4 @@ pub mod Sums
 pub mod Notes
 -- Definitions of crates below, passed on.
 pub use Rattle.sq_hoist.specs as Hoist
-pub use Rattle.sq_hoist.specs.Homes
-pub use Rattle.sq_hoist.specs.Tables
+pub use Rattle.sq_hoist.specs.Chosen

@@ -11,7 +11,7 @@ use Rattle.sq_text.specs.Places.{is_before}
 use Rattle.sq_ir.specs.declared.plan.Note.{Note}
 use Rattle.sq_ir.specs.declared.plan.Note.TheVariants.{Overlap}
 use Rattle.sq_spec.specs.declared.resolved.Resolved.{Resolved}
-use Rattle.sq_hoist.specs.Homes.Drafts.{instance_at, name_by}
+use Rattle.sq_hoist.specs.Chosen.Forms.{instance_at, name_by}
 use Rattle.sq_hoist.specs.declared.sites.Site.{Site}
 use Rattle.sq_hoist.specs.Choices.{sites_of}
 use Rattle.sq_hoist.specs.Notes.{no_place, site_notes}

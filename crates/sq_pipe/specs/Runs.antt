@@ -22,7 +22,7 @@ use Rattle.sq_spec.specs.declared.body.Body.{Body}
 use Rattle.sq_spec.specs.declared.body.Body.TheVariants as body
 use Rattle.sq_spec.specs.declared.resolved.Resolved.{Resolved}
 use Rattle.sq_spec.specs.Spreads.{any_of, is_spread}
-use Rattle.sq_hoist.specs.Homes.Drafts.{instance_at, level_by, rule_by}
+use Rattle.sq_hoist.specs.Chosen.Forms.{instance_at, level_by, rule_by}
 use Rattle.sq_hoist.specs.Choices.{body_at}
 use Rattle.sq_pipe.specs.declared.marks.Flags.{Flags}
 

@@ -5,8 +5,8 @@ use Rattle.std.specs.List.{filter, range_with_len}
 use Rattle.sq_forms.specs.declared.form.Form.{Form}
 use Rattle.sq_spec.specs.declared.body.FormBody.{FormBody}
 use Rattle.sq_hoist.specs.SpecLaws.Needs.{Ended}
-use Rattle.sq_hoist.specs.Homes.declared.choice.Choice.{Choice}
-use Rattle.sq_hoist.specs.Homes.Numbering.{left_by}
+use Rattle.sq_hoist.specs.Chosen.declared.choice.Choice.{Choice}
+use Rattle.sq_hoist.specs.Chosen.Arrays.{left_by}
 use Rattle.sq_pipe.specs.Greedy.{sizes_of}
 
 -- an array that isn't in place, or leaves a loop

@@ -1,7 +1,7 @@
 //! Which loops overlap their transfers.
 
 ghost use Rattle.std.specs.Prelude.{◌≡◌, ◌^◌, ◌∷◌, [], ◌++◌, get_or, IfOk, OnOk};
-ghost use Rattle.sq_hoist.specs.Homes.Drafts as drafts;
+ghost use Rattle.sq_hoist.specs.Chosen.Forms as forms;
 ghost use Rattle.sq_hoist.specs.Choices as hoist;
 ghost use Rattle.sq_pipe.specs.Runs as runs;
 ghost use Rattle.sq_pipe.specs.Greedy as spec;
@@ -53,7 +53,7 @@ fn children_at(r: &Resolved<'_>, marks: &[Items<bool>], form: usize) -> u32
 // The candidates among a form's statements.
 fn push_body(out: &mut Items<Candidate>, caller: Caller<'_>, body: &Body) -> Result<(), AllocError>
     ensures { OnOk result (out.new ≡ out.old ++ spec.candidates_in
-        (λ f. (drafts.choice_in caller.entry.choices.now f).leaves) caller.entry.children caller.entry.form body.now) }
+        (λ f. (forms.choice_in caller.entry.choices.now f).leaves) caller.entry.children caller.entry.form body.now) }
 {
     match body {
         Body::Leaf(_) => Ok(()),
@@ -81,9 +81,9 @@ fn push_known(
     body: &FormBody,
 ) -> Result<(), AllocError>
     ensures rooms { OnOk result (out.new ≡ out.old ++ spec.room_of r.now body.now
-        (drafts.choice_in chosen.entry.choices.now form) (get_or chosen.entry.marks.now form []) ∷ []) }
+        (forms.choice_in chosen.entry.choices.now form) (get_or chosen.entry.marks.now form []) ∷ []) }
     ensures candidates { OnOk result (candidates.new ≡ candidates.old ++ spec.candidates_in
-        (λ f. (drafts.choice_in chosen.entry.choices.now f).leaves)
+        (λ f. (forms.choice_in chosen.entry.choices.now f).leaves)
         (runs.most_children (get_or chosen.entry.marks.now form []) 0 r.now.machine.now.nodes 0) form body.now.body) }
 {
     let marks = marks_at(chosen.marks, form);
@@ -108,9 +108,9 @@ fn push_form(
     form: usize,
 ) -> Result<(), AllocError>
     ensures rooms { OnOk result (out.new ≡ out.old ++ spec.room_of r.now (hoist.body_at r.now form)
-        (drafts.choice_in chosen.entry.choices.now form) (get_or chosen.entry.marks.now form []) ∷ []) }
+        (forms.choice_in chosen.entry.choices.now form) (get_or chosen.entry.marks.now form []) ∷ []) }
     ensures candidates { OnOk result (candidates.new ≡ candidates.old ++ spec.candidates_in
-        (λ f. (drafts.choice_in chosen.entry.choices.now f).leaves)
+        (λ f. (forms.choice_in chosen.entry.choices.now f).leaves)
         (runs.most_children (get_or chosen.entry.marks.now form []) 0 r.now.machine.now.nodes 0) form
         (hoist.body_at r.now form).body) }
 {
@@ -128,10 +128,10 @@ struct Known {
 }
 
 fn known_of(alloc: Global, r: &Resolved<'_>, chosen: Chosen<'_>) -> Result<Known, AllocError>
-    ensures rooms { IfOk result (λ k. k.rooms ≡ spec.rooms_by r.now chosen.entry.choices.now 0 (drafts.bodies_of r.now)
+    ensures rooms { IfOk result (λ k. k.rooms ≡ spec.rooms_by r.now chosen.entry.choices.now 0 (forms.bodies_of r.now)
         chosen.entry.marks.now) }
     ensures candidates { IfOk result (λ k. k.candidates ≡ spec.candidates_by r.now chosen.entry.choices.now 0
-        (drafts.bodies_of r.now) chosen.entry.marks.now) }
+        (forms.bodies_of r.now) chosen.entry.marks.now) }
 {
     let mut rooms = Items::new(alloc);
     let mut candidates = Items::new(alloc);

@@ -1,4 +1,4 @@
-//! From a draft to one in which the transfers of loops overlap with their work.
+//! Which loops overlap their transfers with work.
 #![tactic(auto)]
 
 mod ahead;
@@ -15,5 +15,5 @@ mod room;
 mod sizes;
 
 pub use candidate::Candidate;
-pub use overlapping::overlap_transfers;
-pub use sq_hoist::hoist;
+pub use overlapping::overlapped;
+pub use sq_hoist::hoisted;

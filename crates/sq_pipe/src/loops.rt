@@ -3,7 +3,7 @@
 ghost use Rattle.std.specs.Prelude.{◌≡◌, ◌||◌, ◌++◌, nat_le, nat_lt, map, OnOk};
 ghost use Rattle.std.specs.List.{list_all};
 ghost use Rattle.std.specs.Option.{option_copied};
-ghost use Rattle.sq_hoist.specs.Homes.Drafts.{choice_in};
+ghost use Rattle.sq_hoist.specs.Chosen.Forms.{choice_in};
 ghost use Rattle.sq_pipe.specs.Candidates as spec;
 ghost use Rattle.sq_spec.specs.Spreads as spreads;
 

@@ -2,7 +2,7 @@
 
 ghost use Rattle.std.specs.Prelude.{◌≡◌, ◌∷◌, [], ◌++◌, get_or, take, drop, IfOk, OnOk};
 ghost use Rattle.sq_ir.specs.declared.plan.Note.TheVariants as note;
-ghost use Rattle.sq_hoist.specs.Homes.Drafts as drafts;
+ghost use Rattle.sq_hoist.specs.Chosen.Forms as forms;
 ghost use Rattle.sq_hoist.specs.Notes as hoist;
 ghost use Rattle.sq_pipe.specs.Notes as spec;
 
@@ -21,7 +21,7 @@ fn push_overlap(
     c: Candidate,
 ) -> Result<(), AllocError>
     ensures { OnOk result (out.new ≡ out.old ++ note.Overlap c.place
-        (drafts.name_by (drafts.instance_at r.now c.caller)) ∷ []) }
+        (forms.name_by (forms.instance_at r.now c.caller)) ∷ []) }
 {
     let instance = name_at(alloc, r, c.caller)?;
     out.push(Note::Overlap {

@@ -1,7 +1,7 @@
 //! The bytes of the buffers of a form.
 
 ghost use Rattle.std.specs.Prelude.{◌≡◌, ◌+◌, if◌then◌else◌, IfOk};
-ghost use Rattle.sq_hoist.specs.Homes.Numbering as numbering;
+ghost use Rattle.sq_hoist.specs.Chosen.Arrays as arrays;
 ghost use Rattle.sq_pipe.specs.Sums as sums;
 ghost use Rattle.sq_pipe.specs.Greedy as spec;
 
@@ -41,7 +41,7 @@ fn single_bytes(body: &FormBody, c: &Choice) -> Result<u64, AllocError>
 
 /// Of those that a loop that overlaps its transfers has twice, each once.
 pub fn moved_bytes(body: &FormBody, c: &Choice) -> Result<u64, AllocError>
-    ensures { IfOk result (λ n. n ≡ spec.sizes_of body.now (numbering.others c.now)) }
+    ensures { IfOk result (λ n. n ≡ spec.sizes_of body.now (arrays.others c.now)) }
 {
     let shapes = body.arrays.as_slice();
     let mut sum: u64 = 0;
@@ -62,8 +62,8 @@ fn again(c: &Choice, moved: u64) -> u64
 /// Of all buffers; `moved`: of those that a loop that overlaps its transfers has twice, each once.
 #[tactic(auto, using(crate::proofs::Standing::standing_bytes))]
 pub fn own_bytes(body: &FormBody, c: &Choice, moved: u64) -> Result<u64, AllocError>
-    requires { moved ≡ spec.sizes_of body.now (numbering.others c.now) }
-    ensures { IfOk result (λ n. n ≡ spec.sizes_of body.now (numbering.standing body.now c.now)) }
+    requires { moved ≡ spec.sizes_of body.now (arrays.others c.now) }
+    ensures { IfOk result (λ n. n ≡ spec.sizes_of body.now (arrays.standing body.now c.now)) }
 {
     if body.arrays.len() < c.in_place.len() {
         return Err(AllocError);

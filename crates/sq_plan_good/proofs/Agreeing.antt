@@ -18,11 +18,11 @@ use Rattle.sq_placed.specs.declared.home.Homes.{Homes}
 use Rattle.sq_placed.specs.Trees.{callee_node}
 use Rattle.sq_term.specs.Stands as stands
 use Rattle.sq_term.specs.Stands.{Each, none, more}
-use Rattle.sq_pipe.specs.Homes.declared.choice.Choice.{Choice}
-use Rattle.sq_pipe.specs.Homes.Drafts.{bodies_of}
+use Rattle.sq_draft_laws.specs.Homes.Chosen.declared.choice.Choice.{Choice}
+use Rattle.sq_draft_laws.specs.Homes.Chosen.Forms.{bodies_of}
 use Rattle.sq_draft_laws.specs.Choosing.{Walked}
 use Rattle.sq_draft_laws.proofs.Standing.{map_length}
-use Rattle.sq_pipe.specs.Homes.Begun.{Begun, calls_of, child_in}
+use Rattle.sq_draft_laws.specs.Homes.Begun.{Begun, calls_of, child_in}
 use Rattle.sq_plan_good.specs.Listed.{IsListed}
 use Rattle.sq_plan_good.specs.Sums.{greatest, here, worth, table_sum}
 use Rattle.sq_plan_good.specs.Needed.{KeepInPlace, NeedsAreSums, SumsAreNeeds}

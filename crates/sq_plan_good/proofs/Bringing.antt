@@ -21,12 +21,14 @@ use Rattle.sq_placed.specs.Tables.{placed_locals, locals_of}
 use Rattle.sq_placed.specs.Trees.{local_buffers}
 use Rattle.sq_term.specs.Terms.{body_in, homes_in, buffer_or}
 use Rattle.sq_draft_laws.specs.PlanLaws.Buffers.{home_buffer}
-use Rattle.sq_pipe.specs.Homes.declared.choice.Choice.{Choice}
-use Rattle.sq_pipe.specs.Homes.Numbering.{deepest, left_by, is_moved, hoisted_from, hoisted, others, again, locals_count}
-use Rattle.sq_pipe.specs.Homes.Numbering.{standing, array_size, local_base, home_of}
-use Rattle.sq_pipe.specs.Homes.Drafts.{bodies_of, homes_of, buffers_of, buffer_at, choice_in}
+use Rattle.sq_draft_laws.specs.Homes.Chosen.declared.choice.Choice.{Choice}
+use Rattle.sq_draft_laws.specs.Homes.Chosen.Arrays.{deepest, left_by, is_moved, hoisted_from, hoisted, others, again, locals_count}
+use Rattle.sq_draft_laws.specs.Homes.Chosen.Arrays.{standing, array_size}
+use Rattle.sq_draft_laws.specs.Homes.Numbering.{local_base, home_of}
+use Rattle.sq_draft_laws.specs.Homes.Chosen.Forms.{bodies_of, choice_in}
+use Rattle.sq_draft_laws.specs.Homes.Drafts.{homes_of, buffers_of, buffer_at}
 use Rattle.sq_draft_laws.specs.Choosing.{MayBeChosen, setting_of}
-use Rattle.sq_draft_laws.specs.Homes.{HasOwn}
+use Rattle.sq_draft_laws.specs.HomesFit.{HasOwn}
 use Rattle.sq_draft_laws.proofs.Forms.{map_range_at}
 use Rattle.sq_draft_laws.proofs.Hoisted.{IsForm, is_form, param_or, param_past}
 use Rattle.sq_draft_laws.proofs.Numbers.{first_of}

@@ -26,8 +26,9 @@ use Rattle.sq_placed.proofs.Pipes.{loops_call, loops_map}
 use Rattle.sq_term.specs.Terms.{body_in, homes_in}
 use Rattle.sq_draft_laws.specs.TermLaws.Fits.{Bounds, AskedOfStatement, HaveCounts, all_parts, Tabled, TabledBody}
 use Rattle.sq_draft_laws.proofs.TermLaws.Chains.{tabled_map}
-use Rattle.sq_pipe.specs.Homes.declared.choice.Choice.{Choice}
-use Rattle.sq_pipe.specs.Homes.Drafts.{bodies_of, homes_of}
+use Rattle.sq_draft_laws.specs.Homes.Chosen.declared.choice.Choice.{Choice}
+use Rattle.sq_draft_laws.specs.Homes.Chosen.Forms.{bodies_of}
+use Rattle.sq_draft_laws.specs.Homes.Drafts.{homes_of}
 use Rattle.sq_draft_laws.specs.Choosing.{Walked, MayBeChosen}
 use Rattle.sq_draft_laws.specs.Given.{level_at}
 use Rattle.sq_draft_laws.specs.Drafts.{limits}

@@ -24,9 +24,10 @@ use Rattle.sq_term.specs.Terms.{buffers_from, body_in, homes_in, term_of, entry_
 use Rattle.sq_term.proofs.Whole.{heads_refl}
 use Rattle.sq_draft_laws.specs.TermLaws.Fits.{Bounds}
 use Rattle.sq_draft_laws.specs.TermLaws.Leaves.{loops_left}
-use Rattle.sq_pipe.specs.Homes.declared.choice.Choice.{Choice}
-use Rattle.sq_pipe.specs.Homes.Numbering.{left_by}
-use Rattle.sq_pipe.specs.Homes.Drafts.{bodies_of, homes_of, entry_of, args_of, choice_in}
+use Rattle.sq_draft_laws.specs.Homes.Chosen.declared.choice.Choice.{Choice}
+use Rattle.sq_draft_laws.specs.Homes.Chosen.Arrays.{left_by}
+use Rattle.sq_draft_laws.specs.Homes.Chosen.Forms.{bodies_of, choice_in}
+use Rattle.sq_draft_laws.specs.Homes.Drafts.{homes_of, entry_of, args_of}
 use Rattle.sq_draft_laws.specs.Given.{level_at}
 use Rattle.sq_draft_laws.specs.Choosing.{Walked, MayBeChosen, setting_of}
 use Rattle.sq_draft_laws.proofs.Hoisting.{no_item, no_homes_at, chosen_stand, none_pipes}

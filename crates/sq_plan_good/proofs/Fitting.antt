@@ -26,9 +26,10 @@ use Rattle.sq_placed.specs.Trees.{local_buffers, callee_node}
 use Rattle.sq_term.specs.Stands.{Each, none, more}
 use Rattle.sq_term.specs.Terms.{body_in, homes_in, row_args}
 use Rattle.sq_term.proofs.Lanes.{up, lane_many, lane_length}
-use Rattle.sq_pipe.specs.Homes.declared.choice.Choice.{Choice}
-use Rattle.sq_pipe.specs.Homes.Drafts.{bodies_of, homes_of, entry_of}
-use Rattle.sq_pipe.specs.Homes.Begun.{Begun, calls_of, child_in}
+use Rattle.sq_draft_laws.specs.Homes.Chosen.declared.choice.Choice.{Choice}
+use Rattle.sq_draft_laws.specs.Homes.Chosen.Forms.{bodies_of}
+use Rattle.sq_draft_laws.specs.Homes.Drafts.{homes_of, entry_of}
+use Rattle.sq_draft_laws.specs.Homes.Begun.{Begun, calls_of, child_in}
 use Rattle.sq_draft_laws.specs.Choosing.{Walked, MayBeChosen}
 use Rattle.sq_draft_laws.specs.Memories.{plan_node}
 use Rattle.sq_plan_good.specs.Listed.{IsListed}

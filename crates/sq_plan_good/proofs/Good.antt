@@ -62,8 +62,9 @@ use Rattle.sq_draft_laws.specs.Laws.{HasPath}
 use Rattle.sq_draft_laws.specs.Opened.{WalkedIsThere}
 use Rattle.sq_draft_laws.specs.Scope.{HomesAreNear}
 use Rattle.sq_store.specs.Laws.{OffsetsAre, OffsetsAreAsMany}
-use Rattle.sq_pipe.specs.Homes.declared.choice.Choice.{Choice}
-use Rattle.sq_pipe.specs.Homes.Drafts.{bodies_of, homes_of, args_of, buffers_of, leaves_of, entry_of, program_term, IsDraftOf}
+use Rattle.sq_draft_laws.specs.Homes.Chosen.declared.choice.Choice.{Choice}
+use Rattle.sq_draft_laws.specs.Homes.Chosen.Forms.{bodies_of}
+use Rattle.sq_draft_laws.specs.Homes.Drafts.{homes_of, args_of, buffers_of, leaves_of, entry_of, program_term, IsDraftOf}
 use Rattle.sq_draft_laws.specs.Given.{level_at}
 use Rattle.sq_work.specs.Work.{Work}
 use Rattle.sq_placed.specs.SameWorks.{IsSameWork}

@@ -53,7 +53,7 @@ use Rattle.sq_draft_laws.specs.TermLaws.Leaves.{Leaves, BodyLeaves, joined_calls
 use Rattle.sq_draft_laws.proofs.TermLaws.Chains.{tabled_call, tabled_map, leaves_call, leaves_map, by_call_map}
 use Rattle.sq_draft_laws.proofs.Standing.{map_length}
 use Rattle.sq_draft_laws.proofs.Hoisting.{at_index}
-use Rattle.sq_pipe.specs.Homes.Begun.{child_in}
+use Rattle.sq_draft_laws.specs.Homes.Begun.{child_in}
 use Rattle.sq_plan_good.specs.Sums.{greatest, here}
 use Rattle.sq_plan_good.specs.Loops.{Starts, Once, StartsPart, any_lower, any_same, starts_in, once, in_lanes, map_starts}
 use Rattle.sq_plan_good.specs.Loops.{doubled, doubled_in, starts_by, starts_of, standing_from, brought_by, both_sets}

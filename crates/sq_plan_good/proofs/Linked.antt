@@ -46,8 +46,8 @@ use Rattle.sq_spec_laws.specs.Needs as needs
 use Rattle.sq_spec_laws.specs.Needs.{Turn, Reached, Reaching, reached_by, total_calls, reached_in, turn_in, reaching_step}
 use Rattle.sq_spec_laws.specs.Needs.{reaching, frame_at}
 use Rattle.sq_spec_laws.proofs.LevelsHold.{reaching_call, reaching_map}
-use Rattle.sq_pipe.specs.Homes.Begun as tables
-use Rattle.sq_pipe.specs.Homes.Begun.{Begun, BegunPart, row_begun}
+use Rattle.sq_draft_laws.specs.Homes.Begun as tables
+use Rattle.sq_draft_laws.specs.Homes.Begun.{Begun, BegunPart, row_begun}
 use Rattle.sq_plan_good.proofs.Terms.{begun_call, begun_map}
 
 -- ---- small things

@@ -7,9 +7,9 @@ use Rattle.sq_form_laws.proofs.AnswerHold.{forms_are_found}
 use Rattle.sq_spec_laws.specs.Needs.{reached_from}
 use Rattle.sq_term.specs.Terms.{body_in}
 use Rattle.sq_term.specs.Stands.{Each}
-use Rattle.sq_pipe.specs.Homes.Drafts.{bodies_of}
+use Rattle.sq_draft_laws.specs.Homes.Chosen.Forms.{bodies_of}
 use Rattle.sq_draft_laws.proofs.Found.{found_plain}
-use Rattle.sq_pipe.specs.Homes.Begun.{calls_of}
+use Rattle.sq_draft_laws.specs.Homes.Begun.{calls_of}
 use Rattle.sq_plan_good.specs.Listed.{IsListed, CallsAreListed}
 use Rattle.sq_plan_good.proofs.Near.{walk, runs_at}
 use Rattle.sq_plan_good.proofs.Listing.{form_listed}

@@ -25,10 +25,10 @@ use Rattle.sq_spec_laws.specs.Needs.{frame_at, variant_for}
 use Rattle.sq_term.specs.Terms.{body_in}
 use Rattle.sq_term.specs.Stands.{Each, below}
 use Rattle.sq_term.specs.Stands as stands
-use Rattle.sq_pipe.specs.Homes.Drafts.{bodies_of}
+use Rattle.sq_draft_laws.specs.Homes.Chosen.Forms.{bodies_of}
 use Rattle.sq_draft_laws.specs.Choosing.{Walked}
 use Rattle.sq_draft_laws.proofs.Programs.{bodies_are_tables}
-use Rattle.sq_pipe.specs.Homes.Begun.{Begun, calls_of}
+use Rattle.sq_draft_laws.specs.Homes.Begun.{Begun, calls_of}
 use Rattle.sq_plan_good.specs.Listed.{IsListed}
 use Rattle.sq_plan_good.proofs.Linked.{One, Ones, instance_in, none, more, list_linked}
 use Rattle.sq_plan_good.proofs.Near.{walk, runs_at, near_calls}

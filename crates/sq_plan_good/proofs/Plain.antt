@@ -28,8 +28,8 @@ use Rattle.sq_placed.specs.Tables.{row_form, locals_of}
 use Rattle.sq_placed.specs.Trees.{local_buffers, callee_node}
 use Rattle.sq_draft_laws.specs.TermLaws.Orders.{EachOf}
 use Rattle.sq_draft_laws.specs.TermLaws.Overlapping.{IsSuited}
-use Rattle.sq_pipe.specs.Homes.Begun as tables
-use Rattle.sq_pipe.specs.Homes.Begun.{Begun, BegunPart, calls_in, row_begun, calls_of, child_in}
+use Rattle.sq_draft_laws.specs.Homes.Begun as tables
+use Rattle.sq_draft_laws.specs.Homes.Begun.{Begun, BegunPart, calls_in, row_begun, calls_of, child_in}
 use Rattle.sq_plan_good.specs.Sums.{greatest, here, either_buffer, params_from, worth, sum_of, entry_sum}
 use Rattle.sq_plan_good.specs.Loops.{Starts, Once, StartsPart, any_lower, any_same, starts_in, once, in_lanes, map_starts}
 use Rattle.sq_plan_good.specs.Loops.{doubled, doubled_in, starts_by, starts_of, standing, standing_from, starts_worth}

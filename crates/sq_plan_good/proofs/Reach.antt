@@ -28,13 +28,14 @@ use Rattle.sq_placed.specs.Tables.{locals_of}
 use Rattle.sq_term.specs.Stands as stands
 use Rattle.sq_term.specs.Stands.{Each, none, more}
 use Rattle.sq_term.specs.Terms.{body_in, homes_in}
-use Rattle.sq_pipe.specs.Homes.declared.choice.Choice.{Choice}
-use Rattle.sq_pipe.specs.Homes.Drafts.{bodies_of, homes_of, entry_of}
+use Rattle.sq_draft_laws.specs.Homes.Chosen.declared.choice.Choice.{Choice}
+use Rattle.sq_draft_laws.specs.Homes.Chosen.Forms.{bodies_of}
+use Rattle.sq_draft_laws.specs.Homes.Drafts.{homes_of, entry_of}
 use Rattle.sq_draft_laws.specs.Choosing.{Walked, setting_of}
 use Rattle.sq_draft_laws.proofs.Forms.{run_of, resolving}
 use Rattle.sq_draft_laws.proofs.Entry as first
 use Rattle.sq_draft_laws.specs.Memories.{plan_node}
-use Rattle.sq_pipe.specs.Homes.Begun.{Begun, calls_of, child_in}
+use Rattle.sq_draft_laws.specs.Homes.Begun.{Begun, calls_of, child_in}
 use Rattle.sq_plan_good.specs.Listed.{IsListed}
 use Rattle.sq_plan_good.specs.Needed.{KeepInPlace}
 use Rattle.sq_plan_good.specs.Sums.{greatest, brought, here, callee_at, worth, sum_of, table_sum}

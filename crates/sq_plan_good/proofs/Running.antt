@@ -22,10 +22,11 @@ use Rattle.sq_placed.specs.declared.home.Homes.{Homes}
 use Rattle.sq_placed.specs.Trees.{callee_node}
 use Rattle.sq_term.specs.Stands as stands
 use Rattle.sq_term.specs.Terms.{homes_in, no_homes}
-use Rattle.sq_pipe.specs.Homes.declared.choice.Choice.{Choice}
-use Rattle.sq_pipe.specs.Homes.Numbering.{form_homes}
-use Rattle.sq_pipe.specs.Homes.Drafts.{homes_of, choice_in, instance_at, instance_by, rule_by}
-use Rattle.sq_pipe.specs.Homes.Begun.{Begun, child_in}
+use Rattle.sq_draft_laws.specs.Homes.Chosen.declared.choice.Choice.{Choice}
+use Rattle.sq_draft_laws.specs.Homes.Numbering.{form_homes}
+use Rattle.sq_draft_laws.specs.Homes.Chosen.Forms.{choice_in, instance_at, instance_by, rule_by}
+use Rattle.sq_draft_laws.specs.Homes.Drafts.{homes_of}
+use Rattle.sq_draft_laws.specs.Homes.Begun.{Begun, child_in}
 use Rattle.sq_draft_laws.specs.Choosing.{Walked, setting_of}
 use Rattle.sq_draft_laws.proofs.Forms.{body_at, body_there, run_of, resolving}
 use Rattle.sq_draft_laws.proofs.Numbers.{first_of, form_is_at}

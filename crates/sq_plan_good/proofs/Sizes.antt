@@ -31,9 +31,11 @@ use Rattle.sq_placed.specs.Tables.{placed_locals, locals_of}
 use Rattle.sq_placed.specs.Trees.{local_buffers}
 use Rattle.sq_term.specs.Terms.{buffer_or, body_in, homes_in}
 use Rattle.sq_draft_laws.specs.PlanLaws.Buffers.{home_buffer}
-use Rattle.sq_pipe.specs.Homes.declared.choice.Choice.{Choice}
-use Rattle.sq_pipe.specs.Homes.Numbering.{left_by, standing, shape_size, home_of, local_base, locals_count}
-use Rattle.sq_pipe.specs.Homes.Drafts.{bodies_of, homes_of, buffers_of, buffer_at, choice_in, entry_of}
+use Rattle.sq_draft_laws.specs.Homes.Chosen.declared.choice.Choice.{Choice}
+use Rattle.sq_draft_laws.specs.Homes.Chosen.Arrays.{left_by, standing, shape_size, locals_count}
+use Rattle.sq_draft_laws.specs.Homes.Numbering.{home_of, local_base}
+use Rattle.sq_draft_laws.specs.Homes.Chosen.Forms.{bodies_of, choice_in}
+use Rattle.sq_draft_laws.specs.Homes.Drafts.{homes_of, buffers_of, buffer_at, entry_of}
 use Rattle.sq_draft_laws.specs.Choosing.{Walked, setting_of}
 use Rattle.sq_draft_laws.proofs.Entry.{entries_have_buffers}
 use Rattle.sq_draft_laws.proofs.Forms.{body_at, body_there, resolving, run_of}

@@ -51,8 +51,8 @@ use Rattle.sq_term.specs.Stands.{Each, none, more, IsNumber}
 use Rattle.sq_term.proofs.Numbers.{const_is, index_is, mul_is, div_is, rem_is, children_is, table_is}
 use Rattle.sq_term.proofs.Numbers.{lifted_is, constant, turn, sum, picked}
 use Rattle.sq_term.proofs.Arms.{IsHead, arm_of_row, pick_of, picks_are}
-use Rattle.sq_pipe.specs.Homes.Begun as begun
-use Rattle.sq_pipe.specs.Homes.Begun.{BegunPart, begun_step, child_in}
+use Rattle.sq_draft_laws.specs.Homes.Begun as begun
+use Rattle.sq_draft_laws.specs.Homes.Begun.{BegunPart, begun_step, child_in}
 use Rattle.sq_plan_good.specs.Sums.{greatest, here}
 use Rattle.sq_plan_good.specs.Loops.{StartsPart, starts_step, starts_by}
 

@@ -11,9 +11,10 @@ use Rattle.sq_placed.specs.Tables.{locals_of}
 use Rattle.sq_placed.specs.Trees.{local_buffers}
 use Rattle.sq_term.specs.Stands as stands
 use Rattle.sq_term.specs.Terms.{body_in, homes_in}
-use Rattle.sq_pipe.specs.Homes.declared.choice.Choice.{Choice}
-use Rattle.sq_pipe.specs.Homes.Drafts.{bodies_of, homes_of, entry_of}
-use Rattle.sq_pipe.specs.Homes.Begun.{Begun, calls_of}
+use Rattle.sq_draft_laws.specs.Homes.Chosen.declared.choice.Choice.{Choice}
+use Rattle.sq_draft_laws.specs.Homes.Chosen.Forms.{bodies_of}
+use Rattle.sq_draft_laws.specs.Homes.Drafts.{homes_of, entry_of}
+use Rattle.sq_draft_laws.specs.Homes.Begun.{Begun, calls_of}
 use Rattle.sq_draft_laws.specs.Choosing.{Walked, MayBeChosen}
 use Rattle.sq_draft_laws.proofs.Hoisting.{at_index, bodies_many}
 use Rattle.sq_draft_laws.proofs.Entry as first

@@ -23,8 +23,8 @@ use Rattle.sq_placed.specs.Pipes.{CallLoop, AreHeads, no_heads, more_heads, IsPi
 use Rattle.sq_placed.specs.Pipes.{CallLoops, call_loops_of, loop_round}
 use Rattle.sq_placed.proofs.Pipes.{map_loops, loops_left, loops_right, loops_call}
 use Rattle.sq_term.specs.Terms.{row_args}
-use Rattle.sq_pipe.specs.Homes.Begun as tables
-use Rattle.sq_pipe.specs.Homes.Begun.{Begun, BegunPart, calls_in, row_begun, calls_of}
+use Rattle.sq_draft_laws.specs.Homes.Begun as tables
+use Rattle.sq_draft_laws.specs.Homes.Begun.{Begun, BegunPart, calls_in, row_begun, calls_of}
 use Rattle.sq_plan_good.specs.Loops.{BegunLoop, Starts, Once, Lanes, StartsPart, any_lower, any_same, starts_in, once}
 use Rattle.sq_plan_good.specs.Loops.{in_lanes, map_starts, doubled, doubled_in, starts_by, starts_of}
 use Rattle.sq_plan_good.proofs.Terms.{begun_call, begun_map, starts_call, starts_map}

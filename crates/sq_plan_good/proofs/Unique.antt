@@ -27,7 +27,7 @@ use Rattle.sq_spec.specs.Statements.{elems_of}
 use Rattle.sq_spec.proofs.Rows.{get_front}
 use Rattle.sq_spec_laws.specs.Needs.{Reached, frame_at}
 use Rattle.sq_draft_laws.specs.Choosing.{Walked}
-use Rattle.sq_pipe.specs.Homes.Begun.{Begun}
+use Rattle.sq_draft_laws.specs.Homes.Begun.{Begun}
 use Rattle.sq_plan_good.proofs.Linked.{One, Ones, none as none_left, more as one_left, instance_in, list_linked}
 use Rattle.sq_plan_good.proofs.Near.{walk, near_calls}
 

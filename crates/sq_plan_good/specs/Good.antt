@@ -34,8 +34,9 @@ use Rattle.sq_nests.specs.Drafts.{whole, size_in, IsPlaceable, KeepsRoom}
 use Rattle.sq_draft_laws.specs.TermLaws.Callers.{before}
 use Rattle.sq_store.specs.Named.{EachNamed}
 use Rattle.sq_store.specs.Place.{IsPlaced}
-use Rattle.sq_pipe.specs.Homes.declared.choice.Choice.{Choice}
-use Rattle.sq_pipe.specs.Homes.Drafts.{bodies_of, homes_of, args_of, IsDraftOf}
+use Rattle.sq_draft_laws.specs.Homes.Chosen.declared.choice.Choice.{Choice}
+use Rattle.sq_draft_laws.specs.Homes.Chosen.Forms.{bodies_of}
+use Rattle.sq_draft_laws.specs.Homes.Drafts.{homes_of, args_of, IsDraftOf}
 use Rattle.sq_draft_laws.specs.Given.{level_at}
 use Rattle.sq_draft_laws.specs.Choosing.{MayBeChosen, AreMemories}
 use Rattle.sq_draft_laws.specs.Numbers.{HaveNumbers}

@@ -8,6 +8,6 @@ pub mod Parts
 pub mod Planned
 -- Definitions of crates below, passed on.
 pub use Rattle.sq_draft_laws.specs as DraftLaws
-pub use Rattle.sq_pipe.specs.Homes
+pub use Rattle.sq_draft_laws.specs.Homes
 pub use Rattle.sq_draft_laws.specs.ProgramLaws
 pub use Rattle.sq_term.specs as Term

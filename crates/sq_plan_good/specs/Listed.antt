@@ -5,9 +5,9 @@ use Rattle.sq_spec.specs.declared.resolved.Resolved.{Resolved}
 use Rattle.sq_spec_laws.specs.Needs.{Reached, reached_from}
 use Rattle.sq_term.specs.Stands.{Each, below}
 use Rattle.sq_term.specs.Terms.{body_in}
-use Rattle.sq_pipe.specs.Homes.Drafts.{bodies_of}
+use Rattle.sq_draft_laws.specs.Homes.Chosen.Forms.{bodies_of}
 use Rattle.sq_draft_laws.specs.Choosing.{Walked}
-use Rattle.sq_pipe.specs.Homes.Begun.{Begun, calls_of}
+use Rattle.sq_draft_laws.specs.Homes.Begun.{Begun, calls_of}
 
 -- The row of a call names the form that it reaches from the k-th one, and no other form is reached so.
 pub record IsListed (forms : List Form) (k : ℕ) (from : Form) (r : Reached) (d : Begun) : Type 0 where

@@ -30,10 +30,11 @@ use Rattle.sq_placed.specs.declared.home.Homes.{Homes}
 use Rattle.sq_placed.specs.Tables.{locals_of, row_form}
 use Rattle.sq_placed.specs.Trees.{local_buffers, callee_node}
 use Rattle.sq_term.specs.Terms.{body_in, homes_in, set_buffers_from, row_args}
-use Rattle.sq_pipe.specs.Homes.declared.choice.Choice.{Choice}
-use Rattle.sq_pipe.specs.Homes.Drafts.{IsDraftOf, bodies_of, homes_of, entry_of}
+use Rattle.sq_draft_laws.specs.Homes.Chosen.declared.choice.Choice.{Choice}
+use Rattle.sq_draft_laws.specs.Homes.Chosen.Forms.{bodies_of}
+use Rattle.sq_draft_laws.specs.Homes.Drafts.{IsDraftOf, homes_of, entry_of}
 use Rattle.sq_draft_laws.specs.Choosing.{Walked, MayBeChosen, setting_of}
-use Rattle.sq_pipe.specs.Homes.Begun.{Begun, child_in}
+use Rattle.sq_draft_laws.specs.Homes.Begun.{Begun, child_in}
 use Rattle.sq_plan_good.specs.Sums.{greatest, here}
 
 -- ---- what tables begin

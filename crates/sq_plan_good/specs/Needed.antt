@@ -6,8 +6,9 @@ use Rattle.sq_ir.specs.declared.plan.Draft.{Draft}
 use Rattle.sq_spec.specs.declared.resolved.Resolved.{Resolved}
 use Rattle.sq_spec_laws.specs.Needs.{Needs}
 use Rattle.sq_nests.specs.Drafts.{nested_sum}
-use Rattle.sq_pipe.specs.Homes.declared.choice.Choice.{Choice}
-use Rattle.sq_pipe.specs.Homes.Drafts.{IsDraftOf, choice_in}
+use Rattle.sq_draft_laws.specs.Homes.Chosen.declared.choice.Choice.{Choice}
+use Rattle.sq_draft_laws.specs.Homes.Chosen.Forms.{choice_in}
+use Rattle.sq_draft_laws.specs.Homes.Drafts.{IsDraftOf}
 use Rattle.sq_draft_laws.specs.Choosing.{Walked, MayBeChosen, NoneOverlaps}
 use Rattle.sq_draft_laws.specs.Memories.{plan_node}
 

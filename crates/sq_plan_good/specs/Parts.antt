@@ -15,7 +15,7 @@ use Rattle.sq_draft_laws.specs.Given.{HomesAreLeveled}
 use Rattle.sq_placed.specs.SameWorks.{SameWorksMean, SameWorksRace}
 use Rattle.sq_draft_laws.specs.Choosing.{ChosenStand}
 use Rattle.sq_draft_laws.specs.Programs.{BodiesAreTables, PlacedIsProgram, TermIsEntrys}
-use Rattle.sq_draft_laws.specs.Homes.{HomesFitForms, EntriesAreWhole}
+use Rattle.sq_draft_laws.specs.HomesFit.{HomesFitForms, EntriesAreWhole}
 use Rattle.sq_draft_laws.specs.Levels.{DraftsBeginAtRoot}
 use Rattle.sq_draft_laws.specs.Drafts.{DraftsAreTabled, DraftsAreRoomy}
 use Rattle.sq_draft_laws.specs.Owned.{DraftsOwn}

@@ -4,7 +4,7 @@ use Rattle.sq_ir.specs.declared.plan.Plan.{Plan}
 use Rattle.sq_ir.specs.declared.plan.PlanNode.{PlanNode}
 use Rattle.sq_spec.specs.declared.resolved.Resolved.{Resolved}
 use Rattle.sq_store.specs.Place.{IsPlaced}
-use Rattle.sq_pipe.specs.Homes.Drafts.{IsDraftOf}
+use Rattle.sq_draft_laws.specs.Homes.Drafts.{IsDraftOf}
 use Rattle.sq_draft_laws.specs.Choosing.{MayBeChosen}
 use Rattle.sq_pipe.specs.Greedy.{overlapped}
 use Rattle.sq_pipe.specs.Notes.{notes_of}

@@ -1,6 +1,6 @@
 use Rattle.std.proofs.Common.{rules, ◌≡◌, sym, ◌∙◌, nat_eq, true, false}
 use Rattle.indexmap.specs.IndexMap.{get}
-use Rattle.sq_hoist.proofs.Chosen.{is_in, table_stays, table_grows}
+use Rattle.sq_hoist.proofs.Entered.{is_in, table_stays, table_grows}
 use Rattle.sq_hoist.proofs.choices.enter.Goals as goal
 
 pub returns-then-is_some : goal.returns-then-is_some

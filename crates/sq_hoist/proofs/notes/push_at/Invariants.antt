@@ -1,5 +1,5 @@
 use Rattle.std.proofs.Common.{◌≡◌, ◌++◌, drop}
-use Rattle.sq_homes.specs.Drafts.{instance_at, name_by}
+use Rattle.sq_chosen.specs.Forms.{instance_at, name_by}
 use Rattle.sq_hoist.specs.Notes.{notes_at, param_at}
 use Rattle.sq_hoist.proofs.notes.push_at.Given as goal
 

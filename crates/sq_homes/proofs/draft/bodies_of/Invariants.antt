@@ -1,7 +1,7 @@
 use Rattle.std.proofs.Common.{◌≡◌, ◌++◌, map, length, drop}
 use Rattle.std.specs.List.{range_with_len}
-use Rattle.sq_spec_laws.specs.Spec.Bodies.{body_of}
-use Rattle.sq_homes.specs.Drafts.{bodies_of}
+use Rattle.sq_chosen.specs.SpecLaws.Spec.Bodies.{body_of}
+use Rattle.sq_chosen.specs.Forms.{bodies_of}
 use Rattle.sq_homes.proofs.draft.bodies_of.Given as goal
 
 abbrev pub invariant-loop-form : goal.invariant-loop-form

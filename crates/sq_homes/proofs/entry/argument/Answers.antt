@@ -1,7 +1,7 @@
 use Rattle.std.proofs.Common.{rules, ◌≡◌, sym, ap₂, false, ℕ, List, Some}
 use Rattle.sq_text.specs.declared.place.Span.{Span}
 use Rattle.sq_ir.specs.Blocks.Spans.{wholes}
-use Rattle.sq_spec_laws.specs.Spec.Works.{whole}
+use Rattle.sq_chosen.specs.SpecLaws.Spec.Works.{whole}
 use Rattle.sq_homes.proofs.Wholes.{whole_is}
 use Rattle.sq_homes.proofs.entry.argument.Goals as goal
 

@@ -1,5 +1,5 @@
 use Rattle.std.proofs.Common.{◌≡◌, ◌++◌, drop}
-use Rattle.sq_spec_laws.specs.Spec.Works.{entry_arguments}
+use Rattle.sq_chosen.specs.SpecLaws.Spec.Works.{entry_arguments}
 use Rattle.sq_homes.proofs.entry.arguments.Given as goal
 
 abbrev pub invariant-loop-i : goal.invariant-loop-i

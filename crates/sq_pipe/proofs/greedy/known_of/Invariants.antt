@@ -2,7 +2,7 @@ use Rattle.std.proofs.Common.{◌≡◌, ◌++◌, List, map, length, drop}
 use Rattle.std.specs.List.{range_with_len}
 use Rattle.sq_spec.specs.declared.body.FormBody.{FormBody}
 use Rattle.sq_spec.specs.Bodies.{body_of}
-use Rattle.sq_hoist.specs.Homes.Drafts.{bodies_of}
+use Rattle.sq_hoist.specs.Chosen.Forms.{bodies_of}
 use Rattle.sq_pipe.specs.Greedy as spec
 use Rattle.sq_pipe.proofs.greedy.known_of.Given as goal
 

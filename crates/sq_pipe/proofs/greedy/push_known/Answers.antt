@@ -1,5 +1,5 @@
 use Rattle.std.proofs.Common.{◌≡◌, ◌++◌, ◌∙◌, ap}
-use Rattle.sq_hoist.specs.Homes.Drafts.{choice_in}
+use Rattle.sq_hoist.specs.Chosen.Forms.{choice_in}
 use Rattle.sq_pipe.specs.Greedy.{candidates_in}
 use Rattle.sq_pipe.proofs.greedy.push_known.Goals as goal
 

@@ -1,7 +1,7 @@
 use Rattle.std.proofs.Common.{◌≡◌, ◌++◌, OnOk, List, ℕ, sym, ap, ◌∙◌, subst, rules}
 use Rattle.sq_spec.specs.declared.statement.Statement.{Statement}
 use Rattle.sq_pipe.specs.declared.candidate.Candidate.{Candidate}
-use Rattle.sq_hoist.specs.Homes.Drafts.{choice_in}
+use Rattle.sq_hoist.specs.Chosen.Forms.{choice_in}
 use Rattle.sq_pipe.specs.Candidates.{seen}
 use Rattle.sq_pipe.proofs.CallsOpened.{loops_map}
 use Rattle.sq_pipe.proofs.loops.+walk.Goals as goal

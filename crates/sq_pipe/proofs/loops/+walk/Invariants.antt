@@ -1,7 +1,7 @@
 use Rattle.std.proofs.Common.{◌≡◌, ◌+◌, ◌*◌, ◌++◌, drop, map}
 use denote.Param.Weighed.{most}
 use Rattle.sq_spec.proofs.statement.Statement.TheLaws.{the_size}
-use Rattle.sq_hoist.specs.Homes.Drafts.{choice_in}
+use Rattle.sq_hoist.specs.Chosen.Forms.{choice_in}
 use Rattle.sq_pipe.specs.Candidates as spec
 use Rattle.sq_pipe.proofs.loops.+walk.Given as goal
 

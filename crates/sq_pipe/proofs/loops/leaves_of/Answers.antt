@@ -1,5 +1,5 @@
 use Rattle.std.proofs.Common.{sym, ap, ◌∙◌, rules}
-use Rattle.sq_hoist.specs.Homes.declared.choice.Choice.{Choice}
+use Rattle.sq_hoist.specs.Chosen.declared.choice.Choice.{Choice}
 use Rattle.sq_pipe.proofs.Chosen.{none_chosen, one_chosen}
 use Rattle.sq_pipe.proofs.loops.leaves_of.Goals as goal
 

@@ -1,6 +1,6 @@
 use Rattle.std.proofs.Common.{◌≡◌, ◌+◌, drop, length}
 use Rattle.std.specs.List.{filter, range_with_len}
-use Rattle.sq_hoist.specs.Homes.Numbering.{is_moved, others}
+use Rattle.sq_hoist.specs.Chosen.Arrays.{is_moved, others}
 use Rattle.sq_pipe.specs.Greedy.{sizes_of}
 use Rattle.sq_pipe.proofs.sizes.moved_bytes.Given as goal
 

@@ -1,6 +1,0 @@
-use Rattle.std.proofs.Common.{◌≡◌, ◌++◌, map, drop}
-use Rattle.sq_lower.specs.Choices.{in_buffer}
-use Rattle.sq_lower.proofs.lowering.no_flags.Given as goal
-
-abbrev pub invariant-loop-flag : goal.invariant-loop-flag
-invariant-loop-flag l = l.out ++ map in_buffer (drop l.flag-index l.flags) ≡ map in_buffer l.flags
