@@ -1,14 +1,1 @@
 pub mod Turns
-pub mod Meeting
-pub mod Putting
-pub mod Spotting
-pub mod Linking
-pub mod Loading
-pub mod Blocking
-pub mod Planning
-pub mod Performing
-pub mod Choosing
-pub mod Carrying
-pub mod Reaching
-pub mod Forwarding
-pub mod Paths

@@ -1,14 +1,14 @@
 //! A run of a leaf.
 
-ghost use Rattle.std.specs.Prelude.{◌≡◌, map, length};
+ghost use Rattle.std.specs.Prelude.{map, length};
 ghost use Rattle.sq_leaf.specs.Leaf.{IsMeant, leaf_value, written_of};
 ghost use Rattle.sq_leaf.specs.Source.{Arrays};
 ghost use Rattle.sq_leaf.specs.Views.{CanRun, Keeps, Shows, shape_of};
 
 use crate::act::act_all;
-use crate::frame::Frame;
 use sq_leaf::{LeafCode, Trap};
 use sq_rect::Views;
+use sq_turns::Frame;
 
 /// Runs the leaf over the bytes of one memory. It keeps its loop counters by itself.
 // What it keeps isn't to lie in the frames of callers that recurse.

@@ -1,30 +1,12 @@
-//! Runs of leaf code over the bytes of one memory.
+//! Runs of leaf code over the bytes of one memory: values (`run`), statements (`act`), and the call (`leaf`).
+//!
+//! Loops (`loops`) run turn after turn, and by blocks of turns where sq_turns knows what these do.
 #![tactic(auto)]
 
 mod act;
-mod block;
-mod blocks;
-mod carry;
-mod chain;
-mod choose;
-mod deeds;
-mod forward;
-mod frame;
-mod history;
 mod leaf;
-mod lines;
-mod outlook;
-mod pairs;
-mod perform;
-mod plan;
-mod puts;
-mod reach;
+mod loops;
 mod run;
-mod setting;
 mod spot;
-mod tested;
-mod turn;
-mod values;
-mod works;
 
 pub use leaf::run_leaf;

@@ -1,12 +1,12 @@
 //! Elements of arrays as places in a memory.
 
-ghost use Rattle.std.specs.Prelude.{◌≡◌, ◌+◌, ◌-◌, ◌*◌, ◌^◌, ◌<◌, ◌≤◌, [], ◌∷◌, length, IfSome, IfOk, Option, ℕ};
+ghost use Rattle.std.specs.Prelude.{◌≡◌, ◌+◌, ◌-◌, ◌*◌, ◌^◌, ◌<◌, ◌≤◌, [], ◌∷◌, IfSome, IfOk, Option, ℕ};
 ghost use Rattle.sq_num.specs.Elements.{width};
 ghost use Rattle.sq_leaf.specs.Places as spec;
 ghost use Rattle.sq_leaf.specs.Spots as running;
 
 use sq_leaf::{Trap, TrapKind};
-use sq_num::{Elem, load_elem, store_elem, width};
+use sq_num::width;
 use sq_rect::View;
 use sq_text::Place;
 
@@ -135,22 +135,4 @@ pub(crate) fn first_byte(
             place,
         }),
     }
-}
-
-/// The number that is stored at a spot.
-#[inline(always)]
-pub(crate) fn load(elem: Elem, at: usize, bytes: &[u8]) -> i64
-    requires { at + width elem ≤ length bytes.now }
-    ensures { result ≡ running.load (record { elem = elem; at = at }) bytes.now }
-{
-    load_elem(elem, &bytes[at..at + width(elem)])
-}
-
-/// Stores a number, cut to the type.
-#[inline(always)]
-pub(crate) fn store(elem: Elem, at: usize, value: i64, bytes: &mut [u8])
-    requires { at + width elem ≤ length bytes.old }
-    ensures { bytes.new ≡ running.store (record { elem = elem; at = at }) value bytes.old }
-{
-    store_elem(elem, value, &mut bytes[at..at + width(elem)]);
 }

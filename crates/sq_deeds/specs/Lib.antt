@@ -1,0 +1,4 @@
+pub mod Puts
+pub mod Deeds
+pub mod Loops
+pub mod Reaches

@@ -1,5 +1,0 @@
-use Rattle.std.proofs.Common.{length}
-use Rattle.sq_leaf_run.proofs.block.+is_clear_of_each.Given as goal
-
-abbrev pub decreases-is_clear_of_each : goal.decreases-is_clear_of_each
-decreases-is_clear_of_each l = length l.writes.now

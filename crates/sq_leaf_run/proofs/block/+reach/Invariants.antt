@@ -1,5 +1,0 @@
-use Rattle.std.proofs.Common.{length}
-use Rattle.sq_leaf_run.proofs.block.+reach.Given as goal
-
-abbrev pub decreases-reach : goal.decreases-reach
-decreases-reach l = length l.extents.now

@@ -1,5 +1,0 @@
-use Rattle.std.proofs.Common.{length}
-use Rattle.sq_leaf_run.proofs.forward.+are_links_first.Given as goal
-
-abbrev pub decreases-are_links_first : goal.decreases-are_links_first
-decreases-are_links_first l = length l.links.now

@@ -1,0 +1,4 @@
+pub mod Blocks
+pub mod Settings
+pub mod Values
+pub mod Plans
