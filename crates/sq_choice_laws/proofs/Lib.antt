@@ -21,3 +21,5 @@ pub mod NotedAll
 pub mod AmongForms
 pub mod NotedPrograms
 pub mod Listed
+pub mod TablesKeep
+pub mod ReadRising

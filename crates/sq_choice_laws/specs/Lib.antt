@@ -1,3 +1,4 @@
 pub mod Leaving
 pub mod Overlapping
 pub mod Noted
+pub mod ReadNotes
