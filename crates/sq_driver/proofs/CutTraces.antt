@@ -2,10 +2,13 @@
 use Rattle.std.proofs.Common.{◌≡◌, ℕ, zero, suc, List, [], ◌∷◌, ◌++◌, take, drop, refl, sym, ap, ◌∙◌, append_assoc, append-nil}
 use Rattle.sq_leaf.specs.declared.trap.Trap.{Trap}
 use Rattle.sq_ir.specs.Scopes.{Scope}
-use Rattle.sq_ir.specs.Events.{Event, Spot}
+use Rattle.sq_ir.specs.Events.{Event, Spot, meaning, footprint}
 use Rattle.sq_ir.specs.declared.plan.Plan.{Plan}
+use Rattle.sq_tree.specs.Bank.{leaves_in}
+use Rattle.sq_tree.specs.Runs.{start_of, state_of}
 use Rattle.sq_tree.specs.UnderOrders.{RunsUnderGoOn}
 use Rattle.sq_tree.specs.Trace.{event_line, trace_text}
+use Rattle.sq_orders.specs.Chosen.{chosen_answer, chosen_next}
 use Rattle.sq_driver.specs.Banks.{IsCutTrace}
 use Rattle.sq_driver.specs.CutTraces.{CutTracesBegin}
 
@@ -38,7 +41,9 @@ begins p events later got cut =
 pub cut_traces_begin : RunsUnderGoOn Event Scope Spot Trap → CutTracesBegin
 cut_traces_begin law command told got old now cut =
     let under = cut.run.ran.under cut.run.held refl in
-    let on = law _ _ _ _ cut.run.held under.0 _ _ cut.run.ran.picks cut.run.ran.events under.2 in
+    let p = cut.run.file.plan in
+    let on = law chosen_answer chosen_next (meaning (leaves_in p)) (footprint (leaves_in p)) cut.run.held under.0
+    (start_of p cut.run.start) (state_of now cut.run.rest) cut.run.ran.picks cut.run.ran.events under.2 in
     record {
       later = on.later;
       picks = cut.run.ran.picks ++ on.more;
