@@ -1,6 +1,6 @@
 -- A form that is a leaf has its code under a number of its own.
-use Rattle.std.proofs.Common.{◌≡◌, ℕ, zero, suc, ◌+◌, ◌<◌, ◌⊎◌, inl, inr, List, [], ◌∷◌, ◌++◌, slice_get, Some, length, ◌∙◌, ap}
-use Rattle.std.proofs.Common.{arith}
+use Rattle.std.proofs.Common.{◌≡◌, ℕ, zero, suc, ◌+◌, ◌<◌, ◌⊎◌, inl, inr, List, [], ◌∷◌, ◌++◌, slice_get, Some}
+use Rattle.std.proofs.Common.{length, ◌∙◌, ap, arith}
 use Rattle.std.proofs.lemmas.Bool.{cases_order}
 use Rattle.sq_text.specs.Names.{Bytes}
 use Rattle.sq_spec.specs.declared.body.Body.{Body}
@@ -26,8 +26,9 @@ leaves_before (b ∷ bs) (suc i) = codes_in b.body + leaves_before bs i
 abbrev pub IsLeafAt : List FormBody → ℕ → LeafSource → Type 0
 IsLeafAt bs i code = (body_in bs i).body ≡ body.Leaf code
 
-pub number_is : (r : Resolved) (choices : List Choice) (k base first : ℕ) (bs : List FormBody) (i : ℕ) (code : LeafSource)
-    → IsLeafAt bs i code → (homes_in (homes_from r choices k base first bs) i).code ≡ first + leaves_before bs i
+pub number_is : (r : Resolved) (choices : List Choice) (k base first : ℕ) (bs : List FormBody) (i : ℕ)
+    (code : LeafSource) → IsLeafAt bs i code
+    → (homes_in (homes_from r choices k base first bs) i).code ≡ first + leaves_before bs i
 number_is r choices k base first [] i code h = absurd (cc h)
 number_is r choices k base first (b ∷ bs) zero code h = omega arith
 number_is r choices k base first (b ∷ bs) (suc i) code h =
