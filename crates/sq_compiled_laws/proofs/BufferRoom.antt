@@ -84,7 +84,7 @@ seen s b = record {
 }
 
 -- what weighs anything has it
-weighs : (b : ℕ) (bs : List ℕ) → 1 ≤ total (one b) bs → Contains bs b
+pub weighs : (b : ℕ) (bs : List ℕ) → 1 ≤ total (one b) bs → Contains bs b
 weighs b [] h = absurd (omega (arith, h))
 weighs b (c ∷ bs) h = by (c == b) refl h (weighs b bs)
   where
@@ -129,7 +129,7 @@ module _ (s : Setting) (b : ℕ) where
       ap (λ k. Open (record { node = node_of (at_child s env (nat_abs k)); buffers = buffers })
       (body (at_child s env (nat_abs k)))) (seen_value c env))
 
-  seen_scopes : (x : Term) (env : Env) → scopes_of s x env ≡ scopes_of u x env
+  pub seen_scopes : (x : Term) (env : Env) → scopes_of s x env ≡ scopes_of u x env
   seen_scopes x env = ap (λ (f : Term-F ScopesAt → ScopesAt). fold-Term ScopesAt f x env) (fun_ext seen_step)
 
 -- ---- a placed draft

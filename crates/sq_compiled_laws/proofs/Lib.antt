@@ -34,3 +34,5 @@ pub mod BufferLines
 pub mod ReadableTerms
 pub mod Files
 pub mod Refiled
+pub mod Scoped
+pub mod NamedBuffers

@@ -1,5 +1,6 @@
-//! What holds of the plan files that programs are compiled to.
+//! What holds of the plan files that programs are compiled to, and of the buffers of their drafts.
 
+ghost use Rattle.sq_compiled_laws.specs.Buffers.{BuffersAreNamed, BuffersAreOpened};
 ghost use Rattle.sq_compiled_laws.specs.Compiled.{CompiledLeavesAreSound, CompiledAreInOrder};
 ghost use Rattle.sq_compiled_laws.specs.Compiled.{CompiledHaveSoundHeads, CompiledAreReadable};
 ghost use Rattle.sq_compiled_laws.specs.Refiled.{CompiledAreRefiled};
@@ -25,3 +26,10 @@ pub fn compiled_files_are_read_again()
     compiled_files_are_sound();
     good_plans_are_filed();
 }
+
+/// Each buffer of a program's draft is the entry's or named by a scope of the term, and such a scope is opened at a node
+/// of the machine.
+pub fn buffers_are_named()
+    ensures named { BuffersAreNamed }
+    ensures opened { BuffersAreOpened }
+{}
